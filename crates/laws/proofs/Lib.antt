@@ -1,0 +1,8 @@
+pub mod Choice
+pub mod Search
+pub mod Any
+pub mod Sums
+pub mod Bits
+pub mod Part
+pub mod Grid
+pub mod Stores

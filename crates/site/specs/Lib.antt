@@ -1,0 +1,4 @@
+pub mod Record
+pub mod Reach
+pub mod Edit
+pub mod Given

@@ -1,0 +1,10 @@
+pub mod Row
+pub mod Union
+pub mod Run
+pub mod Full
+pub mod Exact
+pub mod Figure
+pub mod LoadLaws
+pub mod ChainLaws
+pub mod TableLaws
+pub mod Loops
