@@ -1,0 +1,452 @@
+/* Document 01 in plain C, as a yardstick for the speed of the proved library: fast, but nothing out of the ordinary.
+ * Compile with -DPREFIX=name_ ; every call of include/duggfrask.h is then there under that prefix. Inside, cells are
+ * counted from 0; in answers they are numbered from 1. */
+#include <stdbool.h>
+#include <string.h>
+#include "plain.h"
+
+#ifndef PREFIX
+#define PREFIX plain_
+#endif
+#define EXPAND(M, x) M(x)
+#define JOIN(a, b) a##b
+#define EXPAND_JOIN(a, b) JOIN(a, b)
+#define NAME(call) EXPAND_JOIN(PREFIX, call)
+EXPAND(CALLS, PREFIX)
+
+enum { CELLS = 32, SLOTS = 128, CHANNELS = 16, POSITIONS = SLOTS * CHANNELS };
+
+static dugg_answer answer(uint64_t number, uint64_t a, uint64_t b, uint64_t c)
+{
+    return (dugg_answer){number, {a, b, c}};
+}
+
+static size_t positions_of(const dugg_site *s)
+{
+    return (size_t)s->slots * s->channels;
+}
+
+/* The bits of the first n cells. */
+static uint32_t first_cells(unsigned n)
+{
+    return n >= 32 ? 0xffffffffu : (1u << n) - 1;
+}
+
+/* ---- the site ---- */
+
+static bool sizes_fine(unsigned cells, unsigned slots, unsigned channels)
+{
+    return cells - 1 < CELLS && slots - 1 < SLOTS && channels - 1 < CHANNELS;
+}
+
+static dugg_answer fault(const dugg_site *s)
+{
+    if (!sizes_fine(s->cells, s->slots, s->channels))
+        return answer(1, 0, 0, 0);
+    for (unsigned i = s->cells; i < CELLS; i++)
+        if (s->loads[i] != 0)
+            return answer(2, i + 1, 0, 0);
+    uint32_t used = first_cells(s->cells);
+    for (unsigned i = 0; i < CELLS; i++) {
+        uint32_t allowed = i < s->cells ? used & ~(1u << i) : 0;
+        if (s->reach[i] & ~allowed)
+            return answer(3, i + 1, 0, 0);
+    }
+    return answer(0, 0, 0, 0);
+}
+
+/* For each cell, the cells that it clashes with: either reaches the other. */
+static void clash_masks(const dugg_site *s, uint32_t mask[CELLS])
+{
+    memcpy(mask, s->reach, sizeof s->reach);
+    for (unsigned i = 0; i < s->cells; i++)
+        for (uint32_t row = s->reach[i]; row != 0; row &= row - 1)
+            mask[__builtin_ctz(row)] |= 1u << i;
+}
+
+dugg_answer NAME(fault)(dugg_site site)
+{
+    return fault(&site);
+}
+
+dugg_answer NAME(clash)(dugg_site site, uint16_t a, uint16_t b)
+{
+    dugg_answer f = fault(&site);
+    if (f.number != 0)
+        return f;
+    if (a < 1 || a > site.cells || b < 1 || b > site.cells || a == b)
+        return answer(0, 0, 0, 0);
+    return answer(0, (site.reach[a - 1] >> (b - 1) | site.reach[b - 1] >> (a - 1)) & 1, 0, 0);
+}
+
+dugg_edited NAME(set_load)(dugg_site site, uint16_t cell, uint16_t load)
+{
+    dugg_answer f = fault(&site);
+    if (f.number == 0) {
+        if (cell < 1 || cell > site.cells)
+            f = answer(2, cell, 0, 0);
+        else
+            site.loads[cell - 1] = load;
+    }
+    return (dugg_edited){site, f};
+}
+
+/* May an edit name this pair? If not, refusal 3 with its "from". */
+static dugg_answer pair_fault(const dugg_site *s, unsigned from, unsigned to)
+{
+    dugg_answer f = fault(s);
+    if (f.number == 0 && (from < 1 || from > s->cells || to < 1 || to > s->cells || from == to))
+        f = answer(3, from, 0, 0);
+    return f;
+}
+
+dugg_edited NAME(set_reach)(dugg_site site, uint16_t from, uint16_t to)
+{
+    dugg_answer f = pair_fault(&site, from, to);
+    if (f.number == 0)
+        site.reach[from - 1] |= 1u << (to - 1);
+    return (dugg_edited){site, f};
+}
+
+dugg_edited NAME(clear_reach)(dugg_site site, uint16_t from, uint16_t to)
+{
+    dugg_answer f = pair_fault(&site, from, to);
+    if (f.number == 0)
+        site.reach[from - 1] &= ~(1u << (to - 1));
+    return (dugg_edited){site, f};
+}
+
+/* ---- load test and chain ---- */
+
+dugg_answer NAME(load_test)(dugg_site site)
+{
+    dugg_answer f = fault(&site);
+    if (f.number != 0)
+        return f;
+    uint32_t mask[CELLS];
+    clash_masks(&site, mask);
+    uint32_t room = positions_of(&site);
+    for (unsigned i = 0; i < site.cells; i++) {
+        uint32_t sum = site.loads[i];
+        for (uint32_t lower = mask[i] & first_cells(i); lower != 0; lower &= lower - 1)
+            sum += site.loads[__builtin_ctz(lower)];
+        if (sum > room)
+            return answer(0, i + 1, sum - room, 0);
+    }
+    return answer(0, 0, 0, 0);
+}
+
+dugg_answer NAME(chain)(dugg_site site)
+{
+    dugg_answer f = fault(&site);
+    if (f.number != 0)
+        return f;
+    uint32_t mask[CELLS];
+    clash_masks(&site, mask);
+    for (unsigned a = 0; a < site.cells; a++) {
+        /* The lowest later cell that does not clash with a, and the lowest clashing cell after that. */
+        uint32_t after = ~first_cells(a + 1), gaps = ~mask[a] & after;
+        if (gaps == 0)
+            continue;
+        unsigned b = __builtin_ctz(gaps);
+        uint32_t beyond = mask[a] & ~first_cells(b + 1);
+        if (beyond != 0)
+            return answer(0, a + 1, b + 1, __builtin_ctz(beyond) + 1);
+    }
+    return answer(0, 0, 0, 0);
+}
+
+/* ---- planner and checker ---- */
+
+/* Marks a position forbidden wherever the other row has a reservation. */
+static void forbid(uint8_t *restrict row, const uint8_t *restrict other, size_t n)
+{
+    for (size_t p = 0; p < n; p++)
+        row[p] = other[p] == 1 ? 2 : row[p];
+}
+
+/* Reserves idle positions, slot by slot and channel by channel, until the load is met; gives what is left of it. */
+static unsigned fill(uint8_t *row, unsigned slots, unsigned channels, unsigned load)
+{
+    for (unsigned t = 0; t < slots; t++)
+        for (unsigned f = 0; f < channels; f++) {
+            if (load == 0)
+                return 0;
+            uint8_t *at = &row[t * channels + f];
+            if (*at == 0) {
+                *at = 1;
+                load--;
+            }
+        }
+    return load;
+}
+
+dugg_answer NAME(plan)(dugg_site site, uint8_t *table, size_t len)
+{
+    dugg_answer f = fault(&site);
+    if (f.number != 0)
+        return f;
+    size_t n = positions_of(&site);
+    if (len < site.cells * n)
+        return answer(4, 0, 0, 0);
+    uint32_t mask[CELLS];
+    clash_masks(&site, mask);
+    for (unsigned i = 0; i < site.cells; i++) {
+        uint8_t *row = table + i * n;
+        memset(row, 0, n);
+        for (uint32_t lower = mask[i] & first_cells(i); lower != 0; lower &= lower - 1)
+            forbid(row, table + __builtin_ctz(lower) * n, n);
+        unsigned left = fill(row, site.slots, site.channels, site.loads[i]);
+        if (left != 0) {
+            memset(table, 0, site.cells * n);
+            return answer(5, i + 1, left, 0);
+        }
+    }
+    return answer(0, 0, 0, 0);
+}
+
+/* Adds one cell's reservations to the words of all positions. */
+static void gather(uint32_t *restrict words, const uint8_t *restrict row, size_t n, unsigned cell)
+{
+    for (size_t p = 0; p < n; p++)
+        words[p] |= (uint32_t)(row[p] == 1) << cell;
+}
+
+static unsigned count(const uint8_t *row, size_t n)
+{
+    unsigned ones = 0;
+    for (size_t p = 0; p < n; p++)
+        ones += row[p] == 1;
+    return ones;
+}
+
+dugg_answer NAME(check)(dugg_site site, const uint8_t *table, size_t len)
+{
+    dugg_answer f = fault(&site);
+    if (f.number != 0)
+        return f;
+    size_t n = positions_of(&site);
+    if (len < site.cells * n)
+        return answer(4, 0, 0, 0);
+    uint32_t mask[CELLS], words[POSITIONS];
+    clash_masks(&site, mask);
+    memset(words, 0, n * sizeof words[0]);
+    for (unsigned i = 0; i < site.cells; i++)
+        gather(words, table + i * n, n, i);
+    for (size_t p = 0; p < n; p++)
+        for (uint32_t rest = words[p]; rest != 0; rest &= rest - 1) {
+            unsigned a = __builtin_ctz(rest);
+            if (rest & mask[a])
+                return answer(6, p, a + 1, __builtin_ctz(rest & mask[a]) + 1);
+        }
+    for (unsigned i = 0; i < site.cells; i++) {
+        unsigned ones = count(table + i * n, n);
+        if (ones != site.loads[i])
+            return answer(7, i + 1, ones, 0);
+    }
+    return answer(0, 0, 0, 0);
+}
+
+/* ---- share ---- */
+
+dugg_answer NAME(share)(uint16_t slots, uint16_t burst, uint16_t period)
+{
+    if (slots < 1 || slots > SLOTS)
+        return answer(1, 0, 0, 0);
+    if (burst == 0 || period == 0)
+        return answer(15, 0, 0, 0);
+    uint32_t work = (uint32_t)burst * slots;
+    uint32_t share = (work + period - 1) / period;
+    if (share > 65535)
+        return answer(16, 0, 0, 0);
+    return answer(0, share, burst + share, slots + (work + share - 1) / share);
+}
+
+/* ---- house files ---- */
+
+static unsigned word(const uint8_t *p)
+{
+    return p[0] | (unsigned)p[1] << 8;
+}
+
+static uint8_t *put_word(uint8_t *p, unsigned x)
+{
+    p[0] = x & 255;
+    p[1] = x >> 8;
+    return p + 2;
+}
+
+/* Opens the record at an offset. A fixed length must be met; length 0 stands for kind 3's rule, even and at least 2.
+ * Gives the refusal's number, or 0. */
+static unsigned open(const uint8_t *bytes, size_t len, size_t at, unsigned kind, unsigned length)
+{
+    if (len - at < 4)
+        return 8;
+    unsigned has = word(bytes + at);
+    if (word(bytes + at + 2) != kind)
+        return 9;
+    if (length != 0 ? has != length : has < 2 || has % 2 != 0)
+        return 10;
+    if (len - at - 2 < has)
+        return 8;
+    return 0;
+}
+
+/* The head record; it is at offset 0, so refusals carry 0. */
+static unsigned read_head(const uint8_t *bytes, size_t len, dugg_site *s)
+{
+    unsigned bad = open(bytes, len, 0, 1, 8);
+    if (bad != 0)
+        return bad;
+    unsigned cells = word(bytes + 4), slots = word(bytes + 6), channels = word(bytes + 8);
+    if (!sizes_fine(cells, slots, channels))
+        return 1;
+    s->cells = cells;
+    s->slots = slots;
+    s->channels = channels;
+    return 0;
+}
+
+/* Takes the pairs of kind 3 into the site: each pair 3, then 11. */
+static unsigned read_pairs(const uint8_t *pair, const uint8_t *end, dugg_site *s)
+{
+    unsigned before = 0;
+    for (; pair < end; pair += 2) {
+        unsigned from = pair[0], to = pair[1], now = from << 8 | to;
+        if (from < 1 || from > s->cells || to < 1 || to > s->cells || from == to)
+            return 3;
+        if (now <= before)
+            return 11;
+        before = now;
+        s->reach[from - 1] |= 1u << (to - 1);
+    }
+    return 0;
+}
+
+static dugg_edited refused_read(unsigned number, size_t at)
+{
+    dugg_edited r;
+    memset(&r, 0, sizeof r);
+    r.answer = answer(number, at, 0, 0);
+    return r;
+}
+
+dugg_edited NAME(read_site)(const uint8_t *bytes, size_t len)
+{
+    dugg_edited r = refused_read(0, 0);
+    unsigned bad = read_head(bytes, len, &r.site);
+    if (bad != 0)
+        return refused_read(bad, 0);
+    size_t at = 10;
+    unsigned cells = r.site.cells;
+    bad = open(bytes, len, at, 2, 2 + 2 * cells);
+    if (bad != 0)
+        return refused_read(bad, at);
+    for (unsigned i = 0; i < cells; i++)
+        r.site.loads[i] = word(bytes + at + 4 + 2 * i);
+    at += 4 + 2 * cells;
+    bad = open(bytes, len, at, 3, 0);
+    if (bad != 0)
+        return refused_read(bad, at);
+    size_t end = at + 2 + word(bytes + at);
+    bad = read_pairs(bytes + at + 4, bytes + end, &r.site);
+    if (bad != 0)
+        return refused_read(bad, at);
+    if (end < len)
+        return refused_read(12, end);
+    return r;
+}
+
+static uint8_t *put_head(uint8_t *p, const dugg_site *s)
+{
+    p = put_word(put_word(p, 8), 1);
+    return put_word(put_word(put_word(p, s->cells), s->slots), s->channels);
+}
+
+dugg_answer NAME(write_site)(dugg_site site, uint8_t *out, size_t len)
+{
+    dugg_answer f = fault(&site);
+    if (f.number != 0)
+        return f;
+    unsigned pairs = 0;
+    for (unsigned i = 0; i < site.cells; i++)
+        pairs += __builtin_popcount(site.reach[i]);
+    size_t need = 18 + 2 * site.cells + 2 * pairs;
+    if (len < need)
+        return answer(13, need, 0, 0);
+    uint8_t *p = put_head(out, &site);
+    p = put_word(put_word(p, 2 + 2 * site.cells), 2);
+    for (unsigned i = 0; i < site.cells; i++)
+        p = put_word(p, site.loads[i]);
+    p = put_word(put_word(p, 2 + 2 * pairs), 3);
+    for (unsigned i = 0; i < site.cells; i++)
+        for (uint32_t row = site.reach[i]; row != 0; row &= row - 1) {
+            *p++ = i + 1;
+            *p++ = __builtin_ctz(row) + 1;
+        }
+    return answer(0, need, 0, 0);
+}
+
+static dugg_plan_read refused_plan(unsigned number, size_t at)
+{
+    return (dugg_plan_read){0, 0, 0, answer(number, at, 0, 0)};
+}
+
+/* One byte of a plan as up to eight table bytes. */
+static void unpack(uint8_t *table, uint8_t byte, size_t bits)
+{
+    for (size_t k = 0; k < bits; k++)
+        table[k] = byte >> k & 1;
+}
+
+dugg_plan_read NAME(read_plan)(const uint8_t *bytes, size_t len, uint8_t *table, size_t table_len)
+{
+    dugg_site s;
+    unsigned bad = read_head(bytes, len, &s);
+    if (bad != 0)
+        return refused_plan(bad, 0);
+    size_t bits = s.cells * positions_of(&s), size = (bits + 7) / 8;
+    bad = open(bytes, len, 10, 4, 2 + size);
+    if (bad != 0)
+        return refused_plan(bad, 10);
+    const uint8_t *body = bytes + 14;
+    if (bits % 8 != 0 && body[size - 1] >> bits % 8 != 0)
+        return refused_plan(14, 10);
+    if (14 + size < len)
+        return refused_plan(12, 14 + size);
+    if (table_len < bits)
+        return refused_plan(4, 0);
+    for (size_t k = 0; k < bits / 8; k++)
+        unpack(table + 8 * k, body[k], 8);
+    if (bits % 8 != 0)
+        unpack(table + bits / 8 * 8, body[size - 1], bits % 8);
+    return (dugg_plan_read){s.cells, s.slots, s.channels, answer(0, 0, 0, 0)};
+}
+
+/* Up to eight table bytes as one byte of a plan. */
+static uint8_t pack(const uint8_t *table, size_t bits)
+{
+    uint8_t byte = 0;
+    for (size_t k = 0; k < bits; k++)
+        byte |= (table[k] == 1) << k;
+    return byte;
+}
+
+dugg_answer NAME(write_plan)(dugg_site site, const uint8_t *table, size_t table_len, uint8_t *out, size_t len)
+{
+    dugg_answer f = fault(&site);
+    if (f.number != 0)
+        return f;
+    size_t bits = site.cells * positions_of(&site), size = (bits + 7) / 8;
+    if (table_len < bits)
+        return answer(4, 0, 0, 0);
+    if (len < 14 + size)
+        return answer(13, 14 + size, 0, 0);
+    uint8_t *p = put_head(out, &site);
+    p = put_word(put_word(p, 2 + size), 4);
+    for (size_t k = 0; k < bits / 8; k++)
+        p[k] = pack(table + 8 * k, 8);
+    if (bits % 8 != 0)
+        p[size - 1] = pack(table + bits / 8 * 8, bits % 8);
+    return answer(0, 14 + size, 0, 0);
+}

@@ -1,0 +1,24 @@
+/* The C interface of include/duggfrask.h under another prefix: CALLS(plain2_) declares plain2_fault and so on.
+ * The plain C version is compiled once for each level of optimisation, each time under a prefix of its own. */
+#ifndef PLAIN_H
+#define PLAIN_H
+
+#include "../include/duggfrask.h"
+
+#define CALLS(P)                                                                                                      \
+    dugg_answer P##fault(dugg_site site);                                                                             \
+    dugg_answer P##clash(dugg_site site, uint16_t a, uint16_t b);                                                     \
+    dugg_edited P##set_load(dugg_site site, uint16_t cell, uint16_t load);                                            \
+    dugg_edited P##set_reach(dugg_site site, uint16_t from, uint16_t to);                                             \
+    dugg_edited P##clear_reach(dugg_site site, uint16_t from, uint16_t to);                                           \
+    dugg_answer P##load_test(dugg_site site);                                                                         \
+    dugg_answer P##chain(dugg_site site);                                                                             \
+    dugg_answer P##plan(dugg_site site, uint8_t *table, size_t len);                                                  \
+    dugg_answer P##check(dugg_site site, const uint8_t *table, size_t len);                                           \
+    dugg_answer P##share(uint16_t slots, uint16_t burst, uint16_t period);                                            \
+    dugg_edited P##read_site(const uint8_t *bytes, size_t len);                                                       \
+    dugg_answer P##write_site(dugg_site site, uint8_t *out, size_t len);                                              \
+    dugg_plan_read P##read_plan(const uint8_t *bytes, size_t len, uint8_t *table, size_t table_len);                  \
+    dugg_answer P##write_plan(dugg_site site, const uint8_t *table, size_t table_len, uint8_t *out, size_t len);
+
+#endif

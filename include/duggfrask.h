@@ -1,0 +1,105 @@
+/* Duggfrask, the C interface: plans channel time-slots for the cells of a wireless fieldbus, and checks finished plans.
+ *
+ * Every call answers a number and up to three values. Number 0 is "done"; 1 to 16 are the refusals of
+ * docs/01-scope.md. Values that are not named below are 0. No call keeps anything between calls.
+ *
+ *    1  cells, slots or channels out of range
+ *    2  a load beyond the last cell (value: lowest such cell), or a load edit of a cell that is not there (the cell)
+ *    3  a reach row or bit beyond the last cell, or of a cell to itself (value: lowest row); in an edit its "from"
+ *    4  the lent table is too short
+ *    5  the planner finds no room (values: cell, fragments short)
+ *    6  two clashing cells transmit at one position (values: position, first cell, second cell)
+ *    7  a cell has the wrong number of reservations (values: cell, its count)
+ *    8  the file ends inside a record, or before one that is due
+ *    9  another kind of record is due
+ *   10  the record's length is not that of its kind
+ *   11  reach pairs do not rise
+ *   12  bytes after the last record
+ *   13  the lent output is too short (value: bytes needed)
+ *   14  a left-over bit of a plan is 1
+ *   15  burst or period is 0
+ *   16  the share is above 65,535
+ *
+ * A refused file read has one value: where in the file the refused record begins (12: the first byte too many;
+ * 4: 0). Cells are numbered from 1, positions from 0: slot t and channel f are position (t-1) * channels + (f-1).
+ * A pointer that is lent with length 0 is never looked at. Lent parts must not overlap. */
+#ifndef DUGGFRASK_H
+#define DUGGFRASK_H
+
+#include <stddef.h>
+#include <stdint.h>
+
+#ifdef __cplusplus
+extern "C" {
+#endif
+
+/* A site: 1 to 32 cells, 1 to 128 slots, 1 to 16 channels, the load of each cell in fragments per superframe, and
+ * who reaches whom: bit b-1 of reach[a-1] is set when cell a's transmissions can disturb cell b's. Loads and reach
+ * of cells that the site does not have are 0. */
+typedef struct { uint16_t cells, slots, channels, loads[32]; uint32_t reach[32]; } dugg_site;
+
+/* The number given back, and the values that belong to it. */
+typedef struct { uint64_t number, value[3]; } dugg_answer;
+
+/* A site and the answer beside it: from an edit, the edited site, or the site as it came if the edit is refused; from
+ * a site file, the site that was read, or a site of zeros if the file is refused. */
+typedef struct { dugg_site site; dugg_answer answer; } dugg_edited;
+
+/* What a plan file says of its site, or three zeros if the file is refused, and the answer. */
+typedef struct { uint16_t cells, slots, channels; dugg_answer answer; } dugg_plan_read;
+
+/* Is the site record in order? 0, or refusal 1, 2 or 3. Every call that takes a site asks this first. */
+dugg_answer dugg_fault(dugg_site site);
+
+/* Do cells a and b clash, that is, does either reach the other? Done: value[0] is 1 for yes and 0 for no. A cell that
+ * the site does not have clashes with none, and no cell clashes with itself. */
+dugg_answer dugg_clash(dugg_site site, uint16_t a, uint16_t b);
+
+/* Sets the load of one cell. Refusal 2 gives the cell asked for. */
+dugg_edited dugg_set_load(dugg_site site, uint16_t cell, uint16_t load);
+
+/* Notes that cell "from" reaches cell "to". Refusal 3 gives "from". */
+dugg_edited dugg_set_reach(dugg_site site, uint16_t from, uint16_t to);
+
+/* Notes that cell "from" does not reach cell "to". Refusal 3 gives "from". */
+dugg_edited dugg_clear_reach(dugg_site site, uint16_t from, uint16_t to);
+
+/* Does each cell's load, with the loads of its lower-numbered clashing cells, fit into the superframe? Done: 0, 0, 0
+ * if so; otherwise the lowest cell that is over, and by how many fragments. */
+dugg_answer dugg_load_test(dugg_site site);
+
+/* Is the site chained: for each clashing pair a < c, does each cell between them clash with a? Done: 0, 0, 0 if so;
+ * otherwise the first a, b, c where b, between a and c, does not. */
+dugg_answer dugg_chain(dugg_site site);
+
+/* Plans the site into the table, one byte per cell and position, cell after cell: 0 idle, 1 reserved, 2 forbidden.
+ * The table needs cells * slots * channels bytes (refusal 4); bytes past those are not written. Refusal 5 gives the
+ * first cell without room and how many fragments are short, and leaves those bytes 0. */
+dugg_answer dugg_plan(dugg_site site, uint8_t *table, size_t len);
+
+/* Is the finished table valid for the site? A byte that is 1 means transmit, any other is silence. Refusal 6 gives the
+ * lowest position with a clash and the two cells; refusal 7 the lowest cell with a wrong count, and its count. */
+dugg_answer dugg_check(dugg_site site, const uint8_t *table, size_t len);
+
+/* What a flow needs, from its burst in fragments and its period in slots. Done: its share in fragments per superframe,
+ * its queue bound in fragments, its delay bound in slots. */
+dugg_answer dugg_share(uint16_t slots, uint16_t burst, uint16_t period);
+
+/* Reads a site file. */
+dugg_edited dugg_read_site(const uint8_t *bytes, size_t len);
+
+/* Writes a site file. Done: value[0] is the number of bytes written; bytes past those are not touched. */
+dugg_answer dugg_write_site(dugg_site site, uint8_t *out, size_t len);
+
+/* Reads a plan file into the table, 1 for reserved and 0 for the rest. A refused file writes nothing. */
+dugg_plan_read dugg_read_plan(const uint8_t *bytes, size_t len, uint8_t *table, size_t table_len);
+
+/* Writes the reservations of a site's table as a plan file, without judging them. Done: value[0] is the number of
+ * bytes written; bytes past those are not touched. */
+dugg_answer dugg_write_plan(dugg_site site, const uint8_t *table, size_t table_len, uint8_t *out, size_t len);
+
+#ifdef __cplusplus
+}
+#endif
+
+#endif

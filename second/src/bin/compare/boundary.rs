@@ -1,0 +1,106 @@
+//! Document 01's list "run by a program": 32 and 33 cells, 128 and 129 slots, 16 and 17 channels, a table of 65,536
+//! bytes and of one byte less, each with its neighbours and through every call; and flows at their limits.
+
+use crate::case::{Call, Case};
+use crate::run::Run;
+use second::site::Site;
+
+const CELLS: [u16; 6] = [0, 1, 31, 32, 33, 65_535];
+const SLOTS: [u16; 6] = [0, 1, 127, 128, 129, 65_535];
+const CHANNELS: [u16; 6] = [0, 1, 15, 16, 17, 65_535];
+const TABLE: usize = 65_536;
+
+pub fn compare(run: &mut Run) {
+    for cells in CELLS {
+        for slots in SLOTS {
+            for channels in CHANNELS {
+                every_call(run, cells, slots, channels);
+            }
+        }
+    }
+    for slots in SLOTS {
+        for burst in [0, 1, 2, 3, 511, 512, 513, 65_534, 65_535] {
+            for period in [0, 1, 2, 3, 127, 128, 129, 65_534, 65_535] {
+                run.compare(&Case::of(Call::Share, Site::default()).numbers([slots, burst, period]));
+            }
+        }
+    }
+}
+
+/// A tunnel in which each cell reaches the next, one way, and all the load that has room.
+fn tunnel(cells: u16, slots: u16, channels: u16) -> Site {
+    let mut site = Site { cells, slots, channels, ..Site::default() };
+    let room = slots as usize * channels as usize;
+    for i in 0..32.min(cells as usize) {
+        site.loads[i] = if i % 2 == 0 { room / 3 } else { room - room / 3 } as u16;
+        if i + 1 < 32.min(cells as usize) {
+            site.reach[i] = 1 << (i + 1);
+        }
+    }
+    site
+}
+
+fn every_call(run: &mut Run, cells: u16, slots: u16, channels: u16) {
+    let site = tunnel(cells, slots, channels);
+    for call in [Call::Fault, Call::LoadTest, Call::Chain] {
+        run.compare(&Case::of(call, site));
+    }
+    for call in [Call::Clash, Call::SetLoad, Call::SetReach, Call::ClearReach] {
+        for (x, y) in [(1, 2), (1, 32), (32, 1), (31, 32), (32, 33), (33, 1), (0, 1), (1, 0), (5, 5), (65_535, 65_535)]
+        {
+            run.compare(&Case::of(call, site).numbers([x, y, 0]));
+        }
+    }
+    tables(run, &site);
+    files(run, &site);
+    // One load beyond the last cell, and one reach bit beyond it.
+    if cells < 32 {
+        let mut wrong = site;
+        wrong.reach[0] |= 1 << cells;
+        tables(run, &wrong);
+        wrong.loads[31] = 1;
+        tables(run, &wrong);
+    }
+}
+
+/// Plans, checks and writes tables of 65,536 bytes, of one less and one more, and of just the length that is due.
+fn tables(run: &mut Run, site: &Site) {
+    let due = (site.count() * site.positions()).min(TABLE + 2);
+    for len in [TABLE, TABLE - 1, TABLE + 1, due, due.saturating_sub(1), due + 1, 0] {
+        let planned = run.compare(&Case::of(Call::Plan, *site).output(&vec![7; len], len as u64));
+        let table = planned.output.bytes();
+        run.compare(&Case::of(Call::Check, *site).input(table, len as u64));
+        let file = 14 + due / 8;
+        for out in [file - 1, file, file + 1, file + 2] {
+            let write = Case::of(Call::WritePlan, *site).input(table, len as u64);
+            run.compare(&write.output(&vec![7; out], out as u64));
+        }
+    }
+}
+
+/// Writes the site, and reads files with its head, as a site and as a plan.
+fn files(run: &mut Run, site: &Site) {
+    for len in [0, 17, 18, 19, 20, 21, 81, 82, 83, 143, 144, 145, 4096] {
+        run.compare(&Case::of(Call::WriteSite, *site).output(&vec![7; len], len as u64));
+    }
+    let mut head = vec![8, 0, 1, 0];
+    for number in [site.cells, site.slots, site.channels] {
+        head.extend_from_slice(&number.to_le_bytes());
+    }
+    let cells = site.count().min(33);
+    let mut file = head.clone();
+    file.extend_from_slice(&[2 + 2 * cells as u8, 0, 2, 0]);
+    file.resize(file.len() + 2 * cells, 1);
+    file.extend_from_slice(&[2, 0, 3, 0]);
+    run.read_site(&file, 1);
+    let due = (site.count() * site.positions()).min(TABLE + 2);
+    for bytes in [due / 8, due.div_ceil(8), due / 8 + 1] {
+        let mut file = head.clone();
+        file.extend_from_slice(&(2 + bytes as u16).to_le_bytes());
+        file.extend_from_slice(&[4, 0]);
+        file.resize(file.len() + bytes, 1);
+        for len in [TABLE, TABLE - 1, due, due.saturating_sub(1), 0] {
+            run.read_plan(&file, len, len as u64);
+        }
+    }
+}

@@ -1,0 +1,74 @@
+//! The two sides of the comparison: the calls of the proved library, linked from its archive, and those of the second
+//! program, through the same C interface.
+
+use second::answer::Answer;
+use second::capi::*;
+use second::site::Site;
+
+extern "C" {
+    fn dugg_fault(site: Site) -> Answer;
+    fn dugg_clash(site: Site, a: u16, b: u16) -> Answer;
+    fn dugg_set_load(site: Site, cell: u16, load: u16) -> Edited;
+    fn dugg_set_reach(site: Site, from: u16, to: u16) -> Edited;
+    fn dugg_clear_reach(site: Site, from: u16, to: u16) -> Edited;
+    fn dugg_load_test(site: Site) -> Answer;
+    fn dugg_chain(site: Site) -> Answer;
+    fn dugg_plan(site: Site, table: *mut u8, len: usize) -> Answer;
+    fn dugg_check(site: Site, table: *const u8, len: usize) -> Answer;
+    fn dugg_share(slots: u16, burst: u16, period: u16) -> Answer;
+    fn dugg_read_site(bytes: *const u8, len: usize) -> Edited;
+    fn dugg_write_site(site: Site, out: *mut u8, len: usize) -> Answer;
+    fn dugg_read_plan(bytes: *const u8, len: usize, table: *mut u8, table_len: usize) -> PlanRead;
+    fn dugg_write_plan(site: Site, table: *const u8, table_len: usize, out: *mut u8, len: usize) -> Answer;
+}
+
+pub struct Calls {
+    pub fault: unsafe extern "C" fn(Site) -> Answer,
+    pub clash: unsafe extern "C" fn(Site, u16, u16) -> Answer,
+    pub set_load: unsafe extern "C" fn(Site, u16, u16) -> Edited,
+    pub set_reach: unsafe extern "C" fn(Site, u16, u16) -> Edited,
+    pub clear_reach: unsafe extern "C" fn(Site, u16, u16) -> Edited,
+    pub load_test: unsafe extern "C" fn(Site) -> Answer,
+    pub chain: unsafe extern "C" fn(Site) -> Answer,
+    pub plan: unsafe extern "C" fn(Site, *mut u8, usize) -> Answer,
+    pub check: unsafe extern "C" fn(Site, *const u8, usize) -> Answer,
+    pub share: unsafe extern "C" fn(u16, u16, u16) -> Answer,
+    pub read_site: unsafe extern "C" fn(*const u8, usize) -> Edited,
+    pub write_site: unsafe extern "C" fn(Site, *mut u8, usize) -> Answer,
+    pub read_plan: unsafe extern "C" fn(*const u8, usize, *mut u8, usize) -> PlanRead,
+    pub write_plan: unsafe extern "C" fn(Site, *const u8, usize, *mut u8, usize) -> Answer,
+}
+
+pub const LIBRARY: Calls = Calls {
+    fault: dugg_fault,
+    clash: dugg_clash,
+    set_load: dugg_set_load,
+    set_reach: dugg_set_reach,
+    clear_reach: dugg_clear_reach,
+    load_test: dugg_load_test,
+    chain: dugg_chain,
+    plan: dugg_plan,
+    check: dugg_check,
+    share: dugg_share,
+    read_site: dugg_read_site,
+    write_site: dugg_write_site,
+    read_plan: dugg_read_plan,
+    write_plan: dugg_write_plan,
+};
+
+pub const SECOND: Calls = Calls {
+    fault: second_fault,
+    clash: second_clash,
+    set_load: second_set_load,
+    set_reach: second_set_reach,
+    clear_reach: second_clear_reach,
+    load_test: second_load_test,
+    chain: second_chain,
+    plan: second_plan,
+    check: second_check,
+    share: second_share,
+    read_site: second_read_site,
+    write_site: second_write_site,
+    read_plan: second_read_plan,
+    write_plan: second_write_plan,
+};

@@ -1,0 +1,186 @@
+//! One case: a call and all that it is given, lent memory with guard bytes on both sides, and what is seen after it.
+
+use crate::calls::Calls;
+use second::answer::Answer;
+use second::site::Site;
+
+#[derive(Clone, Copy, Debug, PartialEq, Eq)]
+pub enum Call {
+    Fault,
+    Clash,
+    SetLoad,
+    SetReach,
+    ClearReach,
+    LoadTest,
+    Chain,
+    Plan,
+    Check,
+    Share,
+    ReadSite,
+    WriteSite,
+    ReadPlan,
+    WritePlan,
+}
+
+/// Lent bytes between guard bytes. The guards' lengths differ, so that lent parts begin at any alignment.
+#[derive(Clone, PartialEq, Eq)]
+pub struct Lent {
+    whole: Vec<u8>,
+    start: usize,
+    len: usize,
+}
+
+const GUARD: usize = 24;
+
+impl Lent {
+    /// Lends these bytes; the mark decides on the guards.
+    pub fn new(bytes: &[u8], mark: u64) -> Lent {
+        let start = GUARD + (mark % 16) as usize;
+        let mut whole = vec![(mark >> 8) as u8; start];
+        whole.extend_from_slice(bytes);
+        whole.resize(start + bytes.len() + GUARD, (mark >> 16) as u8);
+        Lent { whole, start, len: bytes.len() }
+    }
+
+    pub fn none() -> Lent {
+        Lent::new(&[], 0)
+    }
+
+    pub fn bytes(&self) -> &[u8] {
+        &self.whole[self.start..self.start + self.len]
+    }
+
+    /// The guard bytes before and after.
+    fn guards(&self) -> (&[u8], &[u8]) {
+        (&self.whole[..self.start], &self.whole[self.start + self.len..])
+    }
+
+    /// With length 0 the pointer is null as often as not: such a pointer is never looked at.
+    fn is_null(&self) -> bool {
+        self.len == 0 && self.start & 1 == 0
+    }
+
+    /// Where the lent part begins.
+    fn pointer(&self) -> *const u8 {
+        if self.is_null() {
+            return std::ptr::null();
+        }
+        self.whole[self.start..].as_ptr()
+    }
+
+    fn pointer_mut(&mut self) -> *mut u8 {
+        if self.is_null() {
+            return std::ptr::null_mut();
+        }
+        self.whole[self.start..].as_mut_ptr()
+    }
+}
+
+/// A call and what it is given. What a call does not take is left zero or empty.
+#[derive(Clone)]
+pub struct Case {
+    pub call: Call,
+    pub site: Site,
+    pub numbers: [u16; 3],
+    /// What is lent to be read: a file, or a table to check or to write.
+    pub input: Lent,
+    /// What is lent to be written: a table to plan or to read into, or a file's output.
+    pub output: Lent,
+}
+
+/// What is seen after a call: answer, record or sizes given back, and all lent memory with its guards.
+#[derive(Clone, PartialEq, Eq)]
+pub struct Seen {
+    pub answer: Answer,
+    pub site: Site,
+    pub input: Lent,
+    pub output: Lent,
+}
+
+impl Case {
+    pub fn of(call: Call, site: Site) -> Case {
+        Case { call, site, numbers: [0; 3], input: Lent::none(), output: Lent::none() }
+    }
+
+    pub fn numbers(mut self, numbers: [u16; 3]) -> Case {
+        self.numbers = numbers;
+        self
+    }
+
+    pub fn input(mut self, bytes: &[u8], mark: u64) -> Case {
+        self.input = Lent::new(bytes, mark);
+        self
+    }
+
+    pub fn output(mut self, bytes: &[u8], mark: u64) -> Case {
+        self.output = Lent::new(bytes, mark);
+        self
+    }
+
+    /// Makes the call on copies of the lent parts.
+    pub fn run(&self, calls: &Calls) -> Seen {
+        let (input, mut output) = (self.input.clone(), self.output.clone());
+        let (site, [x, y, z]) = (self.site, self.numbers);
+        let (inp, ilen, out, olen) = (input.pointer(), input.len, output.pointer_mut(), output.len);
+        let alone = |answer| (Site::default(), answer);
+        // Each pointer has the length that is lent with it, and no two lent parts overlap.
+        let (site, answer) = unsafe {
+            match self.call {
+                Call::Fault => alone((calls.fault)(site)),
+                Call::Clash => alone((calls.clash)(site, x, y)),
+                Call::SetLoad => pair((calls.set_load)(site, x, y)),
+                Call::SetReach => pair((calls.set_reach)(site, x, y)),
+                Call::ClearReach => pair((calls.clear_reach)(site, x, y)),
+                Call::LoadTest => alone((calls.load_test)(site)),
+                Call::Chain => alone((calls.chain)(site)),
+                Call::Plan => alone((calls.plan)(site, out, olen)),
+                Call::Check => alone((calls.check)(site, inp, ilen)),
+                Call::Share => alone((calls.share)(x, y, z)),
+                Call::ReadSite => pair((calls.read_site)(inp, ilen)),
+                Call::WriteSite => alone((calls.write_site)(site, out, olen)),
+                Call::ReadPlan => {
+                    let read = (calls.read_plan)(inp, ilen, out, olen);
+                    let (cells, slots, channels) = (read.cells, read.slots, read.channels);
+                    (Site { cells, slots, channels, ..Site::default() }, read.answer)
+                }
+                Call::WritePlan => alone((calls.write_plan)(site, inp, ilen, out, olen)),
+            }
+        };
+        Seen { answer, site, input, output }
+    }
+
+    /// Was all that may not be written left as it was: what is lent to be read, and every guard?
+    pub fn untouched(&self, seen: &Seen) -> bool {
+        self.input == seen.input && self.output.guards() == seen.output.guards()
+    }
+
+    /// The case in words and hex.
+    pub fn print(&self) {
+        println!("call {:?}", self.call);
+        println!("site cells {} slots {} channels {}", self.site.cells, self.site.slots, self.site.channels);
+        println!("  loads {:?}", self.site.loads);
+        println!("  reach {:08x?}", self.site.reach);
+        println!("numbers {:?}", self.numbers);
+        println!("lent to read, {} bytes: {}", self.input.len, hex(self.input.bytes()));
+        println!("lent to write, {} bytes: {}", self.output.len, hex(self.output.bytes()));
+    }
+}
+
+impl Seen {
+    pub fn print(&self, who: &str) {
+        println!("{who} answers {} {:?}", self.answer.number, self.answer.value);
+        println!("  site cells {} slots {} channels {}", self.site.cells, self.site.slots, self.site.channels);
+        println!("  loads {:?}", self.site.loads);
+        println!("  reach {:08x?}", self.site.reach);
+        println!("  to read, with guards: {}", hex(&self.input.whole));
+        println!("  to write, with guards: {}", hex(&self.output.whole));
+    }
+}
+
+fn pair(edited: second::capi::Edited) -> (Site, Answer) {
+    (edited.site, edited.answer)
+}
+
+fn hex(bytes: &[u8]) -> String {
+    bytes.iter().map(|byte| format!("{byte:02X} ")).collect()
+}

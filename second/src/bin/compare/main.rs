@@ -1,0 +1,90 @@
+//! Compares the proved library with the second program, call by call: answer, values, records given back and every byte
+//! of lent memory, guards included.
+//!
+//!     compare SAMPLES                   document 01's boundaries, the sample files, and random cases from a fixed seed
+//!     compare --seconds N --seed S      random cases only, from fresh seeds, for N seconds
+
+mod boundary;
+mod calls;
+mod case;
+mod files;
+mod make;
+mod random;
+mod run;
+mod samples;
+mod sites;
+
+use random::Random;
+use run::Run;
+use std::path::Path;
+use std::process::ExitCode;
+use std::time::{Duration, Instant};
+
+const SEED: u64 = 2015;
+const RANDOM_CASES: usize = 1_000_000;
+const CASES_PER_SEED: usize = 5_000;
+
+fn main() -> ExitCode {
+    let args: Vec<String> = std::env::args().skip(1).collect();
+    let args: Vec<&str> = args.iter().map(String::as_str).collect();
+    match args[..] {
+        [samples] if !samples.starts_with('-') => fixed(Path::new(samples)),
+        ["--seconds", seconds, "--seed", seed] => match (seconds.parse(), seed.parse()) {
+            (Ok(seconds), Ok(seed)) => fresh(seconds, seed),
+            _ => usage(),
+        },
+        _ => usage(),
+    }
+}
+
+fn usage() -> ExitCode {
+    eprintln!("usage: compare SAMPLES | compare --seconds N --seed S");
+    ExitCode::from(2)
+}
+
+fn fixed(dir: &Path) -> ExitCode {
+    let mut run = Run::default();
+    boundary::compare(&mut run);
+    println!("boundaries: {} cases", run.cases);
+    let before = run.cases;
+    match samples::compare(&mut run, dir) {
+        Ok(files) if files > 0 => println!("{files} sample files, cut and changed: {} cases", run.cases - before),
+        Ok(_) => return fail(&format!("there are no sample files in {}", dir.display())),
+        Err(error) => return fail(&format!("{}: {error}", dir.display())),
+    }
+    // The numbers are counted over the random cases alone.
+    let mut wild = Run::default();
+    let mut random = Random::new(SEED);
+    for _ in 0..RANDOM_CASES {
+        make::compare(&mut wild, &mut random);
+    }
+    println!("random, seed {SEED}: {} cases", wild.cases);
+    if !wild.report() {
+        return fail("a number was never given");
+    }
+    println!("{} cases compared, all agree", run.cases + wild.cases);
+    ExitCode::SUCCESS
+}
+
+fn fresh(seconds: u64, seed: u64) -> ExitCode {
+    println!("seed {seed}");
+    let mut run = Run::default();
+    let end = Instant::now() + Duration::from_secs(seconds);
+    let mut now = seed;
+    while Instant::now() < end {
+        let mut random = Random::new(now);
+        for _ in 0..CASES_PER_SEED {
+            make::compare(&mut run, &mut random);
+        }
+        now = now.wrapping_add(1);
+    }
+    run.report();
+    println!("seeds {seed} to {}", now.wrapping_sub(1));
+    println!("{} cases compared, all agree", run.cases);
+    ExitCode::SUCCESS
+}
+
+fn fail(why: &str) -> ExitCode {
+    println!("FAILED: {why}");
+    ExitCode::FAILURE
+}

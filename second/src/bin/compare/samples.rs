@@ -1,0 +1,46 @@
+//! Every sample file, cut at each byte, with a byte too many, and with each single byte changed to every value: read as
+//! a site file and as a plan file, and written back where it is accepted.
+
+use crate::run::Run;
+use std::fs;
+use std::io;
+use std::path::Path;
+
+pub fn compare(run: &mut Run, dir: &Path) -> io::Result<usize> {
+    let mut files = Vec::new();
+    for entry in fs::read_dir(dir)? {
+        let path = entry?.path();
+        if path.extension().is_some_and(|end| end == "site" || end == "plan") {
+            files.push(path);
+        }
+    }
+    files.sort();
+    for path in &files {
+        one_file(run, &fs::read(path)?);
+    }
+    Ok(files.len())
+}
+
+fn one_file(run: &mut Run, file: &[u8]) {
+    for cut in 0..=file.len() {
+        both_ways(run, &file[..cut], cut as u64);
+    }
+    for value in 0..=255 {
+        let mut longer = file.to_vec();
+        longer.push(value);
+        both_ways(run, &longer, 3);
+        for at in 0..file.len() {
+            let mut changed = file.to_vec();
+            changed[at] = value;
+            both_ways(run, &changed, at as u64);
+        }
+    }
+}
+
+fn both_ways(run: &mut Run, bytes: &[u8], mark: u64) {
+    run.read_site(bytes, mark);
+    // 18 bytes are just enough for the document's own plan.
+    for table_len in [18, 17, 40] {
+        run.read_plan(bytes, table_len, mark);
+    }
+}

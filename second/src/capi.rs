@@ -1,0 +1,152 @@
+//! The C interface of include/duggfrask.h with the prefix `second_`, for the comparison and for the benchmark.
+
+use crate::answer::{done, Answer, Outcome};
+use crate::share::{Fragments, Slots};
+use crate::site::Site;
+use crate::{checker, files, judge, planner, share};
+
+#[repr(C)]
+#[derive(Clone, Copy, Debug, PartialEq, Eq)]
+pub struct Edited {
+    pub site: Site,
+    pub answer: Answer,
+}
+
+#[repr(C)]
+#[derive(Clone, Copy, Debug, PartialEq, Eq)]
+pub struct PlanRead {
+    pub cells: u16,
+    pub slots: u16,
+    pub channels: u16,
+    pub answer: Answer,
+}
+
+/// The answer to give: done with the values that `values` finds in the result, or the refusal.
+fn answer<T, const K: usize>(outcome: Outcome<T>, values: impl Fn(T) -> [u64; K]) -> Answer {
+    match outcome {
+        Ok(result) => done(&values(result)),
+        Err(refusal) => refusal,
+    }
+}
+
+/// The site that came of an edit or a read, or the one to give when it is refused.
+fn edited(outcome: Outcome<Site>, if_refused: Site) -> Edited {
+    match outcome {
+        Ok(site) => Edited { site, answer: done(&[]) },
+        Err(answer) => Edited { site: if_refused, answer },
+    }
+}
+
+/// Lent bytes to read. A pointer with length 0 is not looked at.
+unsafe fn lent<'a>(start: *const u8, len: usize) -> &'a [u8] {
+    if len == 0 {
+        return &[];
+    }
+    std::slice::from_raw_parts(start, len)
+}
+
+/// Lent bytes to write.
+unsafe fn lent_out<'a>(start: *mut u8, len: usize) -> &'a mut [u8] {
+    if len == 0 {
+        return &mut [];
+    }
+    std::slice::from_raw_parts_mut(start, len)
+}
+
+#[no_mangle]
+pub extern "C" fn second_fault(site: Site) -> Answer {
+    answer(site.sound(), |()| [])
+}
+
+#[no_mangle]
+pub extern "C" fn second_clash(site: Site, a: u16, b: u16) -> Answer {
+    answer(site.sound(), |()| [site.clash(a as usize, b as usize) as u64])
+}
+
+#[no_mangle]
+pub extern "C" fn second_set_load(site: Site, cell: u16, load: u16) -> Edited {
+    edited(site.with_load(cell as usize, load), site)
+}
+
+#[no_mangle]
+pub extern "C" fn second_set_reach(site: Site, from: u16, to: u16) -> Edited {
+    edited(site.with_reach(from as usize, to as usize, true), site)
+}
+
+#[no_mangle]
+pub extern "C" fn second_clear_reach(site: Site, from: u16, to: u16) -> Edited {
+    edited(site.with_reach(from as usize, to as usize, false), site)
+}
+
+#[no_mangle]
+pub extern "C" fn second_load_test(site: Site) -> Answer {
+    answer(judge::load_test(&site), |over| match over {
+        None => [0, 0],
+        Some((cell, excess)) => [cell as u64, excess],
+    })
+}
+
+#[no_mangle]
+pub extern "C" fn second_chain(site: Site) -> Answer {
+    answer(judge::chain(&site), |gap| match gap {
+        None => [0, 0, 0],
+        Some((a, b, c)) => [a as u64, b as u64, c as u64],
+    })
+}
+
+/// # Safety
+/// `table` has `len` bytes.
+#[no_mangle]
+pub unsafe extern "C" fn second_plan(site: Site, table: *mut u8, len: usize) -> Answer {
+    answer(planner::plan(&site, lent_out(table, len)), |()| [])
+}
+
+/// # Safety
+/// `table` has `len` bytes.
+#[no_mangle]
+pub unsafe extern "C" fn second_check(site: Site, table: *const u8, len: usize) -> Answer {
+    answer(checker::check(&site, lent(table, len)), |()| [])
+}
+
+#[no_mangle]
+pub extern "C" fn second_share(slots: u16, burst: u16, period: u16) -> Answer {
+    let share = share::share(Slots(slots as u64), Fragments(burst as u64), Slots(period as u64));
+    answer(share, |s| [s.share.0, s.queue.0, s.delay.0])
+}
+
+/// # Safety
+/// `bytes` has `len` bytes.
+#[no_mangle]
+pub unsafe extern "C" fn second_read_site(bytes: *const u8, len: usize) -> Edited {
+    edited(files::read_site(lent(bytes, len)), Site::default())
+}
+
+/// # Safety
+/// `out` has `len` bytes.
+#[no_mangle]
+pub unsafe extern "C" fn second_write_site(site: Site, out: *mut u8, len: usize) -> Answer {
+    answer(files::write_site(&site, lent_out(out, len)), |written| [written as u64])
+}
+
+/// # Safety
+/// `bytes` has `len` bytes, `table` has `table_len`, and they do not overlap.
+#[no_mangle]
+pub unsafe extern "C" fn second_read_plan(bytes: *const u8, len: usize, table: *mut u8, table_len: usize) -> PlanRead {
+    let outcome = files::read_plan(lent(bytes, len), lent_out(table, table_len));
+    let Edited { site, answer } = edited(outcome, Site::default());
+    PlanRead { cells: site.cells, slots: site.slots, channels: site.channels, answer }
+}
+
+/// # Safety
+/// `table` has `table_len` bytes, `out` has `len`, and they do not overlap.
+#[no_mangle]
+pub unsafe extern "C" fn second_write_plan(
+    site: Site,
+    table: *const u8,
+    table_len: usize,
+    out: *mut u8,
+    len: usize,
+) -> Answer {
+    let outcome = files::write_plan(&site, lent(table, table_len), lent_out(out, len));
+    answer(outcome, |written| [written as u64])
+}

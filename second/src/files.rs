@@ -1,0 +1,175 @@
+//! "House files": the site file (kinds 1, 2, 3) and the plan file (kinds 1, 4), read and written. A record is its
+//! length (two bytes, counting what follows them), its kind (two bytes) and its body; numbers are little-endian.
+
+use crate::answer::{refuse, Outcome};
+use crate::planner::{table_fits, RESERVED};
+use crate::site::{sizes_in_range, Site};
+
+const HEAD: u16 = 1;
+const LOADS: u16 = 2;
+const REACH: u16 = 3;
+const PLAN: u16 = 4;
+
+/// A record that has the kind and the length that are due, and lies within the file.
+struct Record<'a> {
+    /// The offset of its first byte, which every refusal of it carries.
+    at: usize,
+    body: &'a [u8],
+    /// The offset after its last byte.
+    end: usize,
+}
+
+impl Record<'_> {
+    fn refuse<T>(&self, number: u64) -> Outcome<T> {
+        refuse(number, &[self.at as u64])
+    }
+}
+
+fn word(bytes: &[u8], at: usize) -> u16 {
+    u16::from_le_bytes([bytes[at], bytes[at + 1]])
+}
+
+/// Opens the record at an offset: 8 for its first four bytes, 9, 10, then 8 for its end.
+fn open(bytes: &[u8], at: usize, kind: u16, right: impl Fn(usize) -> bool) -> Outcome<Record<'_>> {
+    let offset = at as u64;
+    if bytes.len() - at < 4 {
+        return refuse(8, &[offset]);
+    }
+    let length = word(bytes, at) as usize;
+    if word(bytes, at + 2) != kind {
+        return refuse(9, &[offset]);
+    }
+    if !right(length) {
+        return refuse(10, &[offset]);
+    }
+    let end = at + 2 + length;
+    if end > bytes.len() {
+        return refuse(8, &[offset]);
+    }
+    Ok(Record { at, body: &bytes[at + 4..end], end })
+}
+
+/// Kind 1. The site that comes of it has no loads and no reach.
+fn read_head(bytes: &[u8]) -> Outcome<(Site, usize)> {
+    let head = open(bytes, 0, HEAD, |length| length == 8)?;
+    let (cells, slots, channels) = (word(head.body, 0), word(head.body, 2), word(head.body, 4));
+    if sizes_in_range(cells as usize, slots as usize, channels as usize).is_err() {
+        return head.refuse(1);
+    }
+    Ok((Site::sized(cells as usize, slots as usize, channels as usize), head.end))
+}
+
+/// Refusal 12, with the offset of the first extra byte.
+fn nothing_after(bytes: &[u8], end: usize) -> Outcome<()> {
+    if end < bytes.len() {
+        return refuse(12, &[end as u64]);
+    }
+    Ok(())
+}
+
+/// Reads a site file.
+pub fn read_site(bytes: &[u8]) -> Outcome<Site> {
+    let (mut site, head_end) = read_head(bytes)?;
+    let loads = open(bytes, head_end, LOADS, |length| length == 2 + 2 * site.count())?;
+    for cell in 1..=site.count() {
+        site.loads[cell - 1] = word(loads.body, 2 * (cell - 1));
+    }
+    let reach = open(bytes, loads.end, REACH, |length| length >= 2 && length % 2 == 0)?;
+    let mut before = None;
+    for pair in reach.body.chunks_exact(2) {
+        let (from, to) = (pair[0] as usize, pair[1] as usize);
+        site.pair_in_order(from, to, reach.at as u64)?;
+        // `None` is below every pair.
+        if before >= Some((from, to)) {
+            return reach.refuse(11);
+        }
+        before = Some((from, to));
+        site.reach[from - 1] |= 1 << (to - 1);
+    }
+    nothing_after(bytes, reach.end)?;
+    Ok(site)
+}
+
+fn push_word(file: &mut Vec<u8>, number: usize) {
+    file.extend_from_slice(&(number as u16).to_le_bytes());
+}
+
+fn push_record(file: &mut Vec<u8>, kind: u16, body: &[u8]) {
+    push_word(file, 2 + body.len());
+    push_word(file, kind as usize);
+    file.extend_from_slice(body);
+}
+
+fn push_head(file: &mut Vec<u8>, site: &Site) {
+    let mut body = Vec::new();
+    for number in [site.cells, site.slots, site.channels] {
+        push_word(&mut body, number as usize);
+    }
+    push_record(file, HEAD, &body);
+}
+
+/// Copies a finished file into the lent output, or refuses with 13 and the bytes needed.
+fn deliver(file: &[u8], out: &mut [u8]) -> Outcome<usize> {
+    if out.len() < file.len() {
+        return refuse(13, &[file.len() as u64]);
+    }
+    out[..file.len()].copy_from_slice(file);
+    Ok(file.len())
+}
+
+/// Writes a site file and gives the number of bytes written.
+pub fn write_site(site: &Site, out: &mut [u8]) -> Outcome<usize> {
+    site.sound()?;
+    let (mut loads, mut pairs) = (Vec::new(), Vec::new());
+    for from in 1..=site.count() {
+        push_word(&mut loads, site.load(from) as usize);
+        for to in 1..=site.count() {
+            if site.reaches(from, to) {
+                pairs.extend_from_slice(&[from as u8, to as u8]);
+            }
+        }
+    }
+    let mut file = Vec::new();
+    push_head(&mut file, site);
+    push_record(&mut file, LOADS, &loads);
+    push_record(&mut file, REACH, &pairs);
+    deliver(&file, out)
+}
+
+/// Is bit k, in byte k/8 with weight 2 to the power k mod 8, set?
+fn bit(bytes: &[u8], k: usize) -> bool {
+    bytes[k / 8] >> (k % 8) & 1 == 1
+}
+
+/// Reads a plan file into the lent table and gives the three sizes, as a site with no loads and no reach.
+pub fn read_plan(bytes: &[u8], table: &mut [u8]) -> Outcome<Site> {
+    let (site, head_end) = read_head(bytes)?;
+    let bits = site.table_len();
+    let plan = open(bytes, head_end, PLAN, |length| length == 2 + bits.div_ceil(8))?;
+    if (bits..8 * plan.body.len()).any(|k| bit(plan.body, k)) {
+        return plan.refuse(14);
+    }
+    nothing_after(bytes, plan.end)?;
+    table_fits(&site, table.len())?;
+    for (k, byte) in table[..bits].iter_mut().enumerate() {
+        *byte = bit(plan.body, k) as u8;
+    }
+    Ok(site)
+}
+
+/// Writes the reservations of a table as a plan file and gives the number of bytes written.
+pub fn write_plan(site: &Site, table: &[u8], out: &mut [u8]) -> Outcome<usize> {
+    site.sound()?;
+    table_fits(site, table.len())?;
+    let bits = site.table_len();
+    let mut body = vec![0; bits.div_ceil(8)];
+    for (k, &byte) in table[..bits].iter().enumerate() {
+        if byte == RESERVED {
+            body[k / 8] |= 1 << (k % 8);
+        }
+    }
+    let mut file = Vec::new();
+    push_head(&mut file, site);
+    push_record(&mut file, PLAN, &body);
+    deliver(&file, out)
+}

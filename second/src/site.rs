@@ -1,0 +1,183 @@
+//! "The site": the record and its faults, the clash rule and the three edits. Cells are numbered from 1.
+
+use crate::answer::{refuse, Outcome};
+
+pub const MOST_CELLS: usize = 32;
+pub const MOST_SLOTS: usize = 128;
+pub const MOST_CHANNELS: usize = 16;
+
+/// One site record: all 32 loads and all 32 reach rows, used or not. Bit b-1 of row a-1 means that cell a reaches b.
+#[repr(C)]
+#[derive(Clone, Copy, Debug, Default, PartialEq, Eq)]
+pub struct Site {
+    pub cells: u16,
+    pub slots: u16,
+    pub channels: u16,
+    pub loads: [u16; 32],
+    pub reach: [u32; 32],
+}
+
+impl Site {
+    /// A site with no loads and no reach.
+    pub fn sized(cells: usize, slots: usize, channels: usize) -> Site {
+        let (cells, slots, channels) = (cells as u16, slots as u16, channels as u16);
+        Site { cells, slots, channels, ..Site::default() }
+    }
+
+    /// I, the number of cells.
+    pub fn count(&self) -> usize {
+        self.cells as usize
+    }
+
+    /// N, the number of positions: channels times slots.
+    pub fn positions(&self) -> usize {
+        self.slots as usize * self.channels as usize
+    }
+
+    /// The bytes of a table, one for each cell and position.
+    pub fn table_len(&self) -> usize {
+        self.count() * self.positions()
+    }
+
+    pub fn load(&self, cell: usize) -> u64 {
+        self.loads[cell - 1] as u64
+    }
+
+    pub fn has(&self, cell: usize) -> bool {
+        1 <= cell && cell <= self.count()
+    }
+
+    pub fn reaches(&self, from: usize, to: usize) -> bool {
+        self.reach[from - 1] >> (to - 1) & 1 == 1
+    }
+
+    /// "Two different cells clash when either reaches the other." Cells that the site does not have never do.
+    pub fn clash(&self, a: usize, b: usize) -> bool {
+        self.has(a) && self.has(b) && a != b && (self.reaches(a, b) || self.reaches(b, a))
+    }
+
+    /// The record's own faults: 1, then 2 with the lowest cell, then 3 with the lowest row.
+    pub fn sound(&self) -> Outcome<()> {
+        sizes_in_range(self.count(), self.slots as usize, self.channels as usize)?;
+        for cell in 1..=MOST_CELLS {
+            if !self.has(cell) && self.load(cell) != 0 {
+                return refuse(2, &[cell as u64]);
+            }
+        }
+        for from in 1..=MOST_CELLS {
+            for to in 1..=MOST_CELLS {
+                let allowed = self.has(from) && self.has(to) && from != to;
+                if self.reaches(from, to) && !allowed {
+                    return refuse(3, &[from as u64]);
+                }
+            }
+        }
+        Ok(())
+    }
+
+    /// The site with one load set.
+    pub fn with_load(&self, cell: usize, load: u16) -> Outcome<Site> {
+        self.sound()?;
+        if !self.has(cell) {
+            return refuse(2, &[cell as u64]);
+        }
+        let mut edited = *self;
+        edited.loads[cell - 1] = load;
+        Ok(edited)
+    }
+
+    /// The site with one reach set, or cleared.
+    pub fn with_reach(&self, from: usize, to: usize, set: bool) -> Outcome<Site> {
+        self.sound()?;
+        self.pair_in_order(from, to, from as u64)?;
+        let mut edited = *self;
+        let bit = 1 << (to - 1);
+        if set {
+            edited.reach[from - 1] |= bit;
+        } else {
+            edited.reach[from - 1] &= !bit;
+        }
+        Ok(edited)
+    }
+
+    /// Refusal 3, with the value given, for a pair that names a cell outside 1..I, or one cell twice.
+    pub fn pair_in_order(&self, from: usize, to: usize, value: u64) -> Outcome<()> {
+        if !self.has(from) || !self.has(to) || from == to {
+            return refuse(3, &[value]);
+        }
+        Ok(())
+    }
+}
+
+/// Refusal 1: I, T or F out of range.
+pub fn sizes_in_range(cells: usize, slots: usize, channels: usize) -> Outcome<()> {
+    let fine = |number: usize, most: usize| 1 <= number && number <= most;
+    if fine(cells, MOST_CELLS) && fine(slots, MOST_SLOTS) && fine(channels, MOST_CHANNELS) {
+        Ok(())
+    } else {
+        refuse(1, &[])
+    }
+}
+
+#[cfg(test)]
+mod tests {
+    use super::*;
+
+    fn three() -> Site {
+        Site::sized(3, 3, 2)
+    }
+
+    #[test]
+    fn sizes() {
+        for (cells, slots, channels, fine) in [
+            (1, 1, 1, true),
+            (32, 128, 16, true),
+            (0, 1, 1, false),
+            (1, 0, 1, false),
+            (1, 1, 0, false),
+            (33, 128, 16, false),
+            (32, 129, 16, false),
+            (32, 128, 17, false),
+        ] {
+            let answer = Site::sized(cells, slots, channels).sound();
+            assert_eq!(answer, if fine { Ok(()) } else { refuse(1, &[]) });
+        }
+    }
+
+    #[test]
+    fn faults_in_their_order() {
+        let mut site = three();
+        site.reach[4] = 1;
+        site.reach[1] = 1 << 1;
+        assert_eq!(site.sound(), refuse(3, &[2]));
+        site.reach[0] = 1 << 3;
+        assert_eq!(site.sound(), refuse(3, &[1]));
+        site.loads[31] = 1;
+        site.loads[3] = 1;
+        assert_eq!(site.sound(), refuse(2, &[4]));
+        site.slots = 0;
+        assert_eq!(site.sound(), refuse(1, &[]));
+    }
+
+    #[test]
+    fn clash_is_two_sided() {
+        let site = three().with_reach(3, 1, true).unwrap();
+        assert!(site.clash(1, 3) && site.clash(3, 1));
+        assert!(!site.clash(1, 2) && !site.clash(1, 1) && !site.clash(0, 1) && !site.clash(1, 40));
+    }
+
+    #[test]
+    fn edits() {
+        let site = three();
+        assert_eq!(site.with_load(3, 65535).unwrap().loads[2], 65535);
+        assert_eq!(site.with_load(0, 1), refuse(2, &[0]));
+        assert_eq!(site.with_load(4, 1), refuse(2, &[4]));
+        assert_eq!(site.with_reach(2, 4, true), refuse(3, &[2]));
+        assert_eq!(site.with_reach(40, 2, false), refuse(3, &[40]));
+        assert_eq!(site.with_reach(2, 2, false), refuse(3, &[2]));
+        let set = site.with_reach(2, 3, true).unwrap();
+        assert_eq!(set.reach[1], 0b100);
+        assert_eq!(set.with_reach(2, 3, false), Ok(site));
+        assert_eq!(site.with_reach(2, 3, false), Ok(site));
+    }
+}

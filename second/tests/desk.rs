@@ -1,0 +1,112 @@
+//! Document 01's desk examples P1 to P12, each with the verdicts and the plan or check that the document gives.
+
+use second::answer::{refuse, Outcome};
+use second::checker::check;
+use second::judge::{chain, load_test};
+use second::planner::plan;
+use second::site::Site;
+
+/// A site from its sizes, its loads and its pairs "from, to".
+fn site(slots: usize, channels: usize, loads: &[u16], pairs: &[(usize, usize)]) -> Site {
+    let mut site = Site::sized(loads.len(), slots, channels);
+    site.loads[..loads.len()].copy_from_slice(loads);
+    for &(from, to) in pairs {
+        site = site.with_reach(from, to, true).unwrap();
+    }
+    site
+}
+
+/// A table from its rows, a digit for each position.
+fn table(rows: &str) -> Vec<u8> {
+    rows.bytes().filter(u8::is_ascii_digit).map(|digit| digit - b'0').collect()
+}
+
+fn planned(site: &Site) -> Outcome<Vec<u8>> {
+    let mut table = vec![9; site.table_len()];
+    match plan(site, &mut table) {
+        Ok(()) => Ok(table),
+        Err(refusal) => {
+            assert!(table.iter().all(|&byte| byte == 0), "refusal 5 leaves the first IN bytes 0");
+            Err(refusal)
+        }
+    }
+}
+
+fn p1(loads: &[u16]) -> Site {
+    site(3, 2, loads, &[(2, 1), (2, 3)])
+}
+
+fn p4() -> Site {
+    site(2, 1, &[1, 1, 1, 1], &[(1, 3), (2, 4), (3, 4)])
+}
+
+fn p6(loads: &[u16]) -> Site {
+    site(2, 1, loads, &[(1, 4), (2, 3), (3, 5), (4, 5)])
+}
+
+fn alone(load: u16) -> Site {
+    site(1, 1, &[load], &[])
+}
+
+#[test]
+fn p1_is_planned() {
+    let site = p1(&[5, 1, 4]);
+    assert_eq!(planned(&site), Ok(table("111110 222221 111102")));
+    assert_eq!(check(&site, &table("111110 222221 111102")), Ok(()));
+    assert_eq!(load_test(&site), Ok(None));
+    assert_eq!(chain(&site), Ok(None));
+}
+
+#[test]
+fn p2_is_over() {
+    let site = p1(&[5, 2, 4]);
+    assert_eq!(load_test(&site), Ok(Some((2, 1))));
+    assert_eq!(planned(&site), refuse(5, &[2, 1]));
+}
+
+#[test]
+fn p3_is_planned_though_over_and_not_chained() {
+    let site = site(2, 1, &[1, 1, 1], &[(1, 3), (2, 3)]);
+    assert_eq!(planned(&site), Ok(table("10 10 21")));
+    assert_eq!(load_test(&site), Ok(Some((3, 1))));
+    assert_eq!(chain(&site), Ok(Some((1, 2, 3))));
+}
+
+#[test]
+fn p4_and_p5_greedy_fails_where_a_table_exists() {
+    assert_eq!(planned(&p4()), refuse(5, &[4, 1]));
+    assert_eq!(check(&p4(), &table("10 01 01 10")), Ok(()));
+}
+
+#[test]
+fn p6_and_p7_less_load_does_not_help() {
+    let rows = planned(&p6(&[1, 1, 1, 1, 1])).unwrap();
+    assert_eq!(rows[8..], [1, 2]);
+    assert_eq!(planned(&p6(&[1, 0, 1, 1, 1])), refuse(5, &[5, 1]));
+}
+
+#[test]
+fn p8_and_p9_are_refused_by_the_checker() {
+    let site = p1(&[5, 1, 4]);
+    assert_eq!(check(&site, &table("111110 000001 111110")), refuse(7, &[3, 5]));
+    assert_eq!(check(&site, &table("111110 000001 001111")), refuse(6, &[5, 2, 3]));
+}
+
+#[test]
+fn p10_to_p12_one_cell() {
+    assert_eq!(planned(&alone(0)), Ok(table("0")));
+    assert_eq!(planned(&alone(1)), Ok(table("1")));
+    assert_eq!(planned(&alone(2)), refuse(5, &[1, 1]));
+}
+
+#[test]
+fn tables_at_the_limit() {
+    let largest = Site::sized(32, 128, 16);
+    let mut table = vec![7; 65_537];
+    assert_eq!(plan(&largest, &mut table[..65_535]), refuse(4, &[]));
+    assert!(table.iter().all(|&byte| byte == 7));
+    assert_eq!(plan(&largest, &mut table), Ok(()));
+    assert_eq!(table[65_535..], [0, 7]);
+    assert_eq!(check(&largest, &table[..65_535]), refuse(4, &[]));
+    assert_eq!(check(&largest, &table[..65_536]), Ok(()));
+}
