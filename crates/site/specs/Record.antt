@@ -25,6 +25,10 @@ rowOf s k = getD (s .reach) k 0
 abbrev pub positions : Site → ℕ
 positions s = s .slots * s .channels
 
+-- IN: "A table has one byte per cell and position"
+abbrev pub size : Site → ℕ
+size s = s .cells * positions s
+
 -- from 1 to the most
 unfoldable pub upTo : ℕ → ℕ → Bool
 upTo most x = leb 1 x && leb x most

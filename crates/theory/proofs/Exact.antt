@@ -1,5 +1,6 @@
 -- The greedy planner, and where the load test is exact. Each law is for any choice of cells, `who`, that leaves out no loaded one.
 --     greedy-fair        the greedy row is fair, so all of `Run` holds of it: planned-valid, planned-size, test-plans
+--     valid-agree        validity looks at a table only within its cells and positions
 --     demand-three       a problem in the class that asks no more than one with a valid table passes the load test, and is planned
 --     class-exact        in the class, the load test holds if and only if the greedy planner plans
 --     class-exists       and if and only if some valid table exists
@@ -17,7 +18,8 @@ use lib.ListN.{length}
 use borrow.Author.Tests.{lt-ltb}
 use Rattle.laws.specs.Choice.{pick}
 use Rattle.laws.proofs.Choice.{cases, order}
-use Rattle.laws.proofs.Sums.{sum-le}
+use Rattle.laws.specs.Sum.{bit}
+use Rattle.laws.proofs.Sums.{sum-le, sum-eq}
 use Rattle.theory.specs.Net.{Net, Reserved, Valid, Eases, Covers, everyone, loaded, Class, Chained, LoadTest, room}
 use Rattle.theory.specs.Full.{Mutual, weight, around}
 use Rattle.theory.specs.Greedy.{reserved, row, planned, greedy, Plans}
@@ -42,6 +44,14 @@ planned-size s = run-size s (row s) (greedy-fair s)
 -- where the load test holds the planner plans, on any problem (000, Theorem 3)
 pub test-plans : (s : Net) (who : ℕ → Bool) → Covers s who → LoadTest s who → Plans s
 test-plans s = test-runs s (row s) (greedy-fair s)
+
+-- validity looks at a table only within its cells and positions
+pub valid-agree : (s : Net) (res sat : Reserved) → ((i k : ℕ) → i < s .cells → k < s .width → sat i k ≡ res i k) → Valid s res → Valid s sat
+valid-agree s res sat e v = record {
+  apart = λ a c k l m w h p q. v .apart a c k l m w h (sym (e a k (omega arith) w) ∙ p) (sym (e c k m w) ∙ q);
+  exact = λ i l. sum-eq (λ k. bit (sat i k)) (λ k. bit (res i k)) (s .width) (λ k w. ap bit (e i k l w)) ∙ v .exact i l;
+  allowed = λ i k l w h. v .allowed i k l w (sym (e i k l w) ∙ h);
+}
 
 -- ---- who
 

@@ -1,0 +1,6 @@
+pub mod Marked
+pub mod Cells
+pub mod Answer
+pub mod Given
+pub mod Meaning
+pub mod Desk

@@ -1,0 +1,165 @@
+-- `planner::plan_from` meets its contract. At each head of the loop the run of the first i cells has given the first i rows of the table, and
+-- the bytes past the site's are as they were. Assumes nothing.
+use mathlib.Core.Path.{_≡_, refl, sym, ap, _∙_}
+use mathlib.Core.List.{List}
+use Prim.Native.Nat.{ℕ, _+_, _*_, _-_, _≤_}
+use native.Mathlib.Omega.{arith}
+use borrow.Author.Needs.{needs}
+use lib.ListN.{length, getD, take, drop}
+use lib.Seq.{length-take-le, length-front}
+use Rattle.laws.proofs.Grid.{row-before}
+use Rattle.theory.specs.Greedy.{run, row, planned}
+use Rattle.planner.specs.Plan.{answerOf}
+use Rattle.planner.proofs.Cells.{more-long, more-drop, more-planned, more-short, end-done, end-short}
+use Rattle.planner.proofs.plan_from.Statement.{statement}
+use Rattle.site.specs.Reach.{netIn}
+use Rattle.planner.proofs.plan_from.Tie as tie
+
+abbrev Inv-loop : tie.InvT-loop
+Inv-loop table₀ first cells slots channels loads reach i₀ table i =
+    (i ≤ cells)
+    × (length table ≡ length table₀)
+    × (run (netIn cells (slots * channels) loads reach) (row (netIn cells (slots * channels) loads reach)) i ≡ planned (take (i * (slots * channels)) table))
+    × (drop (cells * (slots * channels)) table ≡ drop (cells * (slots * channels)) table₀)
+
+abbrev μ-loop : tie.MeasureT-loop
+μ-loop table₀ first cells slots channels loads reach i₀ table i = cells - i
+
+-- the arguments, the size of a row, and of the whole site; row i lies in the table
+abbrev start : tie.In-loop Inv-loop μ-loop → tie.Start Inv-loop μ-loop
+start c = c .before .before .before
+
+abbrev size : tie.In-loop Inv-loop μ-loop → ℕ
+size c = start c .args .slots * start c .args .channels
+
+abbrev whole : tie.In-loop Inv-loop μ-loop → ℕ
+whole c = start c .args .cells * size c
+
+abbrev loads : tie.In-loop Inv-loop μ-loop → List ℕ
+loads c = start c .args .loads .now
+
+abbrev reach : tie.In-loop Inv-loop μ-loop → List ℕ
+reach c = start c .args .reach .now
+
+inside : (c : tie.In-loop Inv-loop μ-loop) → c .before .loop .i * size c + size c ≤ whole c
+inside c = row-before (size c) (c .loop-test .taken)
+
+fits : (c : tie.In-loop Inv-loop μ-loop) → c .before .loop .i * size c + size c ≤ length (c .before .loop .table)
+fits c = omega (arith, inside c)
+
+-- the row is planned
+module _ (c : tie.After-plan-row Inv-loop μ-loop) where
+  abbrev at : tie.In-loop Inv-loop μ-loop
+  at = c .before .before .before
+
+  own : c .before .before .load-of .result ≡ getD (loads at) (at .before .loop .i) 0
+  own = c .before .before .load-of .ensures
+
+  long : length (c .plan-row .last .0) ≡ length (at .before .loop .table)
+  long = more-long (start at .args .cells) (size at) (loads at) (reach at) (at .before .loop .i) (at .before .loop .table) (fits at) own (c .plan-row .ensures .0)
+
+  kept : drop (whole at) (c .plan-row .last .0) ≡ drop (whole at) (start at .args .table .now)
+  kept =
+      more-drop (start at .args .cells) (size at) (loads at) (reach at) (at .before .loop .i) (at .before .loop .table) (fits at) own (c .plan-row .ensures .0) (whole at) (inside at)
+      ∙ at .before .loop .inv .3
+
+loop-holds : tie.Need-loop-holds Inv-loop μ-loop
+loop-holds c = (omega arith, refl, c .before .pre .1 .1, refl)
+
+load-of-requires : tie.Need-load-of-requires Inv-loop μ-loop
+load-of-requires c κs = omega arith
+
+cast-load : tie.Need-cast-load Inv-loop μ-loop
+cast-load c = search needs
+
+plan-row-requires : tie.Need-plan-row-requires Inv-loop μ-loop
+plan-row-requires c κs = fits (c .before .before)
+
+mul-end : tie.Need-mul-end Inv-loop μ-loop
+mul-end c = omega (arith, inside (c .before .before .before .before .before .before), start (c .before .before .before .before .before .before))
+
+mul-end-2 : tie.Need-mul-end-2 Inv-loop μ-loop
+mul-end-2 c = omega (arith, start (c .before .before .before .before .before .before))
+
+slice-relend-prefix-clear : tie.Need-slice-relend-prefix-clear Inv-loop μ-loop
+slice-relend-prefix-clear c = omega (arith, long (c .before .before .before), c .before .before .before .before .before .before .before .loop .inv .1, start (c .before .before .before .before .before .before))
+
+slice-aggregate-clear : tie.Need-slice-aggregate-clear Inv-loop μ-loop
+slice-aggregate-clear c =
+    sym (length-take-le _ (c .before .before .before .before .plan-row .last .0) (slice-relend-prefix-clear (c .before)))
+
+clear-requires : tie.Need-clear-requires Inv-loop μ-loop
+clear-requires c κs = tt
+
+add-cell : tie.Need-add-cell Inv-loop μ-loop
+add-cell c = omega arith
+
+same-length : tie.Need-same-length Inv-loop μ-loop
+same-length c =
+    let planned′ = c .before .before .before .before .before .before .before in
+    length-front (planned′ .plan-row .last .0) (c .before .before .clear .last .0) (whole (at planned′)) (c .before .before .clear .kept .0)
+    ∙ long planned′
+    ∙ at planned′ .before .loop .inv .1
+
+returns : tie.Need-returns Inv-loop μ-loop
+returns c =
+    let branch = c .before .before .before .before in
+    let now′ = branch .before .before .before in
+    let in′ = at now′ in
+    let e = more-short (start in′ .args .cells) (size in′) (loads in′) (reach in′) (in′ .before .loop .i) (in′ .before .loop .table) (fits in′) (own now′) (now′ .plan-row .ensures .0) (in′ .before .loop .inv .2) (now′ .plan-row .ensures .1) (branch .if1 .taken) (start in′ .args .cells) (in′ .loop-test .taken) in (
+      sym (ap answerOf e),
+      end-short (whole in′) (c .before .before .clear .last .0) (now′ .plan-row .last .0) (start in′ .args .table .now) e (slice-relend-prefix-clear branch) (c .before .before .clear .ensures) (kept now′),
+    )
+
+add-i : tie.Need-add-i Inv-loop μ-loop
+add-i c = omega arith
+
+loop-less : tie.Need-loop-less Inv-loop μ-loop
+loop-less c = omega arith
+
+loop-again : tie.Need-loop-again Inv-loop μ-loop
+loop-again c =
+    let now′ = c .before .before .before in
+    let in′ = at now′ in
+    let none : now′ .plan-row .result ≡ 0 = omega arith in (
+      omega arith,
+      long now′ ∙ in′ .before .loop .inv .1,
+      more-planned (start in′ .args .cells) (size in′) (loads in′) (reach in′) (in′ .before .loop .i) (in′ .before .loop .table) (fits in′) (own now′) (now′ .plan-row .ensures .0) (in′ .before .loop .inv .2) (now′ .plan-row .ensures .1) none,
+      kept now′,
+    )
+
+same-length-2 : tie.Need-same-length-2 Inv-loop μ-loop
+same-length-2 c = c .before .loop .inv .1
+
+returns-2 : tie.Need-returns-2 Inv-loop μ-loop
+returns-2 c =
+    let args = c .before .before .before .args in
+    let last : c .before .loop .i ≡ args .cells = omega arith in
+    let e = rw last at (c .before .loop .inv .2) in (
+      sym (ap answerOf e),
+      end-done (args .cells * (args .slots * args .channels)) (c .before .loop .table) (args .table .now) e (c .before .loop .inv .3),
+    )
+
+pub plan-from-spec : {M : Type 1} → statement M
+plan-from-spec =
+    tie.close
+    (tie.spec
+    Inv-loop
+    μ-loop
+    loop-holds
+    load-of-requires
+    cast-load
+    plan-row-requires
+    mul-end
+    mul-end-2
+    slice-relend-prefix-clear
+    slice-aggregate-clear
+    clear-requires
+    add-cell
+    same-length
+    returns
+    add-i
+    loop-less
+    loop-again
+    same-length-2
+    returns-2)
