@@ -1,0 +1,96 @@
+-- What the two calls say: Holds and Chained exactly where a record without fault has the property; where a cell or a triple is named, it is the first, by the theory's laws.
+-- Assumes nothing.
+use Prim.Native.Nat.{ℕ, _+_}
+use mathlib.Core.Logic.{_↔_}
+use mathlib.Core.Path.{_≡_, refl, sym, ap, _∙_}
+use native.Mathlib.Omega.{arith}
+use Rattle.laws.proofs.Choice.{went-first}
+use Rattle.theory.specs.Net.{LoadTest, Chained}
+use Rattle.theory.specs.Verdict.{LoadVerdict, holds, over, loadVerdict, ChainVerdict, chained, broken, chainVerdict}
+use Rattle.theory.proofs.LoadLaws.{load-holds, FirstOver, load-names}
+use Rattle.theory.proofs.ChainLaws.{chain-holds, FirstBreaks, chain-names}
+use Rattle.site.specs.Record.{isFine, faultOf}
+use Rattle.site.specs.Reach.{netOf}
+use Rattle.site.specs.declared.Site.{Site}
+use Rattle.site.specs.declared.Fault.the-variants.{Fine}
+use Rattle.site.proofs.Faults.{fine-is}
+use Rattle.judges.specs.Judges.{counted, loadOf, loadAnswer, chainOf, chainAnswer}
+use Rattle.judges.specs.declared.LoadAnswer.{LoadAnswer}
+use Rattle.judges.specs.declared.LoadAnswer.the-variants as load
+use Rattle.judges.specs.declared.ChainAnswer.{ChainAnswer}
+use Rattle.judges.specs.declared.ChainAnswer.the-variants as chain
+
+-- the answer that a verdict was made into
+load-is-holds : (v : LoadVerdict) → loadOf v ≡ load.Holds → v ≡ holds
+load-is-holds holds e = refl
+load-is-holds (over i m) e = let z : _≡_ {A = ℕ} 0 1 = cc in absurd (omega arith)
+
+load-is-over : (v : LoadVerdict) (i m : ℕ) → loadOf v ≡ load.Over (i + 1) m → v ≡ over i m
+load-is-over holds i m e = let z : _≡_ {A = ℕ} 0 1 = cc in absurd (omega arith)
+load-is-over (over j n) i m e =
+    let p : j + 1 ≡ i + 1 = cc in
+    let q : n ≡ m = cc in
+    let r : j ≡ i = omega arith in
+    rw (r, q)
+
+chain-is-chained : (v : ChainVerdict) → chainOf v ≡ chain.Chained → v ≡ chained
+chain-is-chained chained e = refl
+chain-is-chained (broken a b c) e = let z : _≡_ {A = ℕ} 0 1 = cc in absurd (omega arith)
+
+chain-is-broken : (v : ChainVerdict) (a b c : ℕ) → chainOf v ≡ chain.Broken (a + 1) (b + 1) (c + 1) → v ≡ broken a b c
+chain-is-broken chained a b c e = let z : _≡_ {A = ℕ} 0 1 = cc in absurd (omega arith)
+chain-is-broken (broken x y z) a b c e =
+    let p : x + 1 ≡ a + 1 = cc in
+    let q : y + 1 ≡ b + 1 = cc in
+    let r : z + 1 ≡ c + 1 = cc in
+    let p′ : x ≡ a = omega arith in
+    let q′ : y ≡ b = omega arith in
+    let r′ : z ≡ c = omega arith in
+    rw (p′, q′, r′)
+
+-- an accepted record gets its verdict, and what gets a verdict is accepted
+pub load-fine : (s : Site) → faultOf s ≡ Fine → loadAnswer s ≡ loadOf (loadVerdict (netOf s) (counted s))
+unfolding loadAnswer
+load-fine s fine = rw fine
+
+pub load-accepted : (s : Site) (a : LoadAnswer) → (load.Refused (faultOf s) ≡ a → ⊥) → loadAnswer s ≡ a → faultOf s ≡ Fine
+unfolding loadAnswer
+load-accepted s a n e = fine-is (faultOf s) (went-first (isFine (faultOf s)) _ _ n e)
+
+pub chain-fine : (s : Site) → faultOf s ≡ Fine → chainAnswer s ≡ chainOf (chainVerdict (netOf s) (counted s))
+unfolding chainAnswer
+chain-fine s fine = rw fine
+
+pub chain-accepted : (s : Site) (a : ChainAnswer) → (chain.Refused (faultOf s) ≡ a → ⊥) → chainAnswer s ≡ a → faultOf s ≡ Fine
+unfolding chainAnswer
+chain-accepted s a n e = fine-is (faultOf s) (went-first (isFine (faultOf s)) _ _ n e)
+
+-- "The load test holds when, for each cell, its load plus the loads of its lower-numbered clashing cells is at most N"
+pub holds-means : (s : Site) → loadAnswer s ≡ load.Holds ↔ ((faultOf s ≡ Fine) × LoadTest (netOf s) (counted s))
+holds-means s = (
+  λ e.
+      let f = load-accepted s load.Holds (λ q. let z : _≡_ {A = ℕ} 0 1 = cc in omega arith) e in
+      (f, load-holds (netOf s) (counted s) .0 (load-is-holds _ (sym (load-fine s f) ∙ e))),
+  λ h. load-fine s (h .0) ∙ ap loadOf (load-holds (netOf s) (counted s) .1 (h .1)),
+)
+
+-- "If not, it names the lowest cell that is over and by how much."
+pub over-means : (s : Site) (i m : ℕ) → loadAnswer s ≡ load.Over (i + 1) m → (faultOf s ≡ Fine) × FirstOver (netOf s) (counted s) i m
+over-means s i m e =
+    let f = load-accepted s (load.Over (i + 1) m) (λ q. let z : _≡_ {A = ℕ} 0 1 = cc in omega arith) e in
+    (f, load-names (netOf s) (counted s) i m (load-is-over _ i m (sym (load-fine s f) ∙ e)))
+
+-- "A site is chained when, for every clashing pair a < c, each b strictly between clashes with a, the EARLIER cell."
+pub chained-means : (s : Site) → chainAnswer s ≡ chain.Chained ↔ ((faultOf s ≡ Fine) × Chained (netOf s) (counted s))
+chained-means s = (
+  λ e.
+      let f = chain-accepted s chain.Chained (λ q. let z : _≡_ {A = ℕ} 0 1 = cc in omega arith) e in
+      (f, chain-holds (netOf s) (counted s) .0 (chain-is-chained _ (sym (chain-fine s f) ∙ e))),
+  λ h. chain-fine s (h .0) ∙ ap chainOf (chain-holds (netOf s) (counted s) .1 (h .1)),
+)
+
+-- "If not chained, the judge names the first triple a, b, c in rising order of a, then c, then b."
+pub broken-means : (s : Site) (a b c : ℕ) → chainAnswer s ≡ chain.Broken (a + 1) (b + 1) (c + 1) → (faultOf s ≡ Fine) × FirstBreaks (netOf s) (counted s) a b c
+broken-means s a b c e =
+    let f = chain-accepted s (chain.Broken (a + 1) (b + 1) (c + 1)) (λ q. let z : _≡_ {A = ℕ} 0 1 = cc in omega arith) e in
+    (f, chain-names (netOf s) (counted s) a b c (chain-is-broken _ a b c (sym (chain-fine s f) ∙ e)))

@@ -1,0 +1,118 @@
+-- A record with no fault is a site in order, as the round trips want it, and such a site has no fault: no row is at fault exactly when each of its bits
+-- names a pair of different cells of the site. Assumes nothing.
+use Prim.Native.Nat.{ℕ, zero, suc, _+_, _-_, _*_, _/_, _%_, _^_, _≤_, _<_}
+use mathlib.Core.Path.{_≡_, refl, ap, _∙_}
+use mathlib.Core.Bool.{false}
+use native.Mathlib.Nat.{add-zero, div-eq-of-lt, lt-of-lt-of-le}
+use native.Mathlib.Decide.{decLt}
+use native.Mathlib.Omega.{arith}
+use lib.ListN.{getD, List·getD-eq-default}
+use lib.Pow.{pow-pos, pow-mono, shr-lt}
+use borrow.Author.Tests.{le-ltb, eqb-false, ne-eqb}
+use Rattle.site.specs.Record.{rowBad, rowOf, faultOf}
+use Rattle.site.specs.declared.Site.{Site}
+use Rattle.site.specs.declared.Fault.the-variants.{Fine}
+use Rattle.site.proofs.Accepted.{fine-sound, sound-fine, row-ok, ok-row, row-none}
+use Rattle.sitefile.specs.Held.{Held}
+use Rattle.sitefile.proofs.PairLaws.{PairOk, pair-ok, pair-is}
+use Rattle.sitefile.proofs.ReadLaws.{sizes, sizes-is}
+use Rattle.sitefile.proofs.RowLaws.{left-none}
+use Rattle.sitefile.proofs.Rows.{bitIn}
+use Rattle.sitefile.proofs.PairTrip.{Named}
+use Rattle.sitefile.proofs.FileTrip.{GoodSite}
+
+-- a bit at b is not in a number below 2 ^ n, where n is at most b
+bit-below : (x n b : ℕ) → x < 2 ^ n → x / 2 ^ b % 2 ≡ 1 → b < n
+bit-below x n b low h = go (decLt b n)
+  where
+    go : Dec (b < n) → b < n
+    go (yes l) = l
+    go (no l) =
+        let z : x / 2 ^ b ≡ 0 = div-eq-of-lt (lt-of-lt-of-le low (pow-mono {i = n} {j = b} (omega arith))) in
+        absurd (omega arith)
+
+-- a row with no fault has bits of other cells of the site only
+row-names : (n x k b : ℕ) → rowBad n x k ≡ false → x / 2 ^ b % 2 ≡ 1 → (k < n) × (b < n) × (k ≡ b → ⊥)
+row-names n x k b e h = go (decLt k n)
+  where
+    go : Dec (k < n) → (k < n) × (b < n) × (k ≡ b → ⊥)
+    go (yes l) =
+        let r = row-ok n x k l e in
+        (l, bit-below x n b (r .0) h, λ s. eqb-false (x / 2 ^ k % 2) 1 (r .1) (ap (λ (j : ℕ). x / 2 ^ j % 2) s ∙ h))
+    go (no l) =
+        let z : x ≡ 0 = row-none n x k (omega arith) e in
+        let y : x / 2 ^ b ≡ 0 = div-eq-of-lt (rw z (pow-pos b)) in
+        absurd (omega arith)
+
+past : (n x k : ℕ) → n ≤ k → x ≡ 0 → rowBad n x k ≡ false
+unfolding rowBad
+past n x k l e = rw (e, le-ltb k n l)
+
+module _ (s : Site) (held : Held s) (fine : faultOf s ≡ Fine) where
+  no-load : (k : ℕ) → s .cells ≤ k → getD (s .loads) k 0 ≡ 0
+  no-load k h = go (decLt k 32)
+    where
+      go : Dec (k < 32) → getD (s .loads) k 0 ≡ 0
+      go (yes l) = fine-sound s fine .loads k h l
+      go (no l) = List·getD-eq-default (s .loads) 0 {n = k} (omega (arith, held .loads))
+
+  all-named : Named (s .cells) (s .reach)
+  unfolding Named bitIn
+  all-named q l h =
+      let r = row-names (s .cells) (rowOf s (q / 32)) (q / 32) (q % 32) (fine-sound s fine .rows (q / 32) (omega arith)) h in
+      pair-is (s .cells) (q / 32 + 1) (q % 32 + 1)
+      (record { from = (omega arith, omega (arith, r .0)); to = (omega arith, omega (arith, r .1)); apart = λ e. r .2 (omega arith) })
+
+  pub fine-good : GoodSite s
+  fine-good =
+      record {
+        range = sizes _ _ _ (fine-sound s fine .sizes);
+        size = held .loads;
+        unused = no-load;
+        rows = record { size = held .rows; fits = held .bits };
+        named = all-named;
+      }
+
+-- a number with no bit from n on is below 2 ^ n
+no-bits : (x n d : ℕ) → x < 2 ^ (n + d) → ((t : ℕ) → n ≤ t → t < n + d → x / 2 ^ t % 2 ≡ 1 → ⊥) → x < 2 ^ n
+no-bits x n zero h none = rw (add-zero n) at h
+no-bits x n (suc d) h none =
+    let e : n + suc d ≡ 1 + (n + d) = omega arith in
+    let l : x / 2 ^ (n + d) < 2 ^ 1 = shr-lt 1 (n + d) (rw e at h) in
+    let z : x / 2 ^ (n + d) % 2 ≡ 1 → ⊥ = none (n + d) (omega arith) (omega arith) in
+    no-bits x n d (left-none x (n + d) (low (x / 2 ^ (n + d)) l z)) (λ t a b. none t a (omega arith))
+  where
+    low : (y : ℕ) → y < 2 → (y % 2 ≡ 1 → ⊥) → y ≡ 0
+    low zero l z = refl
+    low (suc zero) l z = absurd (z refl)
+    low (suc (suc y)) l z = absurd (omega arith)
+
+module _ (s : Site) (good : GoodSite s) where
+  named-bit : (k t : ℕ) → k < 32 → t < 32 → rowOf s k / 2 ^ t % 2 ≡ 1 → PairOk (s .cells) (k + 1) (t + 1)
+  unfolding Named bitIn
+  named-bit k t l m h =
+      let ek : (k * 32 + t) / 32 ≡ k = omega arith in
+      let et : (k * 32 + t) % 32 ≡ t = omega arith in
+      pair-ok (s .cells) (k + 1) (t + 1) (rw (ek, et) at (good .named (k * 32 + t) (omega arith) (rw (ek, et) h)))
+
+  few-cells : s .cells ≤ 32
+  few-cells = good .range .cells .1
+
+  row-passes : (k : ℕ) → k < 32 → rowBad (s .cells) (rowOf s k) k ≡ false
+  row-passes k l = go (decLt k (s .cells))
+    where
+      go : Dec (k < s .cells) → rowBad (s .cells) (rowOf s k) k ≡ false
+      go (yes m) =
+          let e : s .cells + (32 - s .cells) ≡ 32 = omega (arith, few-cells) in
+          let low : rowOf s k < 2 ^ s .cells =
+          no-bits (rowOf s k) (s .cells) (32 - s .cells) (rw e (good .rows .fits k l))
+          (λ t a b h. let p = named-bit k t l (omega (arith, few-cells)) h in omega arith) in
+          ok-row (s .cells) (rowOf s k) k m low (ne-eqb (rowOf s k / 2 ^ k % 2) 1 (λ h. named-bit k k l l h .apart refl))
+      go (no m) =
+          let low : rowOf s k < 2 ^ 0 =
+          no-bits (rowOf s k) 0 32 (good .rows .fits k l) (λ t a b h. let p = named-bit k t l b h in omega arith) in
+          past (s .cells) (rowOf s k) k (omega arith) (omega arith)
+
+  pub good-fine : faultOf s ≡ Fine
+  good-fine =
+      sound-fine s (record { sizes = sizes-is (s .cells) (s .slots) (s .channels) (good .range); loads = λ k a b. good .unused k a; rows = row-passes })

@@ -1,0 +1,13 @@
+pub mod PairLaws
+pub mod ReadLaws
+pub mod RowLaws
+pub mod WriteLaws
+pub mod Rows
+pub mod PairTrip
+pub mod FileTrip
+pub mod Good
+pub mod Trip
+pub mod Reasons
+pub mod Given
+pub mod Desk
+pub mod Zeros

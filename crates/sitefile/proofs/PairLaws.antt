@@ -1,0 +1,100 @@
+-- The pairs of a kind 3 body: what a passed pair test tells; that no bit stands at or above the next place, which each mark keeps; and a turn of the reader's loop.
+-- Assumes nothing.
+use Prim.Native.Nat.{ℕ, suc, _+_, _*_, _/_, _%_, _^_, _≤_, _<_}
+use mathlib.Core.Path.{_≡_, refl}
+use mathlib.Core.Bool.{true, false, not, _&&_}
+use mathlib.Core.List.{List, [], _∷_}
+use native.Mathlib.Nat.{two-pow-succ}
+use native.Mathlib.Decide.{ℕ-discrete}
+use native.Mathlib.Omega.{arith}
+use lib.ListN.{length, getD, drop, replicate, getD-replicate, length-drop}
+use lib.Seq.{getD-set-same, getD-set-other}
+use lib.Pow.{pow-pos, pow-mono}
+use lib.Dec.{leb, eqb}
+use borrow.Author.Tests.{eqb-false, ne-eqb, lt-leb, le-leb, not-true}
+use Rattle.site.specs.Record.{upTo}
+use Rattle.site.proofs.Faults.{up-to}
+use Rattle.sitefile.specs.Pairs.{pairOk, place, mark, badPairs, readPairs}
+use Rattle.records.proofs.Laws.{drop-two}
+use Rattle.laws.proofs.Choice.{both, both-is}
+
+abbrev pub UpTo : ℕ → ℕ → Type 0
+UpTo most x = (1 ≤ x) × (x ≤ most)
+
+pub up-to-is : (most x : ℕ) → UpTo most x → upTo most x ≡ true
+unfolding upTo
+up-to-is most x u = both-is (leb 1 x) (leb x most) (le-leb 1 x (u .0)) (le-leb x most (u .1))
+
+pub record PairOk (cells f t : ℕ) : Type 0 where
+  pub from : UpTo cells f
+  pub to : UpTo cells t
+  pub apart : f ≡ t → ⊥
+
+pub pair-ok : (cells f t : ℕ) → pairOk cells f t ≡ true → PairOk cells f t
+unfolding pairOk
+pair-ok cells f t e =
+    let p = both (upTo cells f) (upTo cells t && not (eqb f t)) e in
+    let q = both (upTo cells t) (not (eqb f t)) (p .1) in
+    record { from = up-to cells f (p .0); to = up-to cells t (q .0); apart = eqb-false f t (not-true (eqb f t) (q .1)) }
+
+pub pair-is : (cells f t : ℕ) → PairOk cells f t → pairOk cells f t ≡ true
+unfolding pairOk
+pair-is cells f t p = simp (up-to-is cells f (p .from), up-to-is cells t (p .to), ne-eqb f t (p .apart))
+
+-- no bit at next or above it
+abbrev pub High : ℕ → List ℕ → Type 0
+High next rows = (q : ℕ) → next ≤ q → q < 1024 → getD rows (q / 32) 0 < 2 ^ (q % 32)
+
+pub high-none : High 0 (replicate 32 0)
+high-none q h l = rw (getD-replicate {A = ℕ} 32 (q / 32) 0 0 (omega arith)) (pow-pos (q % 32))
+
+pub high-mark : (next q : ℕ) (rows : List ℕ) → length rows ≡ 32 → next ≤ q → q < 1024 → High next rows → High (q + 1) (mark rows q)
+high-mark next q rows len h l high p hp lp = go (ℕ-discrete (p / 32) (q / 32))
+  where
+    at : ℕ
+    at = getD rows (q / 32) 0 + 2 ^ (q % 32)
+
+    go : Dec (p / 32 ≡ q / 32) → getD (mark rows q) (p / 32) 0 < 2 ^ (p % 32)
+    go (yes e) =
+        rw (e, getD-set-same rows (q / 32) (getD rows (q / 32) 0 + 2 ^ (q % 32)) 0 (omega arith))
+        (omega (arith, two-pow-succ (q % 32), high q h l, pow-mono {i = suc (q % 32)} {j = p % 32} (omega arith)))
+    go (no n) =
+        rw (getD-set-other rows (q / 32) (p / 32) (getD rows (q / 32) 0 + 2 ^ (q % 32)) 0 n)
+        (high p (omega arith) lp)
+
+-- a turn of the pairs' loop, its refusals and its end
+module _ (cells next i : ℕ) (rows body : List ℕ) where
+  pub pairs-done :
+      length body ≤ 2 * i + 1 → readPairs cells next rows (drop (2 * i) body) ≡ record { reach = rows; number = 0 }
+  unfolding readPairs
+  pairs-done h = go (drop (2 * i) body) (simp length-drop (omega arith))
+    where
+      go : (l : List ℕ) → length l ≤ 1 → readPairs cells next rows l ≡ record { reach = rows; number = 0 }
+      go [] h = refl
+      go (a ∷ []) h = refl
+      go (a ∷ b ∷ r) h = absurd (omega arith)
+
+  module _ (more : 2 * i + 1 < length body) where
+    abbrev F : ℕ
+    F = getD body (2 * i) 0
+
+    abbrev T : ℕ
+    T = getD body (2 * i + 1) 0
+
+    pub pairs-named : pairOk cells F T ≡ false → badPairs 3 ≡ readPairs cells next rows (drop (2 * i) body)
+    unfolding readPairs
+    pairs-named h = rw (drop-two body (2 * i)) (simp h)
+
+    module _ (ok : pairOk cells F T ≡ true) where
+      pub pairs-rise : place F T < next → badPairs 11 ≡ readPairs cells next rows (drop (2 * i) body)
+      unfolding readPairs
+      pairs-rise h = rw (drop-two body (2 * i)) (simp (ok, lt-leb next (place F T) h))
+
+      pub pairs-step :
+          next ≤ place F T →
+          readPairs cells (place F T + 1) (mark rows (place F T)) (drop (2 * (i + 1)) body)
+          ≡ readPairs cells next rows (drop (2 * i) body)
+      unfolding readPairs
+      pairs-step h =
+          let e : 2 * (i + 1) ≡ 2 * i + 2 = omega arith in
+          rw (drop-two body (2 * i), e) (simp (ok, le-leb next (place F T) h))

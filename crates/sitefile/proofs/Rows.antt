@@ -1,0 +1,104 @@
+-- Bits of the reach rows: a mark sets its own bit and no other, and rows with the same bits are the same rows. Assumes nothing.
+use Prim.Native.Nat.{ℕ, zero, suc, _+_, _-_, _*_, _/_, _%_, _^_, _≤_, _<_}
+use mathlib.Core.Path.{_≡_, sym, ap, _∙_}
+use mathlib.Core.List.{List}
+use native.Mathlib.Nat.{two-pow-succ, div-eq-of-lt, mod-eq-of-lt, add-mul-div-right}
+use native.Mathlib.Numerals.{one-add}
+use native.Mathlib.Decide.{ℕ-discrete, decLt}
+use native.Mathlib.Omega.{arith}
+use lib.ListN.{length, getD, length-set}
+use lib.Seq.{getD-set-same, getD-set-other, ext-getD}
+use lib.Pow.{pow-pos, pow-mono, pow-add, high, mod-pow-add}
+use Rattle.sitefile.specs.Pairs.{mark}
+use Rattle.sitefile.proofs.PairLaws.{High}
+
+bit-above : (x t : ℕ) → x < 2 ^ t → x / 2 ^ t % 2 ≡ 0
+bit-above x t h = rw (div-eq-of-lt h)
+
+bit-new : (x t : ℕ) → x < 2 ^ t → (x + 2 ^ t) / 2 ^ t % 2 ≡ 1
+bit-new x t h =
+    let e : x + 2 ^ t ≡ 1 * 2 ^ t + x = omega arith in
+    rw (e, high 1 t h)
+
+bit-under : (x t u : ℕ) → u < t → (x + 2 ^ t) / 2 ^ u % 2 ≡ x / 2 ^ u % 2
+bit-under x t u h =
+    let e : t ≡ suc (t - suc u) + u = omega arith in
+    let p : 2 ^ t ≡ 2 ^ suc (t - suc u) * 2 ^ u = ap (λ (k : ℕ). 2 ^ k) e ∙ pow-add 2 (suc (t - suc u)) u in
+    rw (p, add-mul-div-right x (2 ^ suc (t - suc u)) (pow-pos u)) (omega (arith, two-pow-succ (t - suc u)))
+
+bit-over : (x t u : ℕ) → x < 2 ^ t → t < u → (x + 2 ^ t) / 2 ^ u % 2 ≡ x / 2 ^ u % 2
+bit-over x t u h l =
+    let p : 2 ^ suc t ≤ 2 ^ u = pow-mono l in
+    let a : x + 2 ^ t < 2 ^ u = omega (arith, two-pow-succ t) in
+    let b : x < 2 ^ u = omega (arith, two-pow-succ t) in
+    bit-above (x + 2 ^ t) u a ∙ sym (bit-above x u b)
+
+bit-other : (x t u : ℕ) → x < 2 ^ t → (u ≡ t → ⊥) → (x + 2 ^ t) / 2 ^ u % 2 ≡ x / 2 ^ u % 2
+bit-other x t u h n = go (decLt u t)
+  where
+    go : Dec (u < t) → (x + 2 ^ t) / 2 ^ u % 2 ≡ x / 2 ^ u % 2
+    go (yes l) = bit-under x t u l
+    go (no l) = bit-over x t u h (omega arith)
+
+-- numbers with the same bits
+same-low : (x y k : ℕ) → ((t : ℕ) → t < k → x / 2 ^ t % 2 ≡ y / 2 ^ t % 2) → x % 2 ^ k ≡ y % 2 ^ k
+same-low x y zero h = omega arith
+same-low x y (suc k) h =
+    let e : x % 2 ^ k ≡ y % 2 ^ k = same-low x y k (λ t l. h t (omega arith)) in
+    let b : x / 2 ^ k % 2 ≡ y / 2 ^ k % 2 = h k (omega arith) in
+    rw (← one-add k, mod-pow-add x 1 k, mod-pow-add y 1 k, e, b)
+
+unfoldable pub bitIn : List ℕ → ℕ → ℕ
+bitIn rows q = getD rows (q / 32) 0 / 2 ^ (q % 32) % 2
+
+pub record Rows (rows : List ℕ) : Type 0 where
+  pub size : length rows ≡ 32
+  pub fits : (k : ℕ) → k < 32 → getD rows k 0 < 2 ^ 32
+
+pub rows-ext : (a b : List ℕ) → Rows a → Rows b → ((q : ℕ) → q < 1024 → bitIn a q ≡ bitIn b q) → a ≡ b
+unfolding bitIn
+rows-ext a b ra rb h = ext-getD 0 a b (ra .size ∙ sym (rb .size)) (λ k l. row k (omega (arith, ra .size)))
+  where
+    bits : (k : ℕ) → k < 32 → (t : ℕ) → t < 32 → getD a k 0 / 2 ^ t % 2 ≡ getD b k 0 / 2 ^ t % 2
+    bits k l t m =
+        let ek : (k * 32 + t) / 32 ≡ k = omega arith in
+        let et : (k * 32 + t) % 32 ≡ t = omega arith in
+        rw (ek, et) at (h (k * 32 + t) (omega arith))
+
+    row : (k : ℕ) → k < 32 → getD a k 0 ≡ getD b k 0
+    row k l = sym (mod-eq-of-lt (ra .fits k l)) ∙ same-low (getD a k 0) (getD b k 0) 32 (bits k l) ∙ mod-eq-of-lt (rb .fits k l)
+
+-- a mark sets its own bit and no other
+module _ (rows : List ℕ) (q : ℕ) (size : length rows ≡ 32) (l : q < 1024) (h : getD rows (q / 32) 0 < 2 ^ (q % 32)) where
+  pub mark-same : bitIn (mark rows q) q ≡ 1
+  unfolding bitIn
+  mark-same =
+      rw (getD-set-same rows (q / 32) (getD rows (q / 32) 0 + 2 ^ (q % 32)) 0 (omega arith))
+      (bit-new (getD rows (q / 32) 0) (q % 32) h)
+
+  pub mark-other : (p : ℕ) → (p ≡ q → ⊥) → bitIn (mark rows q) p ≡ bitIn rows p
+  unfolding bitIn
+  mark-other p n = go (ℕ-discrete (p / 32) (q / 32))
+    where
+      go : Dec (p / 32 ≡ q / 32) → bitIn (mark rows q) p ≡ bitIn rows p
+      go (yes e) =
+          rw (e, getD-set-same rows (q / 32) (getD rows (q / 32) 0 + 2 ^ (q % 32)) 0 (omega arith))
+          (bit-other (getD rows (q / 32) 0) (q % 32) (p % 32) h (λ f. n (omega arith)))
+      go (no f) = rw (getD-set-other rows (q / 32) (p / 32) (getD rows (q / 32) 0 + 2 ^ (q % 32)) 0 f)
+
+  pub mark-rows : Rows rows → Rows (mark rows q)
+  mark-rows r = record { size = length-set rows (q / 32) _ ∙ size; fits = fit }
+    where
+      fit : (k : ℕ) → k < 32 → getD (mark rows q) k 0 < 2 ^ 32
+      fit k m = go (ℕ-discrete k (q / 32))
+        where
+          go : Dec (k ≡ q / 32) → getD (mark rows q) k 0 < 2 ^ 32
+          go (yes e) =
+              rw (e, getD-set-same rows (q / 32) (getD rows (q / 32) 0 + 2 ^ (q % 32)) 0 (omega arith))
+              (omega (arith, two-pow-succ (q % 32), pow-mono {i = suc (q % 32)} {j = 32} (omega arith)))
+          go (no f) = rw (getD-set-other rows (q / 32) k (getD rows (q / 32) 0 + 2 ^ (q % 32)) 0 f) (r .fits k m)
+
+-- no bit at next or above it
+pub high-zero : (next : ℕ) (rows : List ℕ) → High next rows → (q : ℕ) → next ≤ q → q < 1024 → bitIn rows q ≡ 0
+unfolding bitIn
+high-zero next rows h q n l = bit-above (getD rows (q / 32) 0) (q % 32) (h q n l)

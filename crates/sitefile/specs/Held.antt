@@ -1,0 +1,15 @@
+-- What the types of the code give of the values that they hold: a site record's lists, and bytes.
+use Prim.Native.Nat.{ℕ, _^_, _<_}
+use mathlib.Core.List.{List}
+use mathlib.Core.Path.{_≡_}
+use lib.ListN.{length, getD}
+use Rattle.site.specs.declared.Site.{Site}
+
+-- "One site record holds all 32 loads and all 32 reach rows, used or not", a row in 32 bits
+pub record Held (s : Site) : Type 0 where
+  pub loads : length (s .loads) ≡ 32
+  pub rows : length (s .reach) ≡ 32
+  pub bits : (k : ℕ) → k < 32 → getD (s .reach) k 0 < 2 ^ 32
+
+abbrev pub Bytes : List ℕ → Type 0
+Bytes b = (k : ℕ) → getD b k 0 < 256

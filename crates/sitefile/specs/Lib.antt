@@ -1,0 +1,6 @@
+pub mod Held
+pub mod Pairs
+pub mod Read
+pub mod Reasons
+pub mod Write
+pub mod Given

@@ -1,0 +1,47 @@
+-- The pairs of a kind 3 body, and the reach rows that they set: "pairs from, to, a byte each, strictly rising by from, then to".
+-- A place q is the pair of the cells q / 32 + 1 and q % 32 + 1, so that places rise by from, then to. It is the bit q % 32 of the row q / 32.
+use Prim.Native.Nat.{ℕ, zero, suc, _+_, _-_, _*_, _/_, _%_, _^_}
+use mathlib.Core.List.{List, [], _∷_, _++_}
+use mathlib.Core.Bool.{Bool, not, _&&_}
+use lib.ListN.{getD, set, replicate}
+use lib.Dec.{leb, eqb}
+use Rattle.laws.specs.Choice.{pick}
+use Rattle.laws.specs.Bits.{bitAt}
+use Rattle.site.specs.Record.{upTo}
+use Rattle.sitefile.specs.declared.PairsRead.{PairsRead}
+
+-- two different cells of the site; else "a pair naming a cell outside 1..I, or one cell twice"
+unfoldable pub pairOk : ℕ → ℕ → ℕ → Bool
+pairOk cells from to = upTo cells from && (upTo cells to && not (eqb from to))
+
+abbrev pub place : ℕ → ℕ → ℕ
+place from to = (from - 1) * 32 + (to - 1)
+
+-- the rows with the bit at q set, which was clear
+abbrev pub mark : List ℕ → ℕ → List ℕ
+mark rows q = set rows (q / 32) (getD rows (q / 32) 0 + 2 ^ (q % 32))
+
+abbrev pub badPairs : ℕ → PairsRead
+badPairs n = record { reach = replicate 32 0; number = n }
+
+-- "each pair 3 then 11"; next is the least place that still rises
+unfoldable pub readPairs : ℕ → ℕ → List ℕ → List ℕ → PairsRead
+readPairs cells next rows [] = record { reach = rows; number = 0 }
+readPairs cells next rows (f ∷ []) = record { reach = rows; number = 0 }
+readPairs cells next rows (f ∷ t ∷ r) =
+    pick (pairOk cells f t)
+    (pick (leb next (place f t)) (readPairs cells (place f t + 1) (mark rows (place f t)) r) (badPairs 11))
+    (badPairs 3)
+
+-- the bytes of the pair at q, if its bit is set in its row
+unfoldable pub pairOf : ℕ → ℕ → List ℕ
+pairOf row q = pick (bitAt row (q % 32)) ((q / 32 + 1) ∷ (q % 32 + 1) ∷ []) []
+
+-- the bytes of the pairs at n places from q on: of one row, and of all
+unfoldable pub rowFrom : ℕ → ℕ → ℕ → List ℕ
+rowFrom row q zero = []
+rowFrom row q (suc n) = pairOf row q ++ rowFrom row (q + 1) n
+
+unfoldable pub pairsFrom : List ℕ → ℕ → ℕ → List ℕ
+pairsFrom rows q zero = []
+pairsFrom rows q (suc n) = pairOf (getD rows (q / 32) 0) q ++ pairsFrom rows (q + 1) n

@@ -1,0 +1,330 @@
+// The site file: kinds 1, 2 and 3 of house files, read into a site and written from one.
+use records::Length;
+use records::Opened;
+use records::ReadAnswer;
+use records::open;
+use records::put_two;
+use records::put_word;
+use records::word;
+use site::Fault;
+use site::Site;
+use site::size_ok;
+use site::within;
+ghost use mathlib.Core.Path.{_≡_};
+ghost use Prim.Native.Nat.{_+_, _*_, _/_, _%_, _^_, _≤_, _<_};
+ghost use lib.ListN.{length, take, replicate};
+ghost use lib.Seq.{sets};
+ghost use Rattle.records.specs.Bytes.{wordsOf, words};
+ghost use Rattle.sitefile.specs.Pairs.{pairOk, place, readPairs, pairOf, rowFrom};
+ghost use Rattle.sitefile.specs.Read.{refusedSite, refusedBy, readReach, readLoads, readSite};
+ghost use Rattle.sitefile.specs.Write.{headWords, siteBytes, pairBytes, written, over, siteWritten, siteOut};
+
+// What a site read gives: the site, or a site of zeros beside the refusal.
+pub struct SiteRead {
+    pub site: Site,
+    pub answer: ReadAnswer,
+}
+
+// What a site write answers: the bytes written, the bytes needed, or what is wrong with the record.
+pub enum SiteWritten {
+    Done(usize),
+    OutShort(usize),
+    Refused(Fault),
+}
+
+// The reach rows of a kind 3 body, with 0; or the refusal's number.
+struct PairsRead {
+    pub reach: [u32; 32],
+    pub number: u8,
+}
+
+// The loads of a kind 2 body.
+fn loads_of(body: &[u8]) -> [u16; 32]
+    requires { ⌜ length (now body) ≤ 64 ⌝ }
+    ensures { λ r. ⌜ r ≡ sets (replicate 32 0) 0 (wordsOf (now (body .entry))) ⌝ }
+{
+    let mut loads = [0u16; 32];
+    let n = body.len() / 2;
+    let mut i = 0;
+    while i < n {
+        let v = word(body, 2 * i);
+        loads[i] = v;
+        i += 1;
+    }
+    loads
+}
+
+// Whether a pair names two different cells of the site.
+fn pair_ok(cells: u16, f: u8, t: u8) -> bool
+    ensures { λ r. ⌜ r ≡ pairOk cells f t ⌝ }
+{
+    let most = cells as usize;
+    if !within(f as usize, most) {
+        return false;
+    }
+    if !within(t as usize, most) {
+        return false;
+    }
+    f != t
+}
+
+fn place_of(f: u8, t: u8) -> usize
+    requires { ⌜ (1 ≤ f) × (1 ≤ t) ⌝ }
+    ensures { λ r. ⌜ r ≡ place f t ⌝ }
+{
+    (f as usize - 1) * 32 + (t as usize - 1)
+}
+
+// A row with bit b set above all its bits.
+fn raised(row: u32, b: usize) -> u32
+    requires { ⌜ (b < 32) × (row < 2 ^ b) ⌝ }
+    ensures { λ r. ⌜ r ≡ row + 2 ^ b ⌝ }
+{
+    row + (1u32 << b)
+}
+
+// The reach rows of a kind 3 body: each pair 3, then 11.
+fn pairs_of(body: &[u8], cells: u16) -> PairsRead
+    requires { ⌜ cells ≤ 32 ⌝ }
+    ensures { λ r. ⌜ r ≡ readPairs cells 0 (replicate 32 0) (now (body .entry)) ⌝ }
+{
+    let mut reach = [0u32; 32];
+    let mut next: usize = 0;
+    let n = body.len() / 2;
+    let mut i = 0;
+    while i < n {
+        let f = body[2 * i];
+        let t = body[2 * i + 1];
+        let ok = pair_ok(cells, f, t);
+        if !ok {
+            return PairsRead {
+                reach: [0u32; 32],
+                number: 3,
+            };
+        }
+        let q = place_of(f, t);
+        if q < next {
+            return PairsRead {
+                reach: [0u32; 32],
+                number: 11,
+            };
+        }
+        let a = q / 32;
+        let row = raised(reach[a], q % 32);
+        reach[a] = row;
+        next = q + 1;
+        i += 1;
+    }
+    PairsRead { reach, number: 0 }
+}
+
+fn refused(number: u8, at: usize) -> SiteRead
+    ensures { λ r. ⌜ r ≡ refusedSite number at ⌝ }
+{
+    SiteRead {
+        site: Site::zeros(),
+        answer: ReadAnswer::Refused(number, at),
+    }
+}
+
+// The opener's refusal, handed on. It is asked of no body.
+fn refused_by(o: Opened) -> SiteRead
+    ensures { λ r. ⌜ r ≡ refusedBy o ⌝ }
+{
+    match o {
+        Opened::Refused(number, at) => refused(number, at),
+        Opened::Body(_, _) => refused(0, 0),
+    }
+}
+
+// Kind 3, due at `at`, and nothing after it.
+fn read_reach(
+    s: &[u8],
+    at: usize,
+    cells: u16,
+    slots: u16,
+    channels: u16,
+    loads: [u16; 32],
+) -> SiteRead
+    requires { ⌜ cells ≤ 32 ⌝ }
+    ensures { λ r. ⌜ r ≡ readReach (now (s .entry)) at cells slots channels loads ⌝ }
+{
+    let o = open(s, at, 3, Length::Pairs);
+    let Opened::Body(start, len) = o else {
+        return refused_by(o);
+    };
+    let end = start + len;
+    let p = pairs_of(&s[start..end], cells);
+    let number = p.number;
+    let reach = p.reach;
+    if number != 0 {
+        return refused(number, at);
+    }
+    if end < s.len() {
+        return refused(12, end);
+    }
+    SiteRead {
+        site: Site {
+            cells,
+            slots,
+            channels,
+            loads,
+            reach,
+        },
+        answer: ReadAnswer::Done,
+    }
+}
+
+// Kind 2, due after the head.
+fn read_loads(s: &[u8], cells: u16, slots: u16, channels: u16) -> SiteRead
+    requires { ⌜ cells ≤ 32 ⌝ }
+    ensures { λ r. ⌜ r ≡ readLoads (now (s .entry)) cells slots channels ⌝ }
+{
+    let o = open(s, 10, 2, Length::Exact(2 + 2 * cells));
+    let Opened::Body(start, len) = o else {
+        return refused_by(o);
+    };
+    let end = start + len;
+    let loads = loads_of(&s[start..end]);
+    read_reach(s, end, cells, slots, channels, loads)
+}
+
+// Reads a site file: kinds 1, 2, 3 and nothing after them.
+pub fn read_site(bytes: &[u8]) -> SiteRead
+    ensures { λ r. ⌜ r ≡ readSite (now (bytes .entry)) ⌝ }
+{
+    let o = open(bytes, 0, 1, Length::Exact(8));
+    let Opened::Body(_, _) = o else {
+        return refused_by(o);
+    };
+    let cells = word(bytes, 4);
+    let slots = word(bytes, 6);
+    let channels = word(bytes, 8);
+    if size_ok(cells, slots, channels) {
+        read_loads(bytes, cells, slots, channels)
+    } else {
+        refused(1, 0)
+    }
+}
+
+// The head, and the length and kind of the loads.
+fn put_head(out: &mut [u8], cells: u16, slots: u16, channels: u16)
+    requires { ⌜ (cells ≤ 32) × (14 ≤ length (now out)) ⌝ }
+    ensures { λ _. ⌜ now (out .exit) ≡ sets (now (out .entry)) 0 (words (headWords cells slots channels)) ⌝ }
+{
+    put_word(out, 0, 8);
+    put_word(out, 2, 1);
+    put_word(out, 4, cells);
+    put_word(out, 6, slots);
+    put_word(out, 8, channels);
+    put_word(out, 10, 2 + 2 * cells);
+    put_word(out, 12, 2);
+}
+
+fn put_loads(out: &mut [u8], at: usize, loads: [u16; 32], n: usize)
+    requires { ⌜ (n ≤ 32) × (at + 2 * n ≤ length (now out)) ⌝ }
+    ensures { λ _. ⌜ now (out .exit) ≡ sets (now (out .entry)) at (words (take n loads)) ⌝ }
+{
+    let mut i = 0;
+    while i < n {
+        put_word(out, at + 2 * i, loads[i]);
+        i += 1;
+    }
+}
+
+// How many bytes the pairs of one row take: two for each bit.
+fn row_len(row: u32, a: usize) -> usize
+    ensures { λ r. ⌜ r ≡ length (rowFrom row (32 * a) 32) ⌝ }
+{
+    2 * (u32::count_ones(row) as usize)
+}
+
+// How many bytes the pairs take.
+fn pairs_len(reach: [u32; 32]) -> usize
+    ensures { λ r. ⌜ r ≡ length (pairBytes reach) ⌝ }
+{
+    let mut n: usize = 0;
+    let mut a: usize = 0;
+    while a < 32 {
+        n += row_len(reach[a], a);
+        a += 1;
+    }
+    n
+}
+
+// The pair at q, if its bit, the lowest of `left`, is set. Gives where the next one goes.
+fn put_pair(out: &mut [u8], at: usize, row: u32, left: u32, q: usize) -> usize
+    requires { ⌜ (q < 1024) × (left ≡ row / 2 ^ (q % 32)) × (at + length (pairOf row q) ≤ length (now out)) ⌝ }
+    ensures { λ r. ⌜ r ≡ at + length (pairOf row q) ⌝ }
+    ensures { λ _. ⌜ now (out .exit) ≡ sets (now (out .entry)) at (pairOf row q) ⌝ }
+{
+    if left % 2 == 1 {
+        put_two(out, at, (q / 32 + 1) as u8, (q % 32 + 1) as u8);
+        return at + 2;
+    }
+    at
+}
+
+// The pairs of row a. No place past its last bit is looked at.
+fn put_row(out: &mut [u8], at: usize, row: u32, a: usize) -> usize
+    requires { ⌜ (a < 32) × (at + length (rowFrom row (32 * a) 32) ≤ length (now out)) ⌝ }
+    ensures { λ r. ⌜ r ≡ at + length (rowFrom row (32 * a) 32) ⌝ }
+    ensures { λ _. ⌜ now (out .exit) ≡ sets (now (out .entry)) at (rowFrom row (32 * a) 32) ⌝ }
+{
+    let mut k = at;
+    let mut left = row;
+    let mut q = 32 * a;
+    while left != 0 {
+        k = put_pair(out, k, row, left, q);
+        left = left >> 1;
+        q += 1;
+    }
+    k
+}
+
+fn put_pairs(out: &mut [u8], at: usize, reach: [u32; 32])
+    requires { ⌜ at + length (pairBytes reach) ≤ length (now out) ⌝ }
+    ensures { λ _. ⌜ now (out .exit) ≡ sets (now (out .entry)) at (pairBytes reach) ⌝ }
+{
+    let mut k = at;
+    let mut a: usize = 0;
+    while a < 32 {
+        k = put_row(out, k, reach[a], a);
+        a += 1;
+    }
+}
+
+// The site file of a site whose record is in order.
+fn put_site(s: Site, out: &mut [u8]) -> SiteWritten
+    requires { ⌜ s .cells ≤ 32 ⌝ }
+    ensures { λ r. ⌜ r ≡ written (siteBytes s) (now (out .entry)) ⌝ }
+    ensures { λ _. ⌜ now (out .exit) ≡ over (siteBytes s) (now (out .entry)) ⌝ }
+{
+    let loads = s.loads;
+    let reach = s.reach;
+    let cells = s.cells;
+    let n = cells as usize;
+    let m = pairs_len(reach);
+    let at = 14 + 2 * n;
+    let need = at + 4 + m;
+    if out.len() < need {
+        return SiteWritten::OutShort(need);
+    }
+    put_head(out, cells, s.slots, s.channels);
+    put_loads(out, 14, loads, n);
+    put_word(out, at, (2 + m) as u16);
+    put_word(out, at + 2, 3);
+    put_pairs(out, at + 4, reach);
+    SiteWritten::Done(need)
+}
+// Writes the site file of a site: 1, 2, 3, then 13.
+pub fn write_site(site: Site, out: &mut [u8]) -> SiteWritten
+    ensures { λ r. ⌜ r ≡ siteWritten site (now (out .entry)) ⌝ }
+    ensures { λ _. ⌜ now (out .exit) ≡ siteOut site (now (out .entry)) ⌝ }
+{
+    let fault = site.fault_in();
+    let Fault::Fine = fault else {
+        return SiteWritten::Refused(fault);
+    };
+    put_site(site, out)
+}
