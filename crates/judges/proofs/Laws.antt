@@ -2,14 +2,16 @@
 -- Below the first cell b that does not clash with a, no pair breaks, since every gap is empty; past it, each cell that clashes with a breaks, with the gap at b.
 -- Assumes nothing.
 use Prim.Native.Nat.{ℕ, zero, suc, _+_, _-_, _*_, _≤_, _<_}
-use mathlib.Core.Bool.{Bool, true, false, not, _&&_, and-true, and-false}
+use mathlib.Core.Bool.{Bool, true, false, not, _&&_, _||_, and-true, and-false}
 use mathlib.Core.Logic.{⊎-elim}
 use mathlib.Core.List.{List, []}
 use mathlib.Core.Path.{_≡_, sym, ap, _∙_}
 use native.Mathlib.Nat.{mul-le-mul, eq-or-lt-of-le}
 use native.Mathlib.Omega.{arith}
-use borrow.Author.Tests.{ltb-true, lt-ltb, le-ltb, not-true}
+use borrow.Author.Tests.{ltb-true, lt-ltb, le-ltb, not-true, ne-eqb}
 use lib.Dec.{ltb}
+use lib.ListN.{getD}
+use Rattle.laws.specs.Bits.{bitAt}
 use Rattle.laws.specs.Search.{first}
 use Rattle.laws.proofs.Choice.{both}
 use Rattle.laws.proofs.Search.{first-hit, first-miss, first-least, first-most, first-passes, first-before, first-none}
@@ -17,7 +19,7 @@ use Rattle.laws.proofs.Sums.{count-all}
 use Rattle.theory.specs.Net.{Net, everyone, room, demand}
 use Rattle.theory.specs.Verdict.{overloaded, lowestOver, loadVerdict, gap, breaks, breakOf, firstBreak, chainVerdict}
 use Rattle.site.specs.Record.{positions, faultOf}
-use Rattle.site.specs.Reach.{netOf, netIn}
+use Rattle.site.specs.Reach.{reaches, clashIn, netOf, netIn}
 use Rattle.site.specs.declared.Site.{Site}
 use Rattle.site.specs.declared.Fault.the-variants.{Fine}
 use Rattle.site.proofs.Faults.{Sized}
@@ -86,6 +88,11 @@ module _ (s : Site) (fine : faultOf s ≡ Fine) (i : ℕ) (e : i ≡ lowestOver 
   load-none h = simp (fine, sym e, le-ltb i (s .cells) h)
 
 -- ---- the judge
+
+-- two different cells, by their rows
+pub clash-pair : (rows : List ℕ) (a c : ℕ) → a < c → clashIn rows a c ≡ (bitAt (getD rows a 0) c || bitAt (getD rows c 0) a)
+unfolding clashIn reaches
+clash-pair rows a c l = simp (ne-eqb a c (λ e. omega arith))
 
 module _ (s : Net) (who : ℕ → Bool) where
   pub gap-least : (a c : ℕ) → a + 1 ≤ gap s who a c

@@ -34,3 +34,4 @@ chainOf (broken a b c) = chain.Broken (a + 1) (b + 1) (c + 1)
 
 unfoldable pub chainAnswer : Site → ChainAnswer
 chainAnswer s = pick (isFine (faultOf s)) (chainOf (chainVerdict (netOf s) (counted s))) (chain.Refused (faultOf s))
+

@@ -3,6 +3,8 @@ ghost use mathlib.Core.Path.{_≡_};
 ghost use Prim.Native.Nat.{_*_, _≤_, _<_};
 ghost use lib.ListN.{getD};
 ghost use mathlib.Core.List.{[]};
+ghost use mathlib.Core.Bool.{_||_};
+ghost use Rattle.laws.specs.Bits.{bitAt};
 ghost use Rattle.laws.specs.Choice.{pick};
 ghost use Rattle.laws.specs.Search.{first};
 ghost use Rattle.site.specs.Reach.{clashIn, netIn};
@@ -37,8 +39,9 @@ fn share(loads: &[u16; 32], reach: &[u32; 32], i: usize, j: usize) -> usize
     requires { ⌜ j < 32 ⌝ }
     ensures { λ r. ⌜ (r ≡ pick (clashIn (now (reach .entry)) j i) (getD (now (loads .entry)) j 0) 0) × (r ≤ 65535) ⌝ }
 {
+    let load = wide(loads[j]);
     if site::clashes(reach, j, i) {
-        return wide(loads[j]);
+        return load;
     }
     0
 }
@@ -114,14 +117,23 @@ fn gap(reach: &[u32; 32], a: usize, c: usize) -> usize
     b
 }
 
-// The first cell from `from` on that clashes with a; the number of cells where there is none.
+// Whether two different cells with the reach rows x and y clash.
+fn pair(x: u32, y: u32, a: usize, b: usize) -> bool
+    requires { ⌜ (a < 32) × (b < 32) ⌝ }
+    ensures { λ r. ⌜ r ≡ (bitAt x b || bitAt y a) ⌝ }
+{
+    ((x >> b) | (y >> a)) % 2 == 1
+}
+
+// The first cell from `from` on, above a, that clashes with a; the number of cells where there is none.
 fn met(reach: &[u32; 32], a: usize, from: usize, cells: usize) -> usize
-    requires { ⌜ cells ≤ 32 ⌝ }
+    requires { ⌜ (a < 32) × ((a < from) × (cells ≤ 32)) ⌝ }
     ensures { λ r. ⌜ r ≡ first (clashIn (now (reach .entry)) a) from cells ⌝ }
 {
+    let row = reach[a];
     let mut c = from;
     while c < cells {
-        if site::clashes(reach, a, c) {
+        if pair(row, reach[c], a, c) {
             return c;
         }
         c += 1;

@@ -6,7 +6,8 @@ use Rattle.laws.specs.Search.{first}
 use Rattle.theory.specs.Net.{everyone}
 use Rattle.theory.specs.Verdict.{gap}
 use Rattle.site.specs.Reach.{clashIn, netIn}
-use Rattle.judges.proofs.Laws.{break-short}
+use Rattle.judges.proofs.Laws.{gap-least, break-short}
+use native.Mathlib.Omega.{arith}
 use borrow.Author.Needs.{needs}
 use Rattle.judges.proofs.break_of.Statement.{statement}
 use Rattle.judges.proofs.break_of.Tie as tie
@@ -15,7 +16,10 @@ gap-requires : tie.Need-gap-requires
 gap-requires c κs = search needs
 
 met-requires : tie.Need-met-requires
-met-requires c κs = search needs
+met-requires c κs =
+    let args = c .before .args in
+    let above = gap-least (netIn 0 0 [] (args .reach .now)) everyone (args .a) (args .cells) in
+    omega (arith, c .gap .ensures)
 
 returns : tie.Need-returns
 unfolding gap

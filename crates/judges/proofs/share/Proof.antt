@@ -5,9 +5,6 @@ use borrow.Author.Needs.{needs}
 use Rattle.judges.proofs.share.Statement.{statement}
 use Rattle.judges.proofs.share.Tie as tie
 
-clashes-requires : tie.Need-clashes-requires
-clashes-requires c κs = search needs
-
 mul-wide : tie.Need-mul-wide
 mul-wide c = search needs
 
@@ -17,8 +14,11 @@ element-copy-out-wide c = search needs
 wide-requires : tie.Need-wide-requires
 wide-requires c κs = search needs
 
+clashes-requires : tie.Need-clashes-requires
+clashes-requires c κs = search needs
+
 returns : tie.Need-returns
-returns c = (simp (sym (c .before .before .before .clashes .ensures) ∙ c .before .before .if1 .taken) (c .wide .ensures .0), c .wide .ensures .1)
+returns c = (simp (sym (c .before .clashes .ensures) ∙ c .if1 .taken) (c .before .before .wide .ensures .0), c .before .before .wide .ensures .1)
 
 returns-2 : tie.Need-returns-2
 returns-2 c = (simp (sym (c .before .clashes .ensures) ∙ c .if1 .left), omega arith)
@@ -26,4 +26,4 @@ returns-2 c = (simp (sym (c .before .clashes .ensures) ∙ c .if1 .left), omega 
 pub share-spec : {M : Type 1} → statement M
 share-spec =
     tie.close
-    (tie.spec clashes-requires mul-wide element-copy-out-wide wide-requires returns returns-2)
+    (tie.spec mul-wide element-copy-out-wide wide-requires clashes-requires returns returns-2)

@@ -1,0 +1,7 @@
+pub mod Bits
+pub mod ReadLaws
+pub mod WriteLaws
+pub mod Order
+pub mod Given
+pub mod Trip
+pub mod Desk

@@ -1,0 +1,4 @@
+pub mod Bits
+pub mod Read
+pub mod Write
+pub mod Given

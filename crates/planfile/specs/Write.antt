@@ -1,0 +1,45 @@
+-- The plan file as it is written: its bytes, what the writer answers, and what it leaves in the output.
+use Prim.Native.Nat.{ℕ, _+_}
+use mathlib.Core.List.{List, [], _∷_, _++_}
+use mathlib.Core.Bool.{Bool, true, false}
+use lib.ListN.{length, drop}
+use lib.Dec.{ltb}
+use Rattle.laws.specs.Choice.{pick}
+use Rattle.records.specs.Bytes.{words}
+use Rattle.site.specs.Record.{isFine, faultOf}
+use Rattle.site.specs.declared.Site.{Site}
+use Rattle.planfile.specs.Bits.{entriesOf, bytesFor, packed}
+use Rattle.planfile.specs.declared.PlanWritten.{PlanWritten}
+use Rattle.planfile.specs.declared.PlanWritten.the-variants.{Done, TableShort, OutShort, Refused}
+
+-- the head's length, kind and body; the plan's length and kind
+abbrev pub headWords : ℕ → ℕ → ℕ → List ℕ
+headWords cells slots channels =
+    8 ∷ 1 ∷ cells ∷ slots ∷ channels ∷ (2 + bytesFor (entriesOf cells slots channels)) ∷ 4 ∷ []
+
+-- "A plan file is kinds 1, 4."
+unfoldable pub planBytes : (cells slots channels : ℕ) → List ℕ → List ℕ
+planBytes cells slots channels table = words (headWords cells slots channels) ++ packed table (entriesOf cells slots channels)
+
+-- "The plan writer is given the site and its table."
+abbrev pub planFile : Site → List ℕ → List ℕ
+planFile s table = planBytes (s .cells) (s .slots) (s .channels) table
+
+-- "Writers: 1, 2, 3, 4 where there is a table, 13." "A writer that is done answers the number of bytes written."
+unfoldable pub planWritten : Site → List ℕ → List ℕ → PlanWritten
+planWritten s table out =
+    pick (isFine (faultOf s))
+    (pick (ltb (length table) (entriesOf (s .cells) (s .slots) (s .channels))) TableShort
+    (pick (ltb (length out) (length (planFile s table))) (OutShort (length (planFile s table))) (Done (length (planFile s table)))))
+    (Refused (faultOf s))
+
+abbrev pub isWritten : PlanWritten → Bool
+isWritten (Done n) = true
+isWritten TableShort = false
+isWritten (OutShort n) = false
+isWritten (Refused f) = false
+
+-- "output bytes past the file are never written"; refused, the output is as it was
+unfoldable pub planOut : Site → List ℕ → List ℕ → List ℕ
+planOut s table out =
+    pick (isWritten (planWritten s table out)) (planFile s table ++ drop (length (planFile s table)) out) out

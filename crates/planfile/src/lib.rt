@@ -1,0 +1,287 @@
+// The plan file, read and written: a head, and one bit for each cell and position. A file byte holds the bits of eight table bytes, and the long loops go by file byte.
+use records::Length;
+use records::Opened;
+use records::ReadAnswer;
+use records::open;
+use records::put_word;
+use records::word;
+use site::Fault;
+use site::Site;
+use site::size_ok;
+ghost use mathlib.Core.Path.{_≡_};
+ghost use mathlib.Core.List.{[], _∷_};
+ghost use Prim.Native.Nat.{_+_, _-_, _*_, _≤_, _<_};
+ghost use lib.ListN.{length, getD};
+ghost use lib.Seq.{sets};
+ghost use Rattle.records.specs.Bytes.{words};
+ghost use Rattle.planfile.specs.Bits.{entriesOf, bytesFor, one, bitsFrom, leftOver, ones, packedFrom};
+ghost use Rattle.planfile.specs.Read.{HeadRead, refusedPlan, refusedBy, readPlan, planTableRead};
+ghost use Rattle.planfile.specs.Write.{planWritten, planOut};
+
+// What a plan read gives: I, T and F, or three zeros beside a refusal.
+pub struct PlanRead {
+    pub cells: u16,
+    pub slots: u16,
+    pub channels: u16,
+    pub answer: ReadAnswer,
+}
+
+// What the writer answers: the bytes written; the table is too short; the output is too short, with the bytes needed; or the site's fault.
+pub enum PlanWritten {
+    Done(usize),
+    TableShort,
+    OutShort(usize),
+    Refused(Fault),
+}
+
+// How many table bytes a plan speaks of.
+fn entries(cells: u16, slots: u16, channels: u16) -> usize
+    ensures { λ r. ⌜ r ≡ entriesOf cells slots channels ⌝ }
+{
+    cells as usize * (slots as usize * channels as usize)
+}
+
+// Stores the eight bits of x from table index k on.
+fn spread(table: &mut [u8], k: usize, x: u8)
+    requires { ⌜ k + 8 ≤ length (now table) ⌝ }
+    ensures { λ _. ⌜ now (table .exit) ≡ sets (now (table .entry)) k (bitsFrom (x ∷ []) 0 8) ⌝ }
+{
+    table[k] = x % 2;
+    table[k + 1] = x / 2 % 2;
+    table[k + 2] = x / 4 % 2;
+    table[k + 3] = x / 8 % 2;
+    table[k + 4] = x / 16 % 2;
+    table[k + 5] = x / 32 % 2;
+    table[k + 6] = x / 64 % 2;
+    table[k + 7] = x / 128 % 2;
+}
+
+// The bits of the first m bytes of a body, as table bytes.
+fn unpack_whole(body: &[u8], table: &mut [u8], m: usize)
+    requires { ⌜ (m ≤ length (now body)) × (8 * m ≤ length (now table)) ⌝ }
+    ensures { λ _. ⌜ now (table .exit) ≡ sets (now (table .entry)) 0 (bitsFrom (now (body .entry)) 0 (8 * m)) ⌝ }
+{
+    let mut j: usize = 0;
+    while j < m {
+        let x = body[j];
+        spread(table, 8 * j, x);
+        j += 1;
+    }
+}
+
+// The bits from table index k to n, one by one.
+fn unpack_rest(body: &[u8], table: &mut [u8], from: usize, n: usize)
+    requires { ⌜ (from ≤ n) × (n ≤ 8 * length (now body)) × (n ≤ length (now table)) ⌝ }
+    ensures { λ _. ⌜ now (table .exit) ≡ sets (now (table .entry)) from (bitsFrom (now (body .entry)) from (n - from)) ⌝ }
+{
+    let mut k = from;
+    while k < n {
+        let b = k % 8;
+        let x = body[k / 8];
+        table[k] = (x >> b) % 2;
+        k += 1;
+    }
+}
+
+// The first n bits of a body, as table bytes.
+fn unpack(body: &[u8], table: &mut [u8], n: usize)
+    requires { ⌜ (n ≤ 8 * length (now body)) × (n ≤ length (now table)) ⌝ }
+    ensures { λ _. ⌜ now (table .exit) ≡ sets (now (table .entry)) 0 (bitsFrom (now (body .entry)) 0 n) ⌝ }
+{
+    let m = n / 8;
+    unpack_whole(body, table, m);
+    unpack_rest(body, table, 8 * m, n);
+}
+
+// Whether a bit of the body past its first n is 1.
+fn left_over(body: &[u8], n: usize) -> bool
+    requires { ⌜ length (now body) ≡ bytesFor n ⌝ }
+    ensures { λ r. ⌜ r ≡ leftOver (now (body .entry)) n ⌝ }
+{
+    let b = n % 8;
+    if b == 0 {
+        return false;
+    }
+    let x = body[n / 8];
+    (x >> b) != 0
+}
+
+// The bit of a table byte.
+fn is_one(x: u8) -> u8
+    ensures { λ r. ⌜ r ≡ one x ⌝ }
+{
+    if x == 1 { 1 } else { 0 }
+}
+
+// The number whose bits are four table bytes.
+fn four_of(table: &[u8], k: usize) -> u8
+    requires { ⌜ k + 4 ≤ length (now table) ⌝ }
+    ensures { λ r. ⌜ r ≡ ones (now (table .entry)) k 4 ⌝ }
+{
+    let a = is_one(table[k]);
+    let b = is_one(table[k + 1]);
+    let c = is_one(table[k + 2]);
+    let d = is_one(table[k + 3]);
+    a + 2 * b + 4 * c + 8 * d
+}
+
+// The file byte of eight table bytes.
+fn byte_of(table: &[u8], k: usize) -> u8
+    requires { ⌜ k + 8 ≤ length (now table) ⌝ }
+    ensures { λ r. ⌜ r ≡ ones (now (table .entry)) k 8 ⌝ }
+{
+    let low = four_of(table, k);
+    let high = four_of(table, k + 4);
+    low + 16 * high
+}
+
+// The file byte of the last table bytes, from index k on; at most eight.
+fn last_of(table: &[u8], k: usize) -> u8
+    requires { ⌜ (k ≤ length (now table)) × (length (now table) ≤ k + 8) ⌝ }
+    ensures { λ r. ⌜ r ≡ ones (now (table .entry)) k 8 ⌝ }
+{
+    let mut v: u8 = 0;
+    let mut i = table.len();
+    while k < i {
+        i -= 1;
+        let b = is_one(table[i]);
+        v = 2 * v + b;
+    }
+    v
+}
+
+// Stores the first m bytes of the table's bits, past the head.
+fn put_whole(table: &[u8], out: &mut [u8], m: usize)
+    requires { ⌜ (8 * m ≤ length (now table)) × (14 + m ≤ length (now out)) ⌝ }
+    ensures { λ _. ⌜ now (out .exit) ≡ sets (now (out .entry)) 14 (packedFrom (now (table .entry)) 0 m) ⌝ }
+{
+    let mut j: usize = 0;
+    while j < m {
+        let x = byte_of(table, 8 * j);
+        out[14 + j] = x;
+        j += 1;
+    }
+}
+
+// Stores the bits of the whole table, past the head.
+fn put_bits(table: &[u8], out: &mut [u8])
+    requires { ⌜ 14 + bytesFor (length (now table)) ≤ length (now out) ⌝ }
+    ensures { λ _. ⌜ now (out .exit) ≡ sets (now (out .entry)) 14 (packedFrom (now (table .entry)) 0 (bytesFor (length (now (table .entry))))) ⌝ }
+{
+    let m = table.len() / 8;
+    put_whole(table, out, m);
+    if table.len() <= 8 * m {
+        return;
+    }
+    let x = last_of(table, 8 * m);
+    out[14 + m] = x;
+}
+
+fn refused(number: u8, at: usize) -> PlanRead
+    ensures { λ r. ⌜ r ≡ refusedPlan number at ⌝ }
+{
+    PlanRead {
+        cells: 0,
+        slots: 0,
+        channels: 0,
+        answer: ReadAnswer::Refused(number, at),
+    }
+}
+
+fn refused_by(o: Opened) -> PlanRead
+    ensures { λ r. ⌜ r ≡ refusedBy o ⌝ }
+{
+    match o {
+        Opened::Refused(number, at) => refused(number, at),
+        Opened::Body(_, _) => refused(0, 0),
+    }
+}
+
+// The plan record of a file whose head is read.
+fn read_body(bytes: &[u8], table: &mut [u8], cells: u16, slots: u16, channels: u16) -> PlanRead
+    requires { ⌜ HeadRead (now bytes) cells slots channels ⌝ }
+    ensures { λ r. ⌜ r ≡ readPlan (now (bytes .entry)) (now (table .entry)) ⌝ }
+    ensures { λ _. ⌜ now (table .exit) ≡ planTableRead (now (bytes .entry)) (now (table .entry)) ⌝ }
+{
+    let n = entries(cells, slots, channels);
+    let m = (n + 7) / 8;
+    let o = open(bytes, 10, 4, Length::Exact((2 + m) as u16));
+    let Opened::Body(start, len) = o else {
+        return refused_by(o);
+    };
+    let end = start + len;
+    if left_over(&bytes[start..end], n) {
+        return refused(14, 10);
+    }
+    if end < bytes.len() {
+        return refused(12, end);
+    }
+    if table.len() < n {
+        return refused(4, 0);
+    }
+    unpack(&bytes[start..end], table, n);
+    PlanRead {
+        cells,
+        slots,
+        channels,
+        answer: ReadAnswer::Done,
+    }
+}
+
+// Reads a plan file into the lent table: the first IN bytes become 1 where the file reserves, 0 elsewhere.
+pub fn read_plan(bytes: &[u8], table: &mut [u8]) -> PlanRead
+    ensures { λ r. ⌜ r ≡ readPlan (now (bytes .entry)) (now (table .entry)) ⌝ }
+    ensures { λ _. ⌜ now (table .exit) ≡ planTableRead (now (bytes .entry)) (now (table .entry)) ⌝ }
+{
+    let o = open(bytes, 0, 1, Length::Exact(8));
+    let Opened::Body(_, _) = o else {
+        return refused_by(o);
+    };
+    let cells = word(bytes, 4);
+    let slots = word(bytes, 6);
+    let channels = word(bytes, 8);
+    if !size_ok(cells, slots, channels) {
+        return refused(1, 0);
+    }
+    read_body(bytes, table, cells, slots, channels)
+}
+
+// Stores the head, and the length and kind of the plan.
+fn put_head(out: &mut [u8], cells: u16, slots: u16, channels: u16, len: u16)
+    requires { ⌜ 14 ≤ length (now out) ⌝ }
+    ensures { λ _. ⌜ now (out .exit) ≡ sets (now (out .entry)) 0 (words (8 ∷ 1 ∷ cells ∷ slots ∷ channels ∷ len ∷ 4 ∷ [])) ⌝ }
+{
+    put_word(out, 0, 8);
+    put_word(out, 2, 1);
+    put_word(out, 4, cells);
+    put_word(out, 6, slots);
+    put_word(out, 8, channels);
+    put_word(out, 10, len);
+    put_word(out, 12, 4);
+}
+
+// Writes the plan file of a site and its table into the lent output.
+pub fn write_plan(site: Site, table: &[u8], out: &mut [u8]) -> PlanWritten
+    ensures { λ r. ⌜ r ≡ planWritten site (now (table .entry)) (now (out .entry)) ⌝ }
+    ensures { λ _. ⌜ now (out .exit) ≡ planOut site (now (table .entry)) (now (out .entry)) ⌝ }
+{
+    let fault = site.fault_in();
+    let Fault::Fine = fault else {
+        return PlanWritten::Refused(fault);
+    };
+    let cells = site.cells;
+    let slots = site.slots;
+    let channels = site.channels;
+    let n = entries(cells, slots, channels);
+    if table.len() < n {
+        return PlanWritten::TableShort;
+    }
+    let m = (n + 7) / 8;
+    let need = 14 + m;
+    if out.len() < need {
+        return PlanWritten::OutShort(need);
+    }
+    put_head(out, cells, slots, channels, (2 + m) as u16);
+    put_bits(&table[..n], out);
+    PlanWritten::Done(need)
+}
