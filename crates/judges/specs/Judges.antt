@@ -34,4 +34,3 @@ chainOf (broken a b c) = chain.Broken (a + 1) (b + 1) (c + 1)
 
 unfoldable pub chainAnswer : Site → ChainAnswer
 chainAnswer s = pick (isFine (faultOf s)) (chainOf (chainVerdict (netOf s) (counted s))) (chain.Refused (faultOf s))
-

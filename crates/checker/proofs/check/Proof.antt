@@ -1,0 +1,80 @@
+-- `checker::check` meets its contract: a case for each way out. Assumes nothing.
+use native.Mathlib.Nat.{mul-le-mul-right}
+use borrow.Author.Tests.{lt-ltb}
+use Rattle.site.specs.Record.{faultOf, positions}
+use Rattle.site.specs.declared.Fault.the-variants.{Fine}
+use Rattle.site.proofs.Faults.{not-fine, fine-sized, Sized}
+use Rattle.checker.specs.Check.{checkAnswer}
+use Rattle.checker.proofs.Judged.{room-most, check-judged}
+use mathlib.Core.Path.{_≡_, sym, _∙_}
+use native.Mathlib.Omega.{arith}
+use borrow.Author.Needs.{needs}
+use Rattle.checker.proofs.check.Statement.{statement}
+use Rattle.checker.proofs.check.Tie as tie
+
+-- past the match the site has no fault, so its sizes are in range
+fine : (c : tie.After-enum-told) → faultOf (c .before .before .before .before .args .site) ≡ Fine
+fine c = sym (c .before .before .fault-in .ensures) ∙ c .enum-told .given .1
+
+sizes : (c : tie.After-enum-told) → Sized (c .before .before .before .before .args .site)
+sizes c = fine-sized _ (fine c)
+
+fault-in-requires : tie.Need-fault-in-requires
+fault-in-requires c κs = search needs
+
+enum-told : tie.Need-enum-told
+enum-told c = search needs
+
+returns : tie.Need-returns
+unfolding checkAnswer
+returns c = simp (sym (c .before .fault-in .ensures), not-fine (c .before .fault-in .result) (c .match .keys2))
+
+cast-cells : tie.Need-cast-cells
+cast-cells c = search needs
+
+cast-n : tie.Need-cast-n
+cast-n c = search needs
+
+cast-n-2 : tie.Need-cast-n-2
+cast-n-2 c = search needs
+
+mul-n : tie.Need-mul-n
+mul-n c = omega (arith, room-most (sizes (c .before .before .before)))
+
+mul-if1 : tie.Need-mul-if1
+mul-if1 c =
+    let s = c .before .before .before .before .before .before .before .args .site in
+    let z = sizes (c .before .before .before) in
+    omega (arith, room-most z, mul-le-mul-right (positions s) (z .cells-most))
+
+returns-2 : tie.Need-returns-2
+unfolding checkAnswer
+returns-2 c = simp (fine (c .before .before .before .before), lt-ltb _ _ (c .if1 .taken))
+
+judge-requires : tie.Need-judge-requires
+judge-requires c κs =
+    let e = c .before .before .before in
+    let z = sizes (e .before .before .before .before) in
+    (z .cells-most, room-most z, e .if1 .left)
+
+returns-3 : tie.Need-returns-3
+returns-3 c =
+    let e = c .before .before .before .before in
+    let a = e .before .before .before .before .before .before .before .before .args in
+    c .judge .ensures ∙ check-judged (a .site) (a .table .now) (fine (e .before .before .before .before)) (e .if1 .left)
+
+pub check-spec : {M : Type 1} → statement M
+check-spec =
+    tie.close
+    (tie.spec
+    fault-in-requires
+    enum-told
+    returns
+    cast-cells
+    cast-n
+    cast-n-2
+    mul-n
+    mul-if1
+    returns-2
+    judge-requires
+    returns-3)

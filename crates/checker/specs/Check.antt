@@ -1,0 +1,28 @@
+-- What the checker answers. Cells are numbered from 1 in an answer, and positions are counted from 0.
+-- "A table is valid for a site (000, Definition 1) when no two clashing cells hold 1 at one position, and each cell holds 1 exactly as often as its load."
+use mathlib.Core.List.{List}
+use Prim.Native.Nat.{ℕ, _+_}
+use lib.Dec.{ltb}
+use lib.ListN.{length}
+use Rattle.laws.specs.Choice.{pick}
+use Rattle.theory.specs.Greedy.{reserved}
+use Rattle.theory.specs.Verdict.{TableVerdict, valid, clash, wrong, tableVerdict}
+use Rattle.site.specs.Record.{positions, size, faultOf, isFine}
+use Rattle.site.specs.Reach.{netOf}
+use Rattle.site.specs.declared.Site.{Site}
+use Rattle.checker.specs.declared.CheckAnswer.{CheckAnswer}
+use Rattle.checker.specs.declared.CheckAnswer.the-variants.{Valid, TableShort, Clash, Count, Refused}
+
+-- "6 clash in a table: lowest position; there the pair with the lowest first cell, then second"
+-- "7 wrong number of reservations: lowest cell, its count"
+unfoldable pub verdictOf : TableVerdict → CheckAnswer
+verdictOf valid = Valid
+verdictOf (clash k a c) = Clash k (a + 1) (c + 1)
+verdictOf (wrong i n) = Count (i + 1) n
+
+-- "Order: record 1, 2, 3, .. then 4, .. or 6 before 7." "4 lent table shorter than IN"
+unfoldable pub checkAnswer : Site → List ℕ → CheckAnswer
+checkAnswer s t =
+    pick (isFine (faultOf s))
+    (pick (ltb (length t) (size s)) TableShort (verdictOf (tableVerdict (netOf s) (reserved (positions s) t))))
+    (Refused (faultOf s))

@@ -1,0 +1,15 @@
+-- Each contract of crate `judges` leaves one possible answer and one possible content of what is lent. Made by tools/surface from the source.
+-- Assumes nothing.
+use mathlib.Core.Path.{_≡_, sym, _∙_}
+use Rattle.judges.specs.declared.ChainAnswer.{ChainAnswer}
+use Rattle.judges.specs.declared.LoadAnswer.{LoadAnswer}
+use Rattle.site.specs.declared.Site.{Site}
+use Rattle.promises.specs.JudgesSays.{LoadTest, Chain}
+
+-- judges::load_test
+pub loadTest-one : (site : Site) (r q : LoadAnswer) → LoadTest site r → LoadTest site q → (r ≡ q)
+loadTest-one site r q says also = says .answer ∙ sym (also .answer)
+
+-- judges::chain
+pub chain-one : (site : Site) (r q : ChainAnswer) → Chain site r → Chain site q → (r ≡ q)
+chain-one site r q says also = says .answer ∙ sym (also .answer)

@@ -1,0 +1,11 @@
+pub mod Desk
+pub mod Demand1
+pub mod Demand2
+pub mod Demand3
+pub mod SiteOne
+pub mod JudgesOne
+pub mod PlannerOne
+pub mod CheckerOne
+pub mod SharesOne
+pub mod SitefileOne
+pub mod PlanfileOne

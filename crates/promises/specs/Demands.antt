@@ -1,0 +1,26 @@
+-- The words of demand 3, over two site records. Nothing here looks inside a call: a site is accepted when the calls find no fault in it, and a table is valid when the checker
+-- says so.
+use mathlib.Core.Path.{_≡_}
+use mathlib.Core.Bool.{true}
+use mathlib.Core.List.{List}
+use Prim.Native.Nat.{ℕ, _≤_, _<_}
+use lib.ListN.{length}
+use Rattle.site.specs.Record.{positions, loadAt, faultOf, size}
+use Rattle.site.specs.Reach.{clashOf}
+use Rattle.site.specs.declared.Site.{Site}
+use Rattle.site.specs.declared.Fault.the-variants.{Fine}
+
+-- "accepted": no call refuses the record with 1, 2 or 3
+abbrev pub Accepted : Site → Type 0
+Accepted s = faultOf s ≡ Fine
+
+-- "a long enough table": a byte for each cell and position, or more
+abbrev pub LongEnough : Site → List ℕ → Type 0
+LongEnough s table = size s ≤ length table
+
+-- "two accepted sites with the same cells, the second with at least as many channel-slots in all, no greater load in any cell, no clash the first lacks"
+pub record Easier (second first : Site) : Type 0 where
+  pub same-cells : second .cells ≡ first .cells
+  pub as-many-channel-slots : positions first ≤ positions second
+  pub no-greater-load : (i : ℕ) → i < second .cells → loadAt second i ≤ loadAt first i
+  pub no-new-clash : (a c : ℕ) → a < second .cells → c < second .cells → clashOf second a c ≡ true → clashOf first a c ≡ true

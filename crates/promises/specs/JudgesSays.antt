@@ -1,0 +1,14 @@
+-- What the contracts of crate `judges` say: r is the answer, and x′ what a lent x holds afterwards. Made by tools/surface from the source.
+use mathlib.Core.Path.{_≡_}
+use Rattle.judges.specs.Judges.{chainAnswer, loadAnswer}
+use Rattle.judges.specs.declared.ChainAnswer.{ChainAnswer}
+use Rattle.judges.specs.declared.LoadAnswer.{LoadAnswer}
+use Rattle.site.specs.declared.Site.{Site}
+
+-- judges::load_test
+pub record LoadTest (site : Site) (r : LoadAnswer) : Type 0 where
+  pub answer : r ≡ loadAnswer site
+
+-- judges::chain
+pub record Chain (site : Site) (r : ChainAnswer) : Type 0 where
+  pub answer : r ≡ chainAnswer site
