@@ -15,14 +15,12 @@ use lib.Dec.{ltb}
 use lib.ListN.{length, drop}
 use borrow.Author.Tests.{ltb-false}
 use Rattle.laws.specs.Choice.{pick}
-use Rattle.laws.specs.Sum.{bit}
-use Rattle.laws.proofs.Sums.{sum-eq}
-use Rattle.theory.specs.Net.{Net, Reserved, Valid, LoadTest, everyone}
+use Rattle.theory.specs.Net.{Valid, LoadTest, everyone}
 use Rattle.theory.specs.Greedy.{reserved, row, Outcome, planned, noRoom, greedy, Plans}
 use Rattle.theory.specs.Figure.{figureOne}
 use Rattle.theory.proofs.Row.{kept}
 use Rattle.theory.proofs.Run.{Fails, run-fails}
-use Rattle.theory.proofs.Exact.{planned-valid, planned-size, test-plans, covers-everyone}
+use Rattle.theory.proofs.Exact.{planned-valid, planned-size, valid-agree, test-plans, covers-everyone}
 use Rattle.theory.proofs.Figure.{figure-greedy}
 use Rattle.site.specs.Record.{positions, faultOf, isFine, size}
 use Rattle.site.specs.Reach.{netOf}
@@ -76,20 +74,13 @@ done-means s t = (
 
 -- ---- the table of a finished plan
 
-valid-same : (s : Net) (old new : Reserved) → ((i k : ℕ) → i < s .cells → k < s .width → new i k ≡ old i k) → Valid s old → Valid s new
-valid-same s old new h v = record {
-  apart = λ a c k l m w e p q. v .apart a c k l m w e (sym (h a k (omega arith) w) ∙ p) (sym (h c k m w) ∙ q);
-  exact = λ i l. sum-eq _ _ (s .width) (λ k w. ap bit (h i k l w)) ∙ v .exact i l;
-  allowed = λ i k l w e. v .allowed i k l w (sym (h i k l w) ∙ e);
-}
-
 pub done-valid : (s : Site) (t : List ℕ) → planAnswer s t ≡ Done → Valid (netOf s) (reserved (positions s) (planTable s t))
 done-valid s t e =
     let h = done-means s t .0 e in
     let p = h .2 .0 in
     let is : planTable s t ≡ p ++ drop (size s) t = run-table s t (h .0) (h .1) ∙ ap (λ o. tableOf (size s) o ++ drop (size s) t) (h .2 .1) in
     rw is
-    (valid-same (netOf s) (reserved (positions s) p) (reserved (positions s) (p ++ drop (size s) t))
+    (valid-agree (netOf s) (reserved (positions s) p) (reserved (positions s) (p ++ drop (size s) t))
     (λ i k l w. kept (positions s) p (drop (size s) t) (s .cells) (planned-size (netOf s) p (h .2 .1)) i k l w)
     (planned-valid (netOf s) p (h .2 .1)))
 

@@ -1,22 +1,20 @@
 -- Demand 3, over two accepted site records and over tables as the checker reads them. The theory's demand 3 is about problems; here the premises and the answer are what
 -- the public calls say. Assumes nothing.
 use mathlib.Core.Path.{_≡_, refl, sym, ap, _∙_}
-use mathlib.Core.List.{List, _++_}
+use mathlib.Core.List.{List}
 use mathlib.Core.Logic.{_↔_}
 use Prim.Native.Nat.{ℕ, _≤_, _<_}
 use native.Mathlib.Omega.{arith}
 use native.Mathlib.Nat.{le-refl}
-use lib.Dec.{eqb}
-use lib.ListN.{length, drop, length-append}
 use Rattle.laws.proofs.Sums.{count-all}
-use Rattle.laws.proofs.Grid.{kept-byte}
 use Rattle.theory.specs.Net.{Net, Eases, everyone}
 use Rattle.theory.specs.Greedy.{reserved}
-use Rattle.theory.proofs.Exact.{covers-everyone, chained-class, demand-three, class-exact, test-plans, valid-agree, planned-valid, planned-size}
-use Rattle.site.specs.Record.{positions, size}
+use Rattle.theory.proofs.Exact.{covers-everyone, chained-class, demand-three, class-exact}
+use Rattle.site.specs.Record.{positions}
 use Rattle.site.specs.Reach.{netOf}
 use Rattle.site.specs.declared.Site.{Site}
-use Rattle.planner.specs.Plan.{tableOf, planAnswer, planTable}
+use Rattle.planner.specs.Plan.{planAnswer}
+use Rattle.planner.proofs.Meaning.{done-means, test-done}
 use Rattle.planner.specs.declared.PlanAnswer.the-variants as planner
 use Rattle.judges.specs.Judges.{loadAnswer, chainAnswer}
 use Rattle.judges.specs.declared.LoadAnswer.the-variants as load
@@ -24,7 +22,7 @@ use Rattle.judges.specs.declared.ChainAnswer.the-variants as chain
 use Rattle.checker.specs.Check.{checkAnswer}
 use Rattle.checker.specs.declared.CheckAnswer.the-variants as checker
 use Rattle.promises.specs.Demands.{LongEnough, Easier}
-use Rattle.promises.proofs.Demand2.{plan-leaves, plan-done, plans-done, check-is-valid, load-is-C1, chain-is-chained}
+use Rattle.promises.proofs.Demand2.{check-is-valid, load-is-C1, chain-is-chained}
 
 eases : (second first : Site) → Easier second first → Eases (netOf second) (netOf first)
 eases second first h = record {
@@ -41,9 +39,12 @@ pub demand-three-calls : (first second : Site) → Easier second first → chain
 demand-three-calls first second easier ch found ok lent long =
     let c = chain-is-chained second .0 ch in
     let v = check-is-valid first found .0 ok in
-    plans-done second lent (c .0) long
-    (demand-three (netOf first) (reserved (positions first) found) (v .2) (netOf second) (eases second first easier) everyone
-    (covers-everyone (netOf second)) (chained-class (netOf second) everyone (c .1)))
+    done-means second lent .1 (
+      c .0,
+      long,
+      demand-three (netOf first) (reserved (positions first) found) (v .2) (netOf second) (eases second first easier) everyone
+          (covers-everyone (netOf second)) (chained-class (netOf second) everyone (c .1)),
+    )
 
 -- "On a chained site the load test holds exactly when the planner plans"
 pub chained-exact : (s : Site) → chainAnswer s ≡ chain.Chained → (lent : List ℕ) → LongEnough s lent
@@ -51,15 +52,15 @@ pub chained-exact : (s : Site) → chainAnswer s ≡ chain.Chained → (lent : L
 chained-exact s ch lent long =
     let c = chain-is-chained s .0 ch in
     let x = class-exact (netOf s) everyone (covers-everyone (netOf s)) (chained-class (netOf s) everyone (c .1)) in (
-      λ e. plans-done s lent (c .0) long (x .0 (load-is-C1 s .0 e .1)),
-      λ e. load-is-C1 s .1 (c .0, x .1 (plan-done s lent e .2)),
+      λ e. done-means s lent .1 (c .0, long, x .0 (load-is-C1 s .0 e .1)),
+      λ e. load-is-C1 s .1 (c .0, x .1 (done-means s lent .0 e .2)),
     )
 
 -- "on any site a load test that holds means a plan"
 pub holds-plans : (s : Site) → loadAnswer s ≡ load.Holds → (lent : List ℕ) → LongEnough s lent → planAnswer s lent ≡ planner.Done
 holds-plans s e lent long =
     let h = load-is-C1 s .0 e in
-    plans-done s lent (h .0) long (test-plans (netOf s) everyone (covers-everyone (netOf s)) (h .1))
+    test-done s lent (h .0) long (h .1)
 
 -- ---- what these mean on the ground
 
@@ -70,19 +71,3 @@ chained-full s ch lent long cell short five any ok =
     let yes = demand-three-calls s s (record { same-cells = refl; as-many-channel-slots = le-refl _; no-greater-load = λ i _. le-refl _; no-new-clash = λ a c _ _ e. e }) ch any ok lent long in
     let z : _≡_ {A = ℕ} 0 1 = cc in
     omega arith
-
--- what the planner leaves when it is done, the checker calls valid
-pub planned-checks : (s : Site) (lent : List ℕ) → planAnswer s lent ≡ planner.Done → checkAnswer s (planTable s lent) ≡ checker.Valid
-planned-checks s lent e =
-    let d = plan-done s lent e in
-    let u = d .2 .0 in
-    let rest = drop (size s) lent in
-    let is : planTable s lent ≡ u ++ rest = plan-leaves s lent (d .0) (d .1) ∙ ap (λ o. tableOf (size s) o ++ rest) (d .2 .1) in
-    let long : length u ≡ size s = planned-size (netOf s) u (d .2 .1) in
-    rw is
-    (check-is-valid s (u ++ rest) .1 (
-      d .0,
-      omega (arith, length-append u rest),
-      valid-agree (netOf s) (reserved (positions s) u) (reserved (positions s) (u ++ rest))
-          (λ i k l w. ap (λ b. eqb b 1) (kept-byte (positions s) u rest (s .cells) long i k l w)) (planned-valid (netOf s) u (d .2 .1)),
-    ))
