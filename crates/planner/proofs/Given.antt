@@ -11,6 +11,7 @@ use Rattle.theory.specs.Greedy.{Outcome, planned, noRoom, greedy}
 use Rattle.site.specs.Record.{faultOf, isFine, size}
 use Rattle.site.specs.Reach.{netOf}
 use Rattle.site.specs.Given.{Given}
+use Rattle.site.proofs.Given.{faultFrom}
 use Rattle.site.specs.declared.Site.{Site}
 use Rattle.site.specs.declared.Fault.{Fault}
 use Rattle.site.specs.declared.Fault.the-variants.{Fine, Size, Load, Reach}
@@ -23,11 +24,8 @@ use Rattle.planner.specs.declared.PlanAnswer.the-variants.{Done, TableSh
 abbrev readBack : Given → PlanAnswer
 readBack g =
     pick (eqb (g .number) 0) Done
-    (pick (eqb (g .number) 1) (Refused Size)
-    (pick (eqb (g .number) 2) (Refused (Load (getD (g .values) 0 0)))
-    (pick (eqb (g .number) 3) (Refused (Reach (getD (g .values) 0 0)))
     (pick (eqb (g .number) 4) TableShort
-    (NoRoom (getD (g .values) 0 0) (getD (g .values) 1 0))))))
+    (pick (eqb (g .number) 5) (NoRoom (getD (g .values) 0 0) (getD (g .values) 1 0)) (Refused (faultFrom g))))
 
 read-refusal : (f : Fault) → proper (Refused f) ≡ true → readBack (planGiven (Refused f)) ≡ Refused f
 read-refusal Fine h = absurd (false≢true h)

@@ -8,7 +8,7 @@ ghost use Prim.Native.Nat.{_+_, _*_, _≤_, _<_};
 ghost use lib.ListN.{length, getD, take, drop, replicate};
 ghost use Rattle.laws.specs.Part.{part, put};
 ghost use Rattle.theory.specs.Greedy.{marked, fill, unmet, row, run, planned, greedy};
-ghost use Rattle.site.specs.Reach.{clashIn, netIn};
+ghost use Rattle.site.specs.Reach.{netIn};
 ghost use Rattle.planner.specs.Plan.{planAnswer, planTable, answerOf, tableOf};
 
 // What the planner answers: done; 4, the table is short; 5, a cell's number and how many of its fragments found no room; or what is wrong with the record.

@@ -9,3 +9,4 @@ pub mod CheckerOne
 pub mod SharesOne
 pub mod SitefileOne
 pub mod PlanfileOne
+pub mod CapiOne

@@ -7,3 +7,4 @@ pub mod CheckerSays
 pub mod SharesSays
 pub mod SitefileSays
 pub mod PlanfileSays
+pub mod CapiSays

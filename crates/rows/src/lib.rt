@@ -5,10 +5,19 @@ ghost use Prim.Native.Nat.{_+_, _*_, _≤_, _<_};
 ghost use lib.Dec.{eqb};
 ghost use lib.ListN.{length, replicate};
 ghost use Rattle.laws.specs.Choice.{pick};
+ghost use Rattle.laws.specs.Sum.{bit};
 ghost use Rattle.laws.specs.Part.{part, put};
 ghost use Rattle.theory.specs.Greedy.{forbid, fill, unmet};
 
+// 1 for an idle byte, and 0 for any other.
+fn idle(byte: u8) -> u8
+    ensures { λ r. ⌜ r ≡ bit (eqb byte 0) ⌝ }
+{
+    (byte == 0) as u8
+}
+
 // Reserves the first `load` idle positions of a row, and answers how many fragments found no place.
+// Each byte is raised by what it takes, 1 or 0, and so is stored without a branch: in a row of mixed bytes a branch would often be guessed wrong.
 pub fn fill_row(row: &mut [u8], slots: usize, channels: usize, load: usize) -> usize
     requires { ⌜ length (now row) ≡ slots * channels ⌝ }
     ensures filled { λ _. ⌜ now (row .exit) ≡ fill (λ _. true) 0 load (now (row .entry)) ⌝ }
@@ -23,10 +32,10 @@ pub fn fill_row(row: &mut [u8], slots: usize, channels: usize, load: usize) -> u
             if left == 0 {
                 break 'slots;
             }
-            if row[at] == 0 {
-                row[at] = 1;
-                left -= 1;
-            }
+            let byte = row[at];
+            let taken = idle(byte);
+            row[at] = byte + taken;
+            left -= taken as usize;
             at += 1;
             channel += 1;
         }

@@ -1,5 +1,5 @@
 -- `planner::plan` meets its contract: each way out is one of the three ways of proofs/Answer.antt, and no row is planned before the first. Assumes nothing.
-use mathlib.Core.Path.{_≡_, refl, sym, _∙_}
+use mathlib.Core.Path.{_≡_, sym, _∙_}
 use native.Mathlib.Omega.{arith}
 use borrow.Author.Needs.{needs}
 use Rattle.site.specs.Record.{positions, faultOf}

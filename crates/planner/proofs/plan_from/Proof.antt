@@ -79,10 +79,10 @@ mul-end : tie.Need-mul-end Inv-loop μ-loop
 mul-end c = omega (arith, inside (c .before .before .before .before .before .before), start (c .before .before .before .before .before .before))
 
 mul-end-2 : tie.Need-mul-end-2 Inv-loop μ-loop
-mul-end-2 c = omega (arith, start (c .before .before .before .before .before .before))
+mul-end-2 c = omega (arith, inside (c .before .before .before .before .before .before), start (c .before .before .before .before .before .before))
 
 slice-relend-prefix-clear : tie.Need-slice-relend-prefix-clear Inv-loop μ-loop
-slice-relend-prefix-clear c = omega (arith, long (c .before .before .before), c .before .before .before .before .before .before .before .loop .inv .1, start (c .before .before .before .before .before .before))
+slice-relend-prefix-clear c = omega (arith, inside (c .before .before .before .before .before .before), long (c .before .before .before), c .before .before .before .before .before .before .before .loop .inv .1, start (c .before .before .before .before .before .before))
 
 slice-aggregate-clear : tie.Need-slice-aggregate-clear Inv-loop μ-loop
 slice-aggregate-clear c =

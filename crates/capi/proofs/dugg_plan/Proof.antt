@@ -1,0 +1,19 @@
+-- `capi::dugg_plan` meets its contract: what the call ensures, put into what the conversion ensures. Assumes nothing.
+use borrow.Author.Needs.{needs}
+use Rattle.capi.proofs.dugg_plan.Statement.{statement}
+use Rattle.capi.proofs.dugg_plan.Tie as tie
+
+plan-requires : tie.Need-plan-requires
+plan-requires c κs = search needs
+
+plan-answer-requires : tie.Need-plan-answer-requires
+plan-answer-requires c κs = search needs
+
+same-length : tie.Need-same-length
+same-length c = search needs
+
+returns : tie.Need-returns
+returns c = (cc, cc)
+
+pub dugg-plan-spec : {M : Type 1} → statement M
+dugg-plan-spec = tie.close (tie.spec plan-requires plan-answer-requires same-length returns)

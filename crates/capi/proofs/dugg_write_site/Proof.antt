@@ -1,0 +1,20 @@
+-- `capi::dugg_write_site` meets its contract: what the call ensures, put into what the conversion ensures. Assumes nothing.
+use borrow.Author.Needs.{needs}
+use Rattle.capi.proofs.dugg_write_site.Statement.{statement}
+use Rattle.capi.proofs.dugg_write_site.Tie as tie
+
+write-site-requires : tie.Need-write-site-requires
+write-site-requires c κs = search needs
+
+site-written-requires : tie.Need-site-written-requires
+site-written-requires c κs = search needs
+
+same-length : tie.Need-same-length
+same-length c = search needs
+
+returns : tie.Need-returns
+returns c = (cc, cc)
+
+pub dugg-write-site-spec : {M : Type 1} → statement M
+dugg-write-site-spec =
+    tie.close (tie.spec write-site-requires site-written-requires same-length returns)

@@ -1,0 +1,33 @@
+-- What a C caller is told: document 01's number, and its values in the document's order; a value that the document does not name is 0.
+use Prim.Native.Nat.{ℕ}
+use mathlib.Core.List.{[], _∷_}
+use lib.ListN.{getD}
+use Rattle.site.specs.Given.{Given, faultGiven}
+use Rattle.site.specs.declared.Edited.{Edited}
+use Rattle.sitefile.specs.Given.{readGiven}
+use Rattle.sitefile.specs.declared.SiteRead.{SiteRead}
+use Rattle.planfile.specs.Given.{planReadGiven}
+use Rattle.planfile.specs.declared.PlanRead.{PlanRead}
+use Rattle.capi.specs.declared.Answer.{Answer}
+use Rattle.capi.specs.declared.EditedSite.{EditedSite}
+use Rattle.capi.specs.declared.PlanReadC.{PlanReadC}
+
+-- a number and three values
+abbrev pub numbered : ℕ → ℕ → ℕ → ℕ → Answer
+numbered n a b c = record { number = n; value = a ∷ b ∷ c ∷ [] }
+
+-- what is given back, as a C caller gets it
+unfoldable pub told : Given → Answer
+told g = numbered (g .number) (getD (g .values) 0 0) (getD (g .values) 1 0) (getD (g .values) 2 0)
+
+-- "Each edit hands back the site with that one thing changed; a refused edit hands back the site it was given."
+unfoldable pub toldEdited : Edited → EditedSite
+toldEdited e = record { site = e .site; answer = told (faultGiven (e .answer)) }
+
+-- "A refused site read gives a site of zeros."
+unfoldable pub toldSiteRead : SiteRead → EditedSite
+toldSiteRead e = record { site = e .site; answer = told (readGiven (e .answer)) }
+
+-- "A plan read gives I, T and F; refused, three zeros."
+unfoldable pub toldPlanRead : PlanRead → PlanReadC
+toldPlanRead e = record { cells = e .cells; slots = e .slots; channels = e .channels; answer = told (planReadGiven (e .answer)) }

@@ -1,0 +1,54 @@
+-- The two parts in which the program writes a listing: the head, which is one line or four, and then a line for each planned cell.
+use Prim.Native.Nat.{ℕ, _*_, _≤_, _<_}
+use mathlib.Core.List.{List}
+use lib.ListN.{length}
+use Rattle.theory.specs.Greedy.{greedy}
+use Rattle.site.specs.Record.{positions}
+use Rattle.site.specs.Reach.{netOf}
+use Rattle.site.specs.declared.Site.{Site}
+use Rattle.planner.specs.Plan.{answerOf, planTable}
+use Rattle.planner.specs.declared.PlanAnswer.{PlanAnswer}
+use Rattle.planner.specs.declared.PlanAnswer.the-variants as plan
+use Rattle.records.specs.declared.ReadAnswer.{ReadAnswer}
+use Rattle.records.specs.declared.ReadAnswer.the-variants.{Done, Refused}
+use Rattle.listing.specs.Lines.{refusedLine}
+use Rattle.lister.specs.Listing.{siteHead}
+use Rattle.lister.specs.declared.Rest.{Rest}
+
+abbrev pub headOf : Site → ReadAnswer → List ℕ
+headOf s Done = siteHead s
+headOf s (Refused number offset) = refusedLine number offset
+
+-- the table that the cell lines are read from
+abbrev pub tableAfter : Site → ReadAnswer → List ℕ → List ℕ
+tableAfter s Done t = planTable s t
+tableAfter s (Refused number offset) t = t
+
+-- how many cell lines there are
+abbrev pub rowCount : PlanAnswer → ℕ → ℕ
+rowCount plan.Done cells = cells
+rowCount (plan.NoRoom cell short) cells = 0
+rowCount plan.TableShort cells = 0
+rowCount (plan.Refused f) cells = 0
+
+-- the head's length, and of the cell lines their number and the positions and channels of a row
+unfoldable pub siteRest : Site → Rest
+siteRest s =
+    record {
+      end = length (siteHead s);
+      rows = rowCount (answerOf (greedy (netOf s))) (s .cells);
+      width = positions s;
+      channels = s .channels;
+    }
+
+abbrev pub restOf : Site → ReadAnswer → Rest
+restOf s Done = siteRest s
+restOf s (Refused number offset) = record { end = length (refusedLine number offset); rows = 0; width = 0; channels = 0 }
+
+-- what makes the program safe: the head is short, and the rows stand within a table of 65,536 bytes
+pub record Fits (r : Rest) : Type 0 where
+  pub short : r .end ≤ 320
+  pub few : r .rows ≤ 32
+  pub narrow : r .width ≤ 2048
+  pub within : r .rows * r .width ≤ 65536
+  pub some : 0 < r .rows → 0 < r .channels

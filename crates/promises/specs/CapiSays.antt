@@ -1,0 +1,87 @@
+-- What the contracts of crate `capi` say: r is the answer, and x′ what a lent x holds afterwards. Made by tools/surface from the source.
+use mathlib.Core.Path.{_≡_}
+use mathlib.Core.List.{List}
+use Prim.Native.Nat.{ℕ}
+use Rattle.capi.specs.Told.{told, toldEdited, toldPlanRead, toldSiteRead}
+use Rattle.checker.specs.Check.{checkAnswer}
+use Rattle.checker.specs.Given.{checkGiven}
+use Rattle.judges.specs.Given.{chainGiven, loadGiven}
+use Rattle.judges.specs.Judges.{chainAnswer, loadAnswer}
+use Rattle.planfile.specs.Given.{planWrittenGiven}
+use Rattle.planfile.specs.Read.{planTableRead, readPlan}
+use Rattle.planfile.specs.Write.{planOut, planWritten}
+use Rattle.planner.specs.Given.{planGiven}
+use Rattle.planner.specs.Plan.{planAnswer, planTable}
+use Rattle.shares.specs.Given.{shareGiven}
+use Rattle.shares.specs.Share.{shareOf}
+use Rattle.site.specs.Edit.{clearReachOf, setLoadOf, setReachOf}
+use Rattle.site.specs.Given.{clashGiven, faultGiven}
+use Rattle.site.specs.Reach.{clashAnswer}
+use Rattle.site.specs.Record.{faultOf}
+use Rattle.sitefile.specs.Given.{siteWrittenGiven}
+use Rattle.sitefile.specs.Read.{readSite}
+use Rattle.sitefile.specs.Write.{siteOut, siteWritten}
+use Rattle.capi.specs.declared.Answer.{Answer}
+use Rattle.capi.specs.declared.EditedSite.{EditedSite}
+use Rattle.capi.specs.declared.PlanReadC.{PlanReadC}
+use Rattle.site.specs.declared.Site.{Site}
+
+-- capi::dugg_fault
+pub record DuggFault (site : Site) (r : Answer) : Type 0 where
+  pub answer : r ≡ told (faultGiven (faultOf site))
+
+-- capi::dugg_clash
+pub record DuggClash (site : Site) (a : ℕ) (b : ℕ) (r : Answer) : Type 0 where
+  pub answer : r ≡ told (clashGiven (clashAnswer site a b))
+
+-- capi::dugg_set_load
+pub record DuggSetLoad (site : Site) (cell : ℕ) (load : ℕ) (r : EditedSite) : Type 0 where
+  pub answer : r ≡ toldEdited (setLoadOf site cell load)
+
+-- capi::dugg_set_reach
+pub record DuggSetReach (site : Site) (from : ℕ) (to : ℕ) (r : EditedSite) : Type 0 where
+  pub answer : r ≡ toldEdited (setReachOf site from to)
+
+-- capi::dugg_clear_reach
+pub record DuggClearReach (site : Site) (from : ℕ) (to : ℕ) (r : EditedSite) : Type 0 where
+  pub answer : r ≡ toldEdited (clearReachOf site from to)
+
+-- capi::dugg_load_test
+pub record DuggLoadTest (site : Site) (r : Answer) : Type 0 where
+  pub answer : r ≡ told (loadGiven (loadAnswer site))
+
+-- capi::dugg_chain
+pub record DuggChain (site : Site) (r : Answer) : Type 0 where
+  pub answer : r ≡ told (chainGiven (chainAnswer site))
+
+-- capi::dugg_plan
+pub record DuggPlan (site : Site) (table : List ℕ) (r : Answer) (table′ : List ℕ) : Type 0 where
+  pub answer : r ≡ told (planGiven (planAnswer site (table)))
+  pub table-after : table′ ≡ planTable site (table)
+
+-- capi::dugg_check
+pub record DuggCheck (site : Site) (table : List ℕ) (r : Answer) : Type 0 where
+  pub answer : r ≡ told (checkGiven (checkAnswer site (table)))
+
+-- capi::dugg_share
+pub record DuggShare (slots : ℕ) (burst : ℕ) (period : ℕ) (r : Answer) : Type 0 where
+  pub answer : r ≡ told (shareGiven (shareOf slots burst period))
+
+-- capi::dugg_read_site
+pub record DuggReadSite (bytes : List ℕ) (r : EditedSite) : Type 0 where
+  pub answer : r ≡ toldSiteRead (readSite (bytes))
+
+-- capi::dugg_write_site
+pub record DuggWriteSite (site : Site) (out : List ℕ) (r : Answer) (out′ : List ℕ) : Type 0 where
+  pub answer : r ≡ told (siteWrittenGiven (siteWritten site (out)))
+  pub out-after : out′ ≡ siteOut site (out)
+
+-- capi::dugg_read_plan
+pub record DuggReadPlan (bytes : List ℕ) (table : List ℕ) (r : PlanReadC) (table′ : List ℕ) : Type 0 where
+  pub answer : r ≡ toldPlanRead (readPlan (bytes) (table))
+  pub table-after : table′ ≡ planTableRead (bytes) (table)
+
+-- capi::dugg_write_plan
+pub record DuggWritePlan (site : Site) (table : List ℕ) (out : List ℕ) (r : Answer) (out′ : List ℕ) : Type 0 where
+  pub answer : r ≡ told (planWrittenGiven (planWritten site (table) (out)))
+  pub out-after : out′ ≡ planOut site (table) (out)
