@@ -4,9 +4,8 @@ use mathlib.Core.List.{[], _∷_}
 use lib.ListN.{getD}
 use Rattle.site.specs.Given.{Given, faultGiven}
 use Rattle.site.specs.declared.Edited.{Edited}
-use Rattle.sitefile.specs.Given.{readGiven}
+use Rattle.records.specs.Given.{readGiven}
 use Rattle.sitefile.specs.declared.SiteRead.{SiteRead}
-use Rattle.planfile.specs.Given.{planReadGiven}
 use Rattle.planfile.specs.declared.PlanRead.{PlanRead}
 use Rattle.capi.specs.declared.Answer.{Answer}
 use Rattle.capi.specs.declared.EditedSite.{EditedSite}
@@ -30,4 +29,4 @@ toldSiteRead e = record { site = e .site; answer = told (readGiven (e .answer)) 
 
 -- "A plan read gives I, T and F; refused, three zeros."
 unfoldable pub toldPlanRead : PlanRead → PlanReadC
-toldPlanRead e = record { cells = e .cells; slots = e .slots; channels = e .channels; answer = told (planReadGiven (e .answer)) }
+toldPlanRead e = record { cells = e .cells; slots = e .slots; channels = e .channels; answer = told (readGiven (e .answer)) }

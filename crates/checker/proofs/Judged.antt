@@ -3,7 +3,6 @@
 use mathlib.Core.Path.{_≡_, refl, sym, _∙_}
 use mathlib.Core.List.{List, []}
 use Prim.Native.Nat.{ℕ, _+_, _*_, _≤_, _<_, zero-le}
-use native.Mathlib.Nat.{mul-le-mul-right}
 use native.Mathlib.Omega.{arith}
 use lib.Dec.{ltb}
 use lib.ListN.{length}
@@ -16,7 +15,6 @@ use Rattle.site.specs.Record.{positions, faultOf}
 use Rattle.site.specs.Reach.{netIn, netOf}
 use Rattle.site.specs.declared.Site.{Site}
 use Rattle.site.specs.declared.Fault.the-variants.{Fine}
-use Rattle.site.proofs.Faults.{Sized}
 use Rattle.checker.specs.Check.{verdictOf, checkAnswer}
 use Rattle.checker.specs.declared.CheckAnswer.the-variants.{Valid, Clash, Count}
 
@@ -70,10 +68,6 @@ module _ (cells n : ℕ) (loads reach t : List ℕ) where
       pub is-valid : cells ≤ i → Valid ≡ verdictOf (tableVerdict (netIn cells n loads reach) (reserved n t))
       unfolding tableVerdict verdictOf
       is-valid h = rw (sym (lowest ∙ same-clash), le-ltb p n none, sym (wrong ∙ same-wrong), le-ltb i cells h)
-
--- an accepted site has at most 2,048 positions
-pub room-most : {s : Site} → Sized s → positions s ≤ 2048
-room-most {s} z = omega (arith, mul-le-mul-right (s .channels) (z .slots-most))
 
 -- the check of a site with no fault and a table that is long enough
 pub check-judged : (s : Site) (t : List ℕ) → faultOf s ≡ Fine → s .cells * positions s ≤ length t

@@ -4,4 +4,3 @@ pub mod Lowest
 pub mod Judged
 pub mod Given
 pub mod Meaning
-pub mod Desk

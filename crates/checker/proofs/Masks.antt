@@ -1,27 +1,23 @@
 -- The words' tests are the definition's: a cell meets its mask in a position's word exactly where it clashes there with a cell above it.
---     any-first      a search finds something exactly where something passes
 --     mask-none, mask-more      the mask, cell after cell
 --     meets-clash, any-clash      one cell, and all cells, at a position
 --     mark-none, mark-more, mark-kept      the marks, cell after cell
 -- Assumes nothing.
 use mathlib.Core.Path.{_≡_, refl, sym, ap, ap₂, _∙_}
-use mathlib.Core.Bool.{Bool, true, false, _&&_, _||_, not}
+use mathlib.Core.Bool.{Bool, true, false, _&&_, _||_, not, and-comm, Bool·not-not}
 use mathlib.Core.List.{List}
-use mathlib.Core.Logic.{⊎-elim}
-use Prim.Native.Nat.{ℕ, zero, suc, _+_, _^_, _≤_, _<_, zero-le}
+use Prim.Native.Nat.{ℕ, _+_, _^_, _≤_, _<_, zero-le}
 use native.Mathlib.Numerals.{add-one}
 use native.Mathlib.Omega.{arith}
 use lib.Bits.{bitOr, or-zero-r, and-zero-r}
 use lib.Dec.{ltb, eqb}
 use lib.ListN.{length, getD}
-use borrow.Author.Tests.{lt-ltb, le-ltb, ltb-true, ltb-false}
+use borrow.Author.Tests.{lt-ltb, le-ltb, ltb-true}
 use Rattle.laws.specs.Choice.{pick}
-use Rattle.laws.specs.Search.{first}
 use Rattle.laws.specs.Sum.{bit, any}
 use Rattle.laws.specs.Bits.{setBit}
-use Rattle.laws.proofs.Choice.{cases, both, both-is}
-use Rattle.laws.proofs.Search.{first-least, first-passes, first-before}
-use Rattle.laws.proofs.Any.{any-here, none-any, any-eq}
+use Rattle.laws.proofs.Choice.{both, both-is}
+use Rattle.laws.proofs.Any.{any-eq, any-first}
 use Rattle.theory.specs.Net.{Net, Reserved}
 use Rattle.theory.specs.Verdict.{secondAt, clashesAt, firstAt}
 use Rattle.words.specs.Words.{wordOf, wordAt}
@@ -29,37 +25,6 @@ use Rattle.words.specs.Stored.{stored}
 use Rattle.words.proofs.Words.{word-bit, word-and, word-empty, word-more, none-word}
 use Rattle.words.proofs.Stored.{stored-next, stored-same}
 use Rattle.checker.specs.Masks.{maskOf, meets}
-
--- a digit as a test
-pub digit : (u : ℕ) → u < 2 → u ≡ bit (eqb u 1)
-digit zero h = refl
-digit (suc zero) h = refl
-digit (suc (suc u)) h = absurd (omega arith)
-
--- q from k on, as p below n
-pub any-first : (p q : ℕ → Bool) (k n : ℕ) → k ≤ n
-    → ((c : ℕ) → c < n → p c ≡ true → (k ≤ c) × (q c ≡ true))
-    → ((c : ℕ) → k ≤ c → c < n → q c ≡ true → p c ≡ true)
-    → any p n ≡ ltb (first q k n) n
-any-first p q k n l to from = ⊎-elim found none (cases (ltb (first q k n) n))
-  where
-    found : ltb (first q k n) n ≡ true → any p n ≡ ltb (first q k n) n
-    found h =
-        let b : first q k n < n = ltb-true (first q k n) n h in
-        any-here p n (first q k n) b (from (first q k n) (first-least q k n) b (first-passes q k n l b)) ∙ sym h
-
-    never : ltb (first q k n) n ≡ false → (c : ℕ) → c < n → p c ≡ false
-    never h c b =
-        ⊎-elim
-        (λ e.
-        let r = to c b e in
-        let z : q c ≡ false = first-before q k n c (r .0) (omega (arith, ltb-false (first q k n) n h)) in
-        let y : true ≡ false = sym (r .1) ∙ z in
-        e ∙ y)
-        (λ e. e) (cases (p c))
-
-    none : ltb (first q k n) n ≡ false → any p n ≡ ltb (first q k n) n
-    none h = none-any p n (never h) ∙ sym h
 
 module _ (clash : ℕ → ℕ → Bool) (a : ℕ) where
   abbrev pub above : ℕ → Bool
@@ -80,18 +45,8 @@ module _ (clash : ℕ → ℕ → Bool) (a : ℕ) where
       ∙ word-more above c
 
 module _ (s : Net) (res : Reserved) (k : ℕ) where
-  swap : (x y : Bool) → (x && y) ≡ (y && x)
-  swap true true = refl
-  swap true false = refl
-  swap false true = refl
-  swap false false = refl
-
   shared : ℕ → ℕ → Bool
   shared a c = res c k && above (s .clash) a c
-
-  double : (t : Bool) → not (not t) ≡ t
-  double true = refl
-  double false = refl
 
   -- a cell against its mask
   pub meets-clash : (a : ℕ) → a < s .cells
@@ -101,7 +56,7 @@ module _ (s : Net) (res : Reserved) (k : ℕ) where
       ap₂ _&&_
       (ap (λ x. not (eqb x 0)) (word-and (λ i. res i k) (above (s .clash) a) (s .cells))
       ∙ ap not (word-empty (shared a) (s .cells))
-      ∙ double (any (shared a) (s .cells))
+      ∙ Bool·not-not (any (shared a) (s .cells))
       ∙ any-first (shared a) (λ c. s .clash a c && res c k) (a + 1) (s .cells) (omega arith)
       (λ c b e.
       let e₁ = both (res c k) (above (s .clash) a c) e in
@@ -111,7 +66,7 @@ module _ (s : Net) (res : Reserved) (k : ℕ) where
       let e₁ = both (s .clash a c) (res c k) e in
       both-is (res c k) (above (s .clash) a c) (e₁ .1) (both-is (ltb a c) (s .clash a c) (lt-ltb a c (omega arith)) (e₁ .0))))
       (word-bit (λ i. res i k) (s .cells) a h)
-      ∙ swap (ltb (secondAt s res k a) (s .cells)) (res a k)
+      ∙ and-comm (ltb (secondAt s res k a) (s .cells)) (res a k)
 
   -- some cell clashes at k exactly where the first such cell is one
   pub any-clash : any (λ a. meets (wordAt (s .cells) res k) (maskOf (s .clash) (s .cells) a) a) (s .cells) ≡ ltb (firstAt s res k) (s .cells)

@@ -1,12 +1,12 @@
 -- Where the searches of the load test and of the judge end; and that the judge's two searches in a row find what the definition's nested ones do.
 -- Below the first cell b that does not clash with a, no pair breaks, since every gap is empty; past it, each cell that clashes with a breaks, with the gap at b.
 -- Assumes nothing.
-use Prim.Native.Nat.{ℕ, zero, suc, _+_, _-_, _*_, _≤_, _<_}
+use Prim.Native.Nat.{ℕ, _+_, _-_, _≤_, _<_}
 use mathlib.Core.Bool.{Bool, true, false, not, _&&_, _||_, and-true, and-false}
 use mathlib.Core.Logic.{⊎-elim}
 use mathlib.Core.List.{List, []}
 use mathlib.Core.Path.{_≡_, sym, ap, _∙_}
-use native.Mathlib.Nat.{mul-le-mul, eq-or-lt-of-le}
+use native.Mathlib.Nat.{eq-or-lt-of-le}
 use native.Mathlib.Omega.{arith}
 use borrow.Author.Tests.{ltb-true, lt-ltb, le-ltb, not-true, ne-eqb}
 use lib.Dec.{ltb}
@@ -14,7 +14,7 @@ use lib.ListN.{getD}
 use Rattle.laws.specs.Bits.{bitAt}
 use Rattle.laws.specs.Search.{first}
 use Rattle.laws.proofs.Choice.{both}
-use Rattle.laws.proofs.Search.{first-hit, first-miss, first-least, first-most, first-passes, first-before, first-none}
+use Rattle.laws.proofs.Search.{first-least, first-most, first-passes, first-before, first-none, first-skip, first-is, first-same}
 use Rattle.laws.proofs.Sums.{count-all}
 use Rattle.theory.specs.Net.{Net, everyone, room, demand}
 use Rattle.theory.specs.Verdict.{overloaded, lowestOver, loadVerdict, gap, breaks, breakOf, firstBreak, chainVerdict}
@@ -22,46 +22,11 @@ use Rattle.site.specs.Record.{positions, faultOf}
 use Rattle.site.specs.Reach.{reaches, clashIn, netOf, netIn}
 use Rattle.site.specs.declared.Site.{Site}
 use Rattle.site.specs.declared.Fault.the-variants.{Fine}
-use Rattle.site.proofs.Faults.{Sized}
 use Rattle.judges.specs.Judges.{counted, loadAnswer, chainAnswer}
 use Rattle.judges.specs.declared.LoadAnswer.the-variants as load
 use Rattle.judges.specs.declared.ChainAnswer.the-variants as chain
 
--- ---- searches
-
--- what does not pass at the start may be left out
-skip : (p : ℕ → Bool) (n k e : ℕ) → k + n ≤ e → ((j : ℕ) → k ≤ j → j < k + n → p j ≡ false) → first p k e ≡ first p (k + n) e
-skip p zero k e l h = let q : k ≡ k + 0 = omega arith in ap (λ (m : ℕ). first p m e) q
-skip p (suc n) k e l h =
-    let q : k + 1 + n ≡ k + suc n = omega arith in
-    first-miss p k e (omega arith) (h k (omega arith) (omega arith))
-    ∙ skip p n (k + 1) e (omega arith) (λ j g m. h j (omega arith) (omega arith))
-    ∙ ap (λ (m : ℕ). first p m e) q
-
-pub first-skip : (p : ℕ → Bool) (k m e : ℕ) → k ≤ m → m ≤ e → ((j : ℕ) → k ≤ j → j < m → p j ≡ false) → first p k e ≡ first p m e
-first-skip p k m e l h n =
-    let q : k + (m - k) ≡ m = omega arith in
-    skip p (m - k) k e (omega arith) (λ j g i. n j g (omega arith)) ∙ ap (λ (i : ℕ). first p i e) q
-
--- the first that passes is the first up to any later end
-pub first-is : (p : ℕ → Bool) (k m e : ℕ) → k ≤ m → m < e → p m ≡ true → ((j : ℕ) → k ≤ j → j < m → p j ≡ false) → first p k e ≡ m
-first-is p k m e l h t n = first-skip p k m e l (omega arith) n ∙ first-hit p m e h t
-
--- two tests that agree on the range find the same
-pub first-same : (p q : ℕ → Bool) (k e : ℕ) → k ≤ e → ((j : ℕ) → k ≤ j → j < e → p j ≡ q j) → first p k e ≡ first q k e
-first-same p q k e l h =
-    let low = first-least q k e in
-    let high = first-most q k e l in
-    ⊎-elim
-    (λ i. first-none p k e l (λ j g m. h j g m ∙ first-before q k e j g (omega arith)) ∙ sym i)
-    (λ i. first-is p k (first q k e) e low i (h (first q k e) low i ∙ first-passes q k e l i)
-    (λ j g m. h j g (omega arith) ∙ first-before q k e j g m))
-    (eq-or-lt-of-le high)
-
 -- ---- the load test
-
-pub room-most : (s : Site) → Sized s → s .slots * s .channels ≤ 2048
-room-most s z = mul-le-mul (z .slots-most) (z .channels-most)
 
 -- every position counts, so the test is against the width
 pub over-open : (n w : ℕ) (loads rows : List ℕ) → lowestOver (netIn n w loads rows) everyone ≡ first (λ i. ltb w (demand (netIn 0 0 loads rows) i)) 0 n

@@ -13,12 +13,12 @@ use Rattle.site.specs.Record.{positions, size, faultOf}
 use Rattle.site.specs.Reach.{netOf}
 use Rattle.site.specs.declared.Site.{Site}
 use Rattle.site.specs.declared.Fault.the-variants.{Fine}
-use Rattle.site.proofs.Faults.{fine-sized}
+use Rattle.site.proofs.Faults.{fine-sized, few-bytes}
 use Rattle.planner.specs.Plan.{answerOf, tableOf, planTable}
-use Rattle.planner.proofs.Answer.{run-table, few-bytes}
+use Rattle.planner.proofs.Answer.{run-table}
 use Rattle.records.specs.declared.ReadAnswer.{ReadAnswer}
 use Rattle.records.specs.declared.ReadAnswer.the-variants.{Done, Refused}
-use Rattle.sitefile.specs.Held.{Bytes}
+use Rattle.records.specs.Bytes.{Bytes}
 use Rattle.sitefile.specs.Read.{readSite}
 use Rattle.sitefile.proofs.Trip.{read-fine}
 use Rattle.listing.specs.Lines.{refusedLine, cellLine}
@@ -44,7 +44,7 @@ cells-read :
 cells-read s t fine long = go (greedy (netOf s)) refl
   where
     held : size s ≤ length t
-    held = omega (arith, few-bytes s (fine-sized s fine))
+    held = omega (arith, few-bytes (fine-sized s fine))
 
     go : (o : Outcome) → greedy (netOf s) ≡ o → cellsOf s o ≡ cellLines (s .channels) (positions s) (planTable s t) 0 (rowCount (answerOf o) (s .cells))
     go (planned u) e =

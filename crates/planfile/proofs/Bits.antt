@@ -3,7 +3,7 @@
 use Prim.Native.Nat.{ℕ, zero, suc, _+_, _-_, _*_, _/_, _%_, _^_, _≤_, _<_}
 use mathlib.Core.Path.{_≡_, refl, sym, ap, _∙_}
 use mathlib.Core.List.{List, [], _∷_, _++_}
-use mathlib.Core.Bool.{Bool, true, false, not, true≢false}
+use mathlib.Core.Bool.{Bool, true, false, not}
 use mathlib.Core.Logic.{⊎-elim}
 use native.Mathlib.Nat.{pow-succ', two-pow-succ, div-div-eq-div-mul, add-zero, zero-add, zero-div}
 use native.Mathlib.Numerals.{add-one}
@@ -17,6 +17,7 @@ use Rattle.laws.specs.Choice.{pick}
 use Rattle.laws.specs.Sum.{any}
 use Rattle.laws.proofs.Choice.{cases}
 use Rattle.laws.proofs.Any.{any-none, none-any, any-eq}
+use Rattle.laws.proofs.Bits.{digit-zero, no-bits}
 use Rattle.laws.proofs.Stores.{sets-append}
 use Rattle.planfile.specs.Bits.{bytesFor, one, bitOf, bitsFrom, leftOver, ones, packedFrom}
 
@@ -238,16 +239,9 @@ put-last t out m =
 
 -- a number whose bits are all 0
 zero-bits : (c y : ℕ) → y < 2 ^ c → ((i : ℕ) → i < c → y / 2 ^ i % 2 ≡ 0) → y ≡ 0
-zero-bits zero y h none = omega arith
-zero-bits (suc c) y h none =
-    let first : y % 2 ≡ 0 = omega (arith, none 0 (omega arith)) in
-    let rest : y / 2 ≡ 0 = zero-bits c (y / 2) (omega (arith, two-pow-succ c)) (λ i l. rw (← half-shift y i) (none (suc i) (omega arith))) in
+zero-bits c y h none =
+    let low : y < 2 ^ 0 = no-bits y 0 c (rw (zero-add c) h) (λ t _ l e. omega (arith, none t (omega arith))) in
     omega arith
-
-pub bit-zero : (x : ℕ) → x < 2 → eqb x 1 ≡ false → x ≡ 0
-bit-zero zero h e = refl
-bit-zero (suc zero) h e = absurd (true≢false e)
-bit-zero (suc (suc x)) h e = absurd (omega arith)
 
 -- a number below 2 to the power c has a bit of 1 among its first c, unless it is 0
 some-bit : (c y : ℕ) → y < 2 ^ c → any (λ b. eqb (y / 2 ^ b % 2) 1) c ≡ not (eqb y 0)
@@ -262,7 +256,7 @@ some-bit c y h = ⊎-elim is-zero not-zero (cases (eqb y 0))
         none-any p c (λ k l. rw (z, zero-div (2 ^ k)) refl) ∙ ap not (sym e)
 
     found : eqb y 0 ≡ false → any p c ≡ false → any p c ≡ not (eqb y 0)
-    found e n = absurd (eqb-false y 0 e (zero-bits c y h (λ i l. bit-zero (y / 2 ^ i % 2) (omega arith) (any-none p c n i l))))
+    found e n = absurd (eqb-false y 0 e (zero-bits c y h (λ i l. digit-zero (y / 2 ^ i % 2) (omega arith) (any-none p c n i l))))
 
     not-zero : eqb y 0 ≡ false → any p c ≡ not (eqb y 0)
     not-zero e = ⊎-elim (λ t. t ∙ ap not (sym e)) (found e) (cases (any p c))

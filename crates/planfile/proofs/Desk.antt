@@ -8,8 +8,10 @@ use Rattle.laws.specs.Sum.{any}
 use Rattle.site.specs.Record.{upTo, sizeOk, rowBad, extraLoad, badRow, faultOf}
 use Rattle.site.specs.declared.Site.{Site}
 use Rattle.records.specs.declared.ReadAnswer.the-variants.{Done}
+use Rattle.records.specs.Reasons.{firstReason}
+use Rattle.records.specs.Write.{over}
 use Rattle.planfile.specs.Bits.{one, bitsFrom, leftOver, ones, packedFrom}
-use Rattle.planfile.specs.Read.{firstReason, planAnswer, answered, readPlan, planTableRead}
+use Rattle.planfile.specs.Read.{planAnswer, answered, readPlan, planTableRead}
 use Rattle.planfile.specs.Write.{planBytes, planWritten, planOut}
 use Rattle.planfile.specs.declared.PlanWritten.the-variants.{Done as Written}
 
@@ -41,5 +43,5 @@ pub desk :
     × (planOut p1 planned (replicate 20 7) ≡ file ++ (7 ∷ 7 ∷ 7 ∷ []))
     × (readPlan file (replicate 20 9) ≡ record { cells = 3; slots = 3; channels = 2; answer = Done })
     × (planTableRead file (replicate 20 9) ≡ reserved ++ (9 ∷ 9 ∷ []))
-unfolding firstOf any upTo sizeOk rowBad extraLoad badRow faultOf one bitsFrom leftOver ones packedFrom firstReason planAnswer answered readPlan planTableRead planBytes planWritten planOut
+unfolding firstOf any upTo sizeOk rowBad extraLoad badRow faultOf one bitsFrom leftOver ones packedFrom firstReason planAnswer answered readPlan planTableRead planBytes planWritten planOut over
 desk = (refl, refl, refl, refl)

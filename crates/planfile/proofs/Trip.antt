@@ -2,32 +2,34 @@
 -- The bits go one by one: index k of the table is bit k % 8 of byte k / 8 and back, and left-over bits are 0 on both ways. Assumes nothing.
 use Prim.Native.Nat.{ℕ, _+_, _-_, _*_, _/_, _%_, _^_, _≤_, _<_}
 use mathlib.Core.Path.{_≡_, refl, sym, ap, _∙_}
-use mathlib.Core.List.{List, [], _∷_, _++_, map}
+use mathlib.Core.List.{List, _++_, map}
 use mathlib.Core.Bool.{Bool, true, false, not}
 use mathlib.Core.Logic.{⊎-elim}
 use native.Mathlib.Nat.{zero-add}
 use native.Mathlib.Omega.{arith}
-use lib.ListN.{length, getD, take, drop, length-append, length-drop, length-map, List·getD-eq-default, List·getD-map}
-use lib.Seq.{length-take-le, take-all, take-at, getD-drop, ext-getD}
+use lib.ListN.{length, getD, take, drop, length-append, length-drop, length-map, take-append-drop, List·getD-eq-default, List·getD-map}
+use lib.Seq.{length-take-le, take-all, take-at, ext-getD}
 use lib.Dec.{ltb, eqb}
 use borrow.Author.Tests.{le-ltb, eq-eqb, ltb-true, ltb-false, not-false, eqb-true}
 use Rattle.laws.specs.Choice.{pick}
 use Rattle.laws.proofs.Choice.{cases}
 use Rattle.laws.proofs.Any.{any-none, none-any}
+use Rattle.laws.proofs.Bits.{digit-zero}
 use Rattle.site.specs.Record.{sizeOk, isFine, faultOf}
 use Rattle.site.specs.declared.Site.{Site}
 use Rattle.site.specs.declared.Fault.the-variants.{Fine, Size}
 use Rattle.site.proofs.Faults.{fine-is, took-first}
-use Rattle.records.specs.Bytes.{le16, words}
+use Rattle.records.specs.Bytes.{Bytes, le16, words}
 use Rattle.records.specs.declared.ReadAnswer.the-variants.{Done}
-use Rattle.records.proofs.Laws.{drop-two}
+use Rattle.records.proofs.Bytes.{bytes-drop, wordsAt, words-at}
+use Rattle.records.proofs.Reasons.{NoneApply, none-done}
 use Rattle.planfile.specs.Bits.{entriesOf, bytesFor, one, bitOf, bitsFrom, leftOver, ones, packed, packedFrom}
 use Rattle.planfile.specs.Read.{planReasons, planAnswer, cellsIn, slotsIn, channelsIn, entriesIn, bodyIn, endIn, answered, readPlan, planTableRead}
-use Rattle.planfile.specs.Write.{headWords, planBytes, planFile, planWritten, planOut}
+use Rattle.planfile.specs.Write.{planHead, planBytes, planFile, planWritten, planOut}
 use Rattle.planfile.specs.declared.PlanWritten.the-variants.{Done as Written, TableShort, OutShort, Refused as Faulty}
-use Rattle.planfile.proofs.Bits.{one-bit, ones-bit, bits-ones, bits-at, bit-in, bit-zero, length-bits, length-packed, packed-at}
-use Rattle.planfile.proofs.Order.{NoneApply, none-done, plan-done, answer-is}
-use Rattle.planfile.proofs.WriteLaws.{file-length}
+use Rattle.planfile.proofs.Bits.{one-bit, ones-bit, bits-ones, bits-at, bit-in, length-bits, length-packed, packed-at}
+use Rattle.planfile.proofs.Order.{plan-done, answer-is}
+use Rattle.planfile.proofs.WriteLaws.{file-length, out-done}
 
 -- ---- bits
 
@@ -72,12 +74,12 @@ bit-two : (s : List ℕ) (k : ℕ) → bitOf s k < 2
 bit-two s k = omega arith
 
 -- the bits of bytes with no left-over bit, packed again
-module _ (s : List ℕ) (n : ℕ) (size : length s ≡ bytesFor n) (bytes : (k : ℕ) → getD s k 0 < 256) (none : leftOver s n ≡ false) where
+module _ (s : List ℕ) (n : ℕ) (size : length s ≡ bytesFor n) (bytes : Bytes s) (none : leftOver s n ≡ false) where
   past-zero : (k : ℕ) → n ≤ k → k < 8 * length s → bitOf s k ≡ 0
   unfolding leftOver
   past-zero k h l =
       let e : n + (k - n) ≡ k = omega arith in
-      bit-zero (bitOf s k) (bit-two s k)
+      digit-zero (bitOf s k) (bit-two s k)
       (rw e at (any-none (λ b. eqb (bitOf s (n + b)) 1) (8 * length s - n) none (k - n) (omega arith)))
 
   same-bit : (j i : ℕ) → j < length s → i < 8 → one (getD (bitsFrom s 0 n) (8 * j + i) 0) ≡ getD s j 0 / 2 ^ i % 2
@@ -130,6 +132,13 @@ module _ (i a f : ℕ) (t : List ℕ) where
   unfolding planBytes
   plan-length-back = omega arith
 
+  plan-length-in : le16 (planBytes i a f t) 10 ≡ 2 + bytesFor (entriesIn (planBytes i a f t))
+  plan-length-in = plan-length-back ∙ ap (λ (n : ℕ). 2 + bytesFor n) (sym entries-back)
+
+  head-length-back : le16 (planBytes i a f t) 0 ≡ 8
+  unfolding planBytes
+  head-length-back = refl
+
   past-head : take (bytesFor (entriesOf i a f)) (drop 14 (planBytes i a f t)) ≡ packed t (entriesOf i a f)
   unfolding planBytes
   past-head =
@@ -165,7 +174,7 @@ module _ (i a f : ℕ) (t : List ℕ) where
         (
           kinds-back .1,
           (
-            past 10 (omega arith),
+            past (0 + 2 + le16 (planBytes i a f t) 0) (omega (arith, head-length-back)),
             (
               ap not ((λ j. sizeOk (cells-back j) (slots-back j) (channels-back j)) ∙ ok),
               (
@@ -173,9 +182,9 @@ module _ (i a f : ℕ) (t : List ℕ) where
                 (
                   kinds-back .2,
                   (
-                    ap not (eq-eqb (le16 (planBytes i a f t) 10) (2 + bytesFor (entriesIn (planBytes i a f t))) (plan-length-back ∙ ap (λ (n : ℕ). 2 + bytesFor n) (sym entries-back))),
+                    ap not (eq-eqb (le16 (planBytes i a f t) 10) (2 + bytesFor (entriesIn (planBytes i a f t))) plan-length-in),
                     (
-                      past (10 + 2 + (2 + bytesFor (entriesIn (planBytes i a f t)))) (omega arith),
+                      past (10 + 2 + le16 (planBytes i a f t) 10) (omega (arith, plan-length-in)),
                       (
                         left-back,
                         (
@@ -215,32 +224,6 @@ module _ (i a f : ℕ) (t : List ℕ) where
 
 -- ---- read, then written
 
--- a number of two bytes, as its bytes
-module _ (s : List ℕ) (bytes : (k : ℕ) → getD s k 0 < 256) where
-  word-back : (k : ℕ) → k + 1 < length s → drop k s ≡ words (le16 s k ∷ []) ++ drop (k + 2) s
-  word-back k h =
-      let e : getD s k 0 ≡ le16 s k % 256 = omega (arith, bytes k) in
-      let g : getD s (k + 1) 0 ≡ le16 s k / 256 = omega (arith, bytes k) in
-      drop-two s k h ∙ (λ j. e j ∷ g j ∷ drop (k + 2) s)
-
-  head-back :
-      14 ≤ length s →
-      s ≡ words (le16 s 0 ∷ le16 s 2 ∷ le16 s 4 ∷ le16 s 6 ∷ le16 s 8 ∷ le16 s 10 ∷ le16 s 12 ∷ []) ++ drop 14 s
-  head-back h =
-      word-back 0 (omega arith)
-      ∙ ap (λ (l : List ℕ). words (le16 s 0 ∷ []) ++ l)
-      (word-back 2 (omega arith)
-      ∙ ap (λ (l : List ℕ). words (le16 s 2 ∷ []) ++ l)
-      (word-back 4 (omega arith)
-      ∙ ap (λ (l : List ℕ). words (le16 s 4 ∷ []) ++ l)
-      (word-back 6 (omega arith)
-      ∙ ap (λ (l : List ℕ). words (le16 s 6 ∷ []) ++ l)
-      (word-back 8 (omega arith)
-      ∙ ap (λ (l : List ℕ). words (le16 s 8 ∷ []) ++ l)
-      (word-back 10 (omega arith)
-      ∙ ap (λ (l : List ℕ). words (le16 s 10 ∷ []) ++ l)
-      (word-back 12 (omega arith)))))))
-
 -- what an accepted file is
 pub record Accepted (s t : List ℕ) : Type 0 where
   pub head-length : le16 s 0 ≡ 8
@@ -255,20 +238,21 @@ pub record Accepted (s t : List ℕ) : Type 0 where
 pub accepted : (s t : List ℕ) → readPlan s t .answer ≡ Done → Accepted s t
 accepted s t e =
     let n = plan-done s t e in
-    let reaches : 10 + 2 + (2 + bytesFor (entriesIn s)) ≤ length s = ltb-false _ _ (n .1 .1 .1 .1 .1 .1 .1 .1 .0) in
+    let reaches : 10 + 2 + le16 s 10 ≤ length s = ltb-false _ _ (n .1 .1 .1 .1 .1 .1 .1 .1 .0) in
+    let long : le16 s 10 ≡ 2 + bytesFor (entriesIn s) = eqb-true _ _ (not-false _ (n .1 .1 .1 .1 .1 .1 .1 .0)) in
     let no-more : length s ≤ endIn s = ltb-false _ _ (n .1 .1 .1 .1 .1 .1 .1 .1 .1 .1 .0) in
     record {
       head-length = eqb-true _ _ (not-false _ (n .1 .1 .0));
       head-kind = eqb-true _ _ (not-false _ (n .1 .0));
       in-range = not-false _ (n .1 .1 .1 .1 .0);
-      plan-length = eqb-true _ _ (not-false _ (n .1 .1 .1 .1 .1 .1 .1 .0));
+      plan-length = long;
       plan-kind = eqb-true _ _ (not-false _ (n .1 .1 .1 .1 .1 .1 .0));
       no-left-over = n .1 .1 .1 .1 .1 .1 .1 .1 .1 .0;
       size = omega arith;
       room = ltb-false _ _ (n .1 .1 .1 .1 .1 .1 .1 .1 .1 .1 .1 .0);
     }
 
-module _ (s t : List ℕ) (done : readPlan s t .answer ≡ Done) (bytes : (k : ℕ) → getD s k 0 < 256) where
+module _ (s t : List ℕ) (done : readPlan s t .answer ≡ Done) (bytes : Bytes s) where
   ok : Accepted s t
   ok = accepted s t done
 
@@ -283,8 +267,8 @@ module _ (s t : List ℕ) (done : readPlan s t .answer ≡ Done) (bytes : (k : �
   body-rest : drop 14 s ≡ bodyIn s
   body-rest = sym (take-all (bytesFor (entriesIn s)) (drop 14 s) (rw (length-drop 14 s) (omega (arith, ok .size))))
 
-  body-bytes : (k : ℕ) → getD (bodyIn s) k 0 < 256
-  body-bytes k = rw (← body-rest, getD-drop 14 s k 0) (bytes (14 + k))
+  body-bytes : Bytes (bodyIn s)
+  body-bytes = rw (← body-rest) (bytes-drop 14 s bytes)
 
   body-long : length (bodyIn s) ≡ bytesFor (entriesIn s)
   body-long = ap length (sym body-rest) ∙ length-drop 14 s ∙ omega (arith, ok .size)
@@ -297,15 +281,16 @@ module _ (s t : List ℕ) (done : readPlan s t .answer ≡ Done) (bytes : (k : �
       ∙ bits-packed (bodyIn s) (entriesIn s) body-long body-bytes (ok .no-left-over)
       ∙ sym body-rest
 
+  head-again : words (planHead (cellsIn s) (slotsIn s) (channelsIn s)) ≡ take 14 s
+  unfolding wordsAt
+  head-again =
+      let e : planHead (cellsIn s) (slotsIn s) (channelsIn s) ≡ wordsAt s 0 7 = cc (ok .head-length, ok .head-kind, ok .plan-length, ok .plan-kind) in
+      ap words e ∙ words-at s bytes 7 0 (omega (arith, ok .size))
+
   -- an accepted file, read and written again, is the same bytes
   pub read-written : planBytes (cellsIn s) (slotsIn s) (channelsIn s) (planTableRead s t) ≡ s
   unfolding planBytes
-  read-written =
-      (λ j. sym same-head j ++ packed-again j) ∙ sym (head-back s bytes (omega (arith, ok .size)))
-    where
-      same-head :
-          words (le16 s 0 ∷ le16 s 2 ∷ le16 s 4 ∷ le16 s 6 ∷ le16 s 8 ∷ le16 s 10 ∷ le16 s 12 ∷ []) ≡ words (headWords (cellsIn s) (slotsIn s) (channelsIn s))
-      same-head = λ j. words (ok .head-length j ∷ ok .head-kind j ∷ cellsIn s ∷ slotsIn s ∷ channelsIn s ∷ ok .plan-length j ∷ ok .plan-kind j ∷ [])
+  read-written = (λ j. head-again j ++ packed-again j) ∙ take-append-drop 14 s
 
 -- ---- the calls
 
@@ -339,20 +324,21 @@ pub calls-written-read :
     (readPlan (take m (planOut s t out)) u ≡ record { cells = s .cells; slots = s .slots; channels = s .channels; answer = Done })
     × (planTableRead (take m (planOut s t out)) u
     ≡ map one (take (entriesOf (s .cells) (s .slots) (s .channels)) t) ++ drop (entriesOf (s .cells) (s .slots) (s .channels)) u)
-unfolding planOut faultOf
+unfolding faultOf
 calls-written-read s t out u m e h =
     let w = written-tells s t out m e in
-    let file : take m (planOut s t out) ≡ planFile s t = rw e (take-at (planFile s t) (drop (length (planFile s t)) out) m (sym (w .count))) in
+    let file : take m (planOut s t out) ≡ planFile s t =
+    rw (out-done s t out (w .fine) (w .enough) (w .fits)) (take-at (planFile s t) (drop (length (planFile s t)) out) m (sym (w .count))) in
     let r = written-read (s .cells) (s .slots) (s .channels) t (took-first _ _ Size refl (w .fine)) (w .enough) u h in
     (ap (λ (l : List ℕ). readPlan l u) file ∙ r .0, ap (λ (l : List ℕ). planTableRead l u) file ∙ r .1)
 
 -- what `read_plan` accepted, `write_plan` writes as the same bytes, given a site with the I, T and F that were read
 pub calls-read-written :
-    (s t : List ℕ) → readPlan s t .answer ≡ Done → ((k : ℕ) → getD s k 0 < 256) →
+    (s t : List ℕ) → readPlan s t .answer ≡ Done → Bytes s →
     (x : Site) → faultOf x ≡ Fine → x .cells ≡ readPlan s t .cells → x .slots ≡ readPlan s t .slots → x .channels ≡ readPlan s t .channels →
     (out : List ℕ) → length s ≤ length out →
     (planWritten x (planTableRead s t) out ≡ Written (length s)) × (planOut x (planTableRead s t) out ≡ s ++ drop (length s) out)
-unfolding readPlan answered planWritten planOut
+unfolding readPlan answered planWritten
 calls-read-written s t done bytes x fine i a f out h =
     let p : planAnswer s t ≡ Done = sym (answer-is s t) ∙ done in
     let ci : x .cells ≡ cellsIn s = rw p at i in
@@ -360,6 +346,7 @@ calls-read-written s t done bytes x fine i a f out h =
     let cf : x .channels ≡ channelsIn s = rw p at f in
     let n : entriesOf (x .cells) (x .slots) (x .channels) ≡ entriesIn s = (λ j. entriesOf (ci j) (ca j) (cf j)) in
     let file : planFile x (planTableRead s t) ≡ s = (λ j. planBytes (ci j) (ca j) (cf j) (planTableRead s t)) ∙ read-written s t done bytes in
-    let room = le-ltb (length (planTableRead s t)) (entriesOf (x .cells) (x .slots) (x .channels)) (rw n (table-long s t done bytes)) in
+    let enough : entriesOf (x .cells) (x .slots) (x .channels) ≤ length (planTableRead s t) = rw n (table-long s t done bytes) in
+    let room = le-ltb (length (planTableRead s t)) (entriesOf (x .cells) (x .slots) (x .channels)) enough in
     let fits = le-ltb (length out) (length s) h in
-    (rw (fine, room, file, fits) refl, rw (fine, room, file, fits) refl)
+    (rw (fine, room, file, fits) refl, out-done x (planTableRead s t) out fine enough (rw file h) ∙ ap (λ (l : List ℕ). l ++ drop (length l) out) file)

@@ -2,26 +2,28 @@
 -- Assumes nothing.
 use Prim.Native.Nat.{ℕ, _+_, _≤_, _<_}
 use mathlib.Core.Path.{_≡_, refl, sym, ap, _∙_}
-use mathlib.Core.List.{List}
+use mathlib.Core.List.{List, _++_}
 use mathlib.Core.Bool.{false}
-use lib.ListN.{length, take, length-append}
+use lib.ListN.{length, take, drop, length-append}
 use lib.Seq.{sets}
 use lib.Dec.{ltb}
-use borrow.Author.Tests.{lt-ltb, le-ltb}
+use borrow.Author.Tests.{lt-ltb, le-ltb, le-leb}
 use Rattle.laws.proofs.Stores.{sets-append, sets-front}
 use Rattle.site.specs.Record.{isFine, faultOf}
 use Rattle.site.specs.declared.Site.{Site}
 use Rattle.site.specs.declared.Fault.the-variants.{Fine}
 use Rattle.records.specs.Bytes.{words}
+use Rattle.records.specs.Write.{over}
+use Rattle.records.proofs.Write.{over-short}
 use Rattle.planfile.specs.Bits.{entriesOf, bytesFor, packed}
-use Rattle.planfile.specs.Write.{headWords, planBytes, planFile, planWritten, planOut}
+use Rattle.planfile.specs.Write.{planHead, planBytes, planFile, planWritten, planOut}
 use Rattle.planfile.specs.declared.PlanWritten.the-variants.{Done, TableShort, OutShort, Refused}
 use Rattle.planfile.proofs.Bits.{length-packed}
 
 pub file-length : (i a f : ℕ) (t : List ℕ) → length (planBytes i a f t) ≡ 14 + bytesFor (entriesOf i a f)
 unfolding planBytes
 file-length i a f t =
-    length-append (words (headWords i a f)) (packed t (entriesOf i a f))
+    length-append (words (planHead i a f)) (packed t (entriesOf i a f))
     ∙ ap (λ (k : ℕ). 14 + k) (length-packed (take (entriesOf i a f) t) (bytesFor (entriesOf i a f)) 0)
 
 module _ (s : Site) (t out : List ℕ) where
@@ -47,20 +49,24 @@ module _ (s : Site) (t out : List ℕ) where
       out-short need q h =
           let l : length (planFile s t) ≡ need = file-length (s .cells) (s .slots) (s .channels) t ∙ sym q in
           let e = lt-ltb (length out) need h in
-          (rw (fine, test, l, e) refl, rw (fine, test, l, e) refl)
+          (rw (fine, test, l, e) refl, over-short (planFile s t) out (rw l h) ∙ sym (rw (fine, test) refl))
+
+      pub out-done : length (planFile s t) ≤ length out → planOut s t out ≡ planFile s t ++ drop (length (planFile s t)) out
+      unfolding planOut over
+      out-done h = rw (fine, test, le-leb (length (planFile s t)) (length out) h) refl
 
       pub all-done :
           (need : ℕ) → need ≡ 14 + bytesFor (entriesOf (s .cells) (s .slots) (s .channels)) → need ≤ length out →
           (Done need ≡ planWritten s t out)
-          × (sets (sets out 0 (words (headWords (s .cells) (s .slots) (s .channels)))) 14 (packed t (entriesOf (s .cells) (s .slots) (s .channels))) ≡ planOut s t out)
-      unfolding planWritten planOut
+          × (sets (sets out 0 (words (planHead (s .cells) (s .slots) (s .channels)))) 14 (packed t (entriesOf (s .cells) (s .slots) (s .channels))) ≡ planOut s t out)
+      unfolding planWritten
       all-done need q h =
           let l : length (planFile s t) ≡ need = file-length (s .cells) (s .slots) (s .channels) t ∙ sym q in
           let e = le-ltb (length out) need h in (
             rw (fine, test, l, e) refl,
-            parts ∙ sets-front out (planFile s t) (rw l h) ∙ sym (rw (fine, test, l, e) refl),
+            parts ∙ sets-front out (planFile s t) (rw l h) ∙ sym (out-done (rw l h)),
           )
         where
           parts :
-              sets (sets out 0 (words (headWords (s .cells) (s .slots) (s .channels)))) 14 (packed t (entriesOf (s .cells) (s .slots) (s .channels))) ≡ sets out 0 (planFile s t)
-          parts = unfold planBytes in sym (sets-append out 0 (words (headWords (s .cells) (s .slots) (s .channels))) (packed t (entriesOf (s .cells) (s .slots) (s .channels))))
+              sets (sets out 0 (words (planHead (s .cells) (s .slots) (s .channels)))) 14 (packed t (entriesOf (s .cells) (s .slots) (s .channels))) ≡ sets out 0 (planFile s t)
+          parts = unfold planBytes in sym (sets-append out 0 (words (planHead (s .cells) (s .slots) (s .channels))) (packed t (entriesOf (s .cells) (s .slots) (s .channels))))

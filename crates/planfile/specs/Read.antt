@@ -8,35 +8,15 @@ use lib.Dec.{ltb, eqb}
 use Rattle.laws.specs.Choice.{pick}
 use Rattle.site.specs.Record.{sizeOk}
 use Rattle.records.specs.Bytes.{le16}
+use Rattle.records.specs.Opener.{openAt}
+use Rattle.records.specs.Reasons.{Reason, reason, firstReason, recordReasons}
+use Rattle.records.specs.declared.Length.the-variants.{Exact}
 use Rattle.records.specs.declared.Opened.{Opened}
 use Rattle.records.specs.declared.Opened.the-variants.{Body, Refused as NotOpened}
 use Rattle.records.specs.declared.ReadAnswer.{ReadAnswer}
 use Rattle.records.specs.declared.ReadAnswer.the-variants.{Done, Refused}
 use Rattle.planfile.specs.Bits.{entriesOf, bytesFor, bitsFrom, leftOver}
 use Rattle.planfile.specs.declared.PlanRead.{PlanRead}
-
--- a reason to refuse: whether it applies, its number, and the offset that goes with it
-pub record Reason : Type 0 where
-  pub applies : Bool
-  pub number : ℕ
-  pub at : ℕ
-
-abbrev pub reason : Bool → ℕ → ℕ → Reason
-reason applies number at = record { applies = applies; number = number; at = at }
-
--- the first reason that applies; done where none does
-unfoldable pub firstReason : List Reason → ReadAnswer
-firstReason [] = Done
-firstReason (r ∷ rs) = pick (r .applies) (Refused (r .number) (r .at)) (firstReason rs)
-
--- "8 for the four bytes, 9, 10, 8 for the end": a record of this kind and length, due at this offset; "the offset of its record's first byte"
-abbrev pub recordReasons : List ℕ → ℕ → ℕ → ℕ → List Reason
-recordReasons s at kind len =
-    reason (ltb (length s) (at + 4)) 8 at
-    ∷ reason (not (eqb (le16 s (at + 2)) kind)) 9 at
-    ∷ reason (not (eqb (le16 s at) len)) 10 at
-    ∷ reason (ltb (length s) (at + 2 + len)) 8 at
-    ∷ []
 
 -- "1 head: cells, slots, channels, two bytes each"
 abbrev pub cellsIn : List ℕ → ℕ
@@ -69,9 +49,9 @@ contentReasons s table =
 -- "record by record: 8 for the four bytes, 9, 10, 8 for the end, then contents: head 1; .. plan 14. Then 12, then 4."
 abbrev pub planReasons : List ℕ → List ℕ → List Reason
 planReasons s table =
-    recordReasons s 0 1 8
+    recordReasons s 0 1 (not (eqb (le16 s 0) 8))
     ++ (reason (not (sizeOk (cellsIn s) (slotsIn s) (channelsIn s))) 1 0
-    ∷ (recordReasons s 10 4 (2 + bytesFor (entriesIn s)) ++ contentReasons s table))
+    ∷ (recordReasons s 10 4 (not (eqb (le16 s 10) (2 + bytesFor (entriesIn s)))) ++ contentReasons s table))
 
 unfoldable pub planAnswer : List ℕ → List ℕ → ReadAnswer
 planAnswer s table = firstReason (planReasons s table)
@@ -103,7 +83,7 @@ refusedBy (Body start len) = refusedPlan 0 0
 
 -- the head is read, and its numbers are in range
 pub record HeadRead (s : List ℕ) (cells slots channels : ℕ) : Type 0 where
-  pub read : firstReason (recordReasons s 0 1 8) ≡ Done
+  pub read : openAt s 0 1 (Exact 8) ≡ Body 4 6
   pub cells-are : cells ≡ cellsIn s
   pub slots-are : slots ≡ slotsIn s
   pub channels-are : channels ≡ channelsIn s

@@ -1,25 +1,24 @@
 -- The plan file as it is written: its bytes, what the writer answers, and what it leaves in the output.
 use Prim.Native.Nat.{ℕ, _+_}
-use mathlib.Core.List.{List, [], _∷_, _++_}
-use mathlib.Core.Bool.{Bool, true, false}
-use lib.ListN.{length, drop}
+use mathlib.Core.List.{List, _++_}
+use lib.ListN.{length}
 use lib.Dec.{ltb}
 use Rattle.laws.specs.Choice.{pick}
 use Rattle.records.specs.Bytes.{words}
+use Rattle.records.specs.Write.{headWords, over}
 use Rattle.site.specs.Record.{isFine, faultOf}
 use Rattle.site.specs.declared.Site.{Site}
 use Rattle.planfile.specs.Bits.{entriesOf, bytesFor, packed}
 use Rattle.planfile.specs.declared.PlanWritten.{PlanWritten}
 use Rattle.planfile.specs.declared.PlanWritten.the-variants.{Done, TableShort, OutShort, Refused}
 
--- the head's length, kind and body; the plan's length and kind
-abbrev pub headWords : ℕ → ℕ → ℕ → List ℕ
-headWords cells slots channels =
-    8 ∷ 1 ∷ cells ∷ slots ∷ channels ∷ (2 + bytesFor (entriesOf cells slots channels)) ∷ 4 ∷ []
+-- the head, and the plan's length and kind
+abbrev pub planHead : ℕ → ℕ → ℕ → List ℕ
+planHead cells slots channels = headWords cells slots channels (2 + bytesFor (entriesOf cells slots channels)) 4
 
 -- "A plan file is kinds 1, 4."
 unfoldable pub planBytes : (cells slots channels : ℕ) → List ℕ → List ℕ
-planBytes cells slots channels table = words (headWords cells slots channels) ++ packed table (entriesOf cells slots channels)
+planBytes cells slots channels table = words (planHead cells slots channels) ++ packed table (entriesOf cells slots channels)
 
 -- "The plan writer is given the site and its table."
 abbrev pub planFile : Site → List ℕ → List ℕ
@@ -33,13 +32,9 @@ planWritten s table out =
     (pick (ltb (length out) (length (planFile s table))) (OutShort (length (planFile s table))) (Done (length (planFile s table)))))
     (Refused (faultOf s))
 
-abbrev pub isWritten : PlanWritten → Bool
-isWritten (Done n) = true
-isWritten TableShort = false
-isWritten (OutShort n) = false
-isWritten (Refused f) = false
-
--- "output bytes past the file are never written"; refused, the output is as it was
+-- "no other refusal writes"
 unfoldable pub planOut : Site → List ℕ → List ℕ → List ℕ
 planOut s table out =
-    pick (isWritten (planWritten s table out)) (planFile s table ++ drop (length (planFile s table)) out) out
+    pick (isFine (faultOf s))
+    (pick (ltb (length table) (entriesOf (s .cells) (s .slots) (s .channels))) out (over (planFile s table) out))
+    out

@@ -3,7 +3,7 @@ use records::Length;
 use records::Opened;
 use records::ReadAnswer;
 use records::open;
-use records::put_word;
+use records::put_head;
 use records::word;
 use site::Fault;
 use site::Site;
@@ -13,7 +13,6 @@ ghost use mathlib.Core.List.{[], _∷_};
 ghost use Prim.Native.Nat.{_+_, _-_, _*_, _≤_, _<_};
 ghost use lib.ListN.{length, getD};
 ghost use lib.Seq.{sets};
-ghost use Rattle.records.specs.Bytes.{words};
 ghost use Rattle.planfile.specs.Bits.{entriesOf, bytesFor, one, bitsFrom, leftOver, ones, packedFrom};
 ghost use Rattle.planfile.specs.Read.{HeadRead, refusedPlan, refusedBy, readPlan, planTableRead};
 ghost use Rattle.planfile.specs.Write.{planWritten, planOut};
@@ -246,20 +245,6 @@ pub fn read_plan(bytes: &[u8], table: &mut [u8]) -> PlanRead
     read_body(bytes, table, cells, slots, channels)
 }
 
-// Stores the head, and the length and kind of the plan.
-fn put_head(out: &mut [u8], cells: u16, slots: u16, channels: u16, len: u16)
-    requires { ⌜ 14 ≤ length (now out) ⌝ }
-    ensures { λ _. ⌜ now (out .exit) ≡ sets (now (out .entry)) 0 (words (8 ∷ 1 ∷ cells ∷ slots ∷ channels ∷ len ∷ 4 ∷ [])) ⌝ }
-{
-    put_word(out, 0, 8);
-    put_word(out, 2, 1);
-    put_word(out, 4, cells);
-    put_word(out, 6, slots);
-    put_word(out, 8, channels);
-    put_word(out, 10, len);
-    put_word(out, 12, 4);
-}
-
 // Writes the plan file of a site and its table into the lent output.
 pub fn write_plan(site: Site, table: &[u8], out: &mut [u8]) -> PlanWritten
     ensures { λ r. ⌜ r ≡ planWritten site (now (table .entry)) (now (out .entry)) ⌝ }
@@ -281,7 +266,7 @@ pub fn write_plan(site: Site, table: &[u8], out: &mut [u8]) -> PlanWritten
     if out.len() < need {
         return PlanWritten::OutShort(need);
     }
-    put_head(out, cells, slots, channels, (2 + m) as u16);
+    put_head(out, cells, slots, channels, (2 + m) as u16, 4);
     put_bits(&table[..n], out);
     PlanWritten::Done(need)
 }

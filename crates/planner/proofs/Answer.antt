@@ -3,16 +3,14 @@ use mathlib.Core.Path.{_≡_}
 use mathlib.Core.Bool.{false}
 use mathlib.Core.List.{List, _++_}
 use Prim.Native.Nat.{ℕ, _≤_, _<_}
-use native.Mathlib.Nat.{mul-le-mul}
 use lib.ListN.{length, drop}
 use borrow.Author.Tests.{lt-ltb, le-ltb}
 use Rattle.theory.specs.Greedy.{greedy}
-use Rattle.site.specs.Record.{positions, faultOf, isFine, size}
+use Rattle.site.specs.Record.{faultOf, isFine, size}
 use Rattle.site.specs.Reach.{netOf}
 use Rattle.site.specs.declared.Site.{Site}
 use Rattle.site.specs.declared.Fault.{Fault}
 use Rattle.site.specs.declared.Fault.the-variants.{Fine}
-use Rattle.site.proofs.Faults.{Sized}
 use Rattle.planner.specs.Plan.{answerOf, tableOf, planAnswer, planTable}
 use Rattle.planner.specs.declared.PlanAnswer.the-variants.{TableShort, Refused}
 
@@ -43,10 +41,3 @@ module _ (s : Site) (t : List ℕ) where
   pub run-table : faultOf s ≡ Fine → size s ≤ length t → planTable s t ≡ tableOf (size s) (greedy (netOf s)) ++ drop (size s) t
   unfolding planTable
   run-table e h = rw (e, le-ltb (length t) (size s) h)
-
--- a site that is not at fault has at most 2,048 positions and 65,536 bytes of table
-pub few-positions : (s : Site) → Sized s → positions s ≤ 2048
-few-positions s z = mul-le-mul (z .slots-most) (z .channels-most)
-
-pub few-bytes : (s : Site) → Sized s → size s ≤ 65536
-few-bytes s z = mul-le-mul (z .cells-most) (few-positions s z)

@@ -3,4 +3,3 @@ pub mod Cells
 pub mod Answer
 pub mod Given
 pub mod Meaning
-pub mod Desk

@@ -94,12 +94,16 @@ desk =
     ∷ planned P3 ⇒ done (1 ∷ 0 ∷ 1 ∷ 0 ∷ 2 ∷ 1 ∷ [])
     ∷ load (loadAnswer P3) ⇒ load (judge.Over 3 1)
     ∷ chain (chainAnswer P3) ⇒ chain (chainJudge.Broken 1 2 3)
-    -- P4: refusal 5, cell 4, short 1
+    -- P4: refusal 5, cell 4, short 1; and off the chain: load over 4 by 1, not chained 1 2 3
     ∷ planned P4 ⇒ noRoom P4 4 1
+    ∷ load (loadAnswer P4) ⇒ load (judge.Over 4 1)
+    ∷ chain (chainAnswer P4) ⇒ chain (chainJudge.Broken 1 2 3)
     -- P5: P4 with table 10, 01, 01, 10: valid
     ∷ check (checkAnswer P4 (1 ∷ 0 ∷ 0 ∷ 1 ∷ 0 ∷ 1 ∷ 1 ∷ 0 ∷ [])) ⇒ check checker.Valid
-    -- P6: planned; cell 5 at position 0
+    -- P6: planned; cell 5 at position 0; and off the chain: load over 5 by 1, not chained 1 2 4
     ∷ planned P6 ⇒ done (1 ∷ 0 ∷ 1 ∷ 0 ∷ 2 ∷ 1 ∷ 2 ∷ 1 ∷ 1 ∷ 2 ∷ [])
+    ∷ load (loadAnswer P6) ⇒ load (judge.Over 5 1)
+    ∷ chain (chainAnswer P6) ⇒ chain (chainJudge.Broken 1 2 4)
     -- P7: P6 with load 0 in cell 2: refusal 5, cell 5, short 1
     ∷ planned P7 ⇒ noRoom P7 5 1
     -- P8: P1, rows 111110, 000001, 111110: refusal 7, cell 3, count 5

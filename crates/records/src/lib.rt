@@ -1,11 +1,12 @@
-// The records of house files: numbers of two bytes, and the record opener.
+// What site files and plan files share: numbers of two bytes, the record opener, and a file reader's answer.
 ghost use mathlib.Core.Path.{_≡_};
 ghost use mathlib.Core.List.{[], _∷_};
-ghost use Prim.Native.Nat.{_+_, _<_};
+ghost use Prim.Native.Nat.{_+_, _≤_, _<_};
 ghost use lib.ListN.{length};
 ghost use lib.Seq.{sets};
 ghost use Rattle.records.specs.Bytes.{le16, words};
 ghost use Rattle.records.specs.Opener.{lengthOk, openAt};
+ghost use Rattle.records.specs.Write.{headWords};
 
 // What a record's length has to be.
 pub enum Length {
@@ -86,4 +87,18 @@ pub fn put_word(out: &mut [u8], at: usize, x: u16)
     ensures { λ _. ⌜ now (out .exit) ≡ sets (now (out .entry)) at (words (x ∷ [])) ⌝ }
 {
     put_two(out, at, (x % 256) as u8, (x / 256) as u8);
+}
+
+// The head, and the length and kind of the record after it.
+pub fn put_head(out: &mut [u8], cells: u16, slots: u16, channels: u16, len: u16, kind: u16)
+    requires { ⌜ 14 ≤ length (now out) ⌝ }
+    ensures { λ _. ⌜ now (out .exit) ≡ sets (now (out .entry)) 0 (words (headWords cells slots channels len kind)) ⌝ }
+{
+    put_word(out, 0, 8);
+    put_word(out, 2, 1);
+    put_word(out, 4, cells);
+    put_word(out, 6, slots);
+    put_word(out, 8, channels);
+    put_word(out, 10, len);
+    put_word(out, 12, kind);
 }

@@ -1,23 +1,22 @@
 -- The site file of a site in order, taken apart record by record: reading it gives the site, and the file of a site that was read is the bytes that were read.
 -- An accepted file fixes each of its words (`Accepted`), and so every byte. Assumes nothing.
-use Prim.Native.Nat.{ℕ, zero, suc, _+_, _-_, _*_, _/_, _%_, _≤_, _<_}
+use Prim.Native.Nat.{ℕ, zero, suc, _+_, _-_, _*_, _%_, _≤_, _<_}
 use mathlib.Core.Path.{_≡_, refl, sym, ap, _∙_, subst}
 use mathlib.Core.Bool.{Bool, true, false}
 use mathlib.Core.List.{List, [], _∷_, _++_}
-use native.Mathlib.Nat.{add-zero, zero-add, add-sub-cancel-left}
-use native.Mathlib.Decide.{decLt}
+use native.Mathlib.Nat.{zero-add, add-sub-cancel-left}
 use native.Mathlib.Omega.{arith}
-use lib.ListN.{length, getD, take, drop, set, replicate, getD-replicate, length-take, length-drop, take-append-drop, List·getD-eq-default}
-use lib.Seq.{sets, sets-eq, length-sets, getD-drop, getD-take, drop-drop, take-at, drop-at, take-all, take-length, ext-getD, getD-set-other, length-take-le}
+use lib.ListN.{length, getD, take, drop, replicate, getD-replicate, length-drop, take-append-drop}
+use lib.Seq.{sets, sets-eq, length-sets, getD-drop, drop-drop, take-at, drop-at, take-all, take-length, ext-getD, length-take-le}
 use lib.Dec.{ltb, eqb}
-use borrow.Author.Tests.{eq-eqb, le-ltb, ltb-false, eqb-true}
+use borrow.Author.Tests.{ltb-false, eqb-true}
 use Rattle.laws.specs.Choice.{pick}
-use Rattle.records.specs.Bytes.{le16, words, wordsOf}
-use Rattle.records.specs.Opener.{openAt, lengthOk}
-use Rattle.sitefile.specs.Held.{Bytes}
+use Rattle.laws.proofs.Stores.{take-sets, sets-past}
+use Rattle.records.specs.Bytes.{Bytes, le16, words, wordsOf}
+use Rattle.records.specs.Opener.{openAt}
 use Rattle.sitefile.specs.Pairs.{readPairs}
 use Rattle.sitefile.specs.Read.{refusedSite, siteOf, siteDone, siteOr, reachFrom, readReach, loadsFrom, readLoads, headFrom, readSite}
-use Rattle.sitefile.specs.Write.{headWords, pairBytes, siteBytes}
+use Rattle.sitefile.specs.Write.{siteHead, pairBytes, siteBytes}
 use Rattle.site.specs.Record.{sizeOk}
 use Rattle.site.specs.declared.Site.{Site}
 use Rattle.sitefile.specs.declared.SiteRead.{SiteRead}
@@ -27,9 +26,11 @@ use Rattle.records.specs.declared.ReadAnswer.the-variants.{Done, Refused}
 use Rattle.records.specs.declared.Length.the-variants.{Exact, Pairs}
 use Rattle.records.specs.declared.Opened.{Opened}
 use Rattle.records.specs.declared.Opened.the-variants.{Body, Refused as NotOpened}
-use Rattle.records.proofs.Laws.{Opening, opened, open-body, within, exact, pick-no, length-least, drop-two}
-use Rattle.sitefile.proofs.ReadLaws.{Sizes, sizes, sizes-is, reach-done, loads-body, head-good}
-use Rattle.sitefile.proofs.WriteLaws.{words-length, site-length, pair-bytes-even}
+use Rattle.records.proofs.Laws.{Opening, opened, open-body, within, exact, even, exact-true, pairs-true, length-least}
+use Rattle.records.proofs.Bytes.{bytes-drop, bytes-take, words-length, words-of-length, words-trip, bytes-trip, le16-drop, le16-drop-two, wordsAt, words-at}
+use Rattle.site.proofs.Faults.{Sizes, sizes, sizes-is}
+use Rattle.sitefile.proofs.ReadLaws.{reach-done, loads-body, head-good}
+use Rattle.sitefile.proofs.WriteLaws.{site-length, pair-bytes-even}
 use Rattle.sitefile.proofs.Rows.{Rows}
 use Rattle.sitefile.proofs.PairTrip.{Named, pairs-read, pairs-written}
 
@@ -40,28 +41,6 @@ pub record GoodSite (s : Site) : Type 0 where
   pub unused : (k : ℕ) → s .cells ≤ k → getD (s .loads) k 0 ≡ 0
   pub rows : Rows (s .reach)
   pub named : Named (s .cells) (s .reach)
-
-words-trip : (ws : List ℕ) → wordsOf (words ws) ≡ ws
-words-trip [] = refl
-words-trip (x ∷ ws) =
-    let e : x % 256 + x / 256 * 256 ≡ x = omega arith in
-    rw (e, words-trip ws)
-
-exact-true : (m : ℕ) → 2 ≤ m → lengthOk (Exact m) m ≡ true
-unfolding lengthOk
-exact-true m h = simp (le-ltb m 2 h, eq-eqb m m refl)
-
-pairs-true : (n : ℕ) → 2 ≤ n → n % 2 ≡ 0 → lengthOk Pairs n ≡ true
-unfolding lengthOk
-pairs-true n h e = simp (le-ltb n 2 h, eq-eqb (n % 2) 0 e)
-
-le16-drop : (b : List ℕ) (k : ℕ) → le16 (drop k b) 0 ≡ le16 b k
-le16-drop b k = rw (getD-drop k b 0 0, getD-drop k b 1 0, add-zero k)
-
-le16-drop-two : (b : List ℕ) (k : ℕ) → le16 (drop k b) 2 ≡ le16 b (k + 2)
-le16-drop-two b k =
-    let e : k + 3 ≡ k + 2 + 1 = omega arith in
-    rw (getD-drop k b 2 0, getD-drop k b 3 0, e)
 
 -- the used loads, and zeros after them
 loads-over :
@@ -98,7 +77,7 @@ module _ (s : Site) (good : GoodSite s) where
   W = words ((2 + length P) ∷ 3 ∷ [])
 
   in-order : s .cells ≤ 32
-  in-order = good .range .cells .1
+  in-order = good .range .cells-most
 
   long : length B ≡ 14 + 2 * s .cells + 4 + length P
   long = site-length s in-order (good .size)
@@ -203,10 +182,6 @@ not-done s n a e =
     let y : _≡_ {A = ℕ} 0 1 = cc in
     omega arith
 
-pairs-even-length : (n : ℕ) → lengthOk Pairs n ≡ true → n % 2 ≡ 0
-unfolding lengthOk
-pairs-even-length n e = eqb-true (n % 2) 0 (pick-no (ltb n 2) (eqb (n % 2) 0) e .1)
-
 module _ (b : List ℕ) (s : Site) where
   abbrev Known : Type 0
   Known = Accepted b (s .cells) (s .slots) (s .channels) (s .loads) (s .reach)
@@ -252,7 +227,7 @@ module _ (b : List ℕ) (s : Site) where
                 word12 = word12;
                 reach-size = omega arith;
                 reach-three = o .same;
-                even = omega (arith, pairs-even-length (le16 b (14 + 2 * cells)) (o .fits));
+                even = omega (arith, even (le16 b (14 + 2 * cells)) (o .fits));
                 whole = omega (arith, within b (14 + 2 * cells) 3 Pairs start len o);
                 used = used;
                 pairs = rw (← o .starts) none;
@@ -288,50 +263,6 @@ module _ (b : List ℕ) (s : Site) where
               loads-in (le16 b 4) (le16 b 6) (le16 b 8) (exact 8 (le16 b 0) (o .fits)) (o .same) refl refl refl (sizes _ _ _ g) e″
           ranged false g e″ = absurd (not-done s 1 0 e″)
 
-wordsAt : List ℕ → ℕ → ℕ → List ℕ
-wordsAt b k zero = []
-wordsAt b k (suc n) = le16 b k ∷ wordsAt b (k + 2) n
-
-words-at : (b : List ℕ) → Bytes b → (n k : ℕ) → k + 2 * n ≤ length b → words (wordsAt b k n) ≡ take (2 * n) (drop k b)
-unfolding wordsAt
-words-at b bytes zero k h = refl
-words-at b bytes (suc n) k h =
-    let lo : le16 b k % 256 ≡ getD b k 0 = omega (arith, bytes k, bytes (k + 1)) in
-    let hi : le16 b k / 256 ≡ getD b (k + 1) 0 = omega (arith, bytes k, bytes (k + 1)) in
-    let e : 2 * suc n ≡ suc (suc (2 * n)) = omega arith in
-    rw (drop-two b k (omega arith), e, lo, hi, words-at b bytes n (k + 2) (omega arith))
-
-bytes-trip : (b : List ℕ) → Bytes b → length b % 2 ≡ 0 → words (wordsOf b) ≡ b
-bytes-trip [] bytes even = refl
-bytes-trip (x ∷ []) bytes even = absurd (omega arith)
-bytes-trip (x ∷ y ∷ r) bytes even =
-    let lo : (x + y * 256) % 256 ≡ x = omega (arith, bytes 0, bytes 1) in
-    let hi : (x + y * 256) / 256 ≡ y = omega (arith, bytes 0, bytes 1) in
-    rw (lo, hi, bytes-trip r (λ k. bytes (suc (suc k))) (omega arith))
-
-words-of-length : (b : List ℕ) → length (wordsOf b) ≡ length b / 2
-words-of-length [] = refl
-words-of-length (x ∷ []) = refl
-words-of-length (x ∷ y ∷ r) = omega (arith, words-of-length r)
-
-bytes-drop : (n : ℕ) (b : List ℕ) → Bytes b → Bytes (drop n b)
-bytes-drop n b bytes k = rw (getD-drop n b k 0) (bytes (n + k))
-
-bytes-take : (n : ℕ) (b : List ℕ) → Bytes b → Bytes (take n b)
-bytes-take n b bytes k = go (decLt k n)
-  where
-    go : Dec (k < n) → getD (take n b) k 0 < 256
-    go (yes l) = rw (getD-take n b k 0 l) (bytes k)
-    go (no l) = rw (List·getD-eq-default (take n b) 0 {n = k} (simp length-take (omega arith))) (omega arith)
-
--- the words of a part, stored over zeros, are its first words
-take-sets : (n : ℕ) (w z : List ℕ) → length w ≡ n → n ≤ length z → take n (sets z 0 w) ≡ w
-take-sets n w z e h = ap (take n) (sets-eq w z 0 (omega arith)) ∙ take-at w (drop (0 + length w) z) n e
-
-sets-past : (w z : List ℕ) (i k : ℕ) → i + length w ≤ k → getD (sets z i w) k 0 ≡ getD z k 0
-sets-past [] z i k h = refl
-sets-past (x ∷ w) z i k h = sets-past w (set z i x) (suc i) k (omega arith) ∙ getD-set-other z i k x 0 (λ e. omega arith)
-
 zeros-at : (n k : ℕ) → _≡_ {A = ℕ} (getD (replicate n 0) k 0) 0
 zeros-at zero k = refl
 zeros-at (suc n) zero = refl
@@ -347,10 +278,10 @@ module _ (b : List ℕ) (bytes : Bytes b) (s : Site) (known : readSite b ≡ sit
   abbrev X : List ℕ
   X = take (2 * s .cells) (drop 14 b)
 
-  head-bytes : words (headWords (s .cells) (s .slots) (s .channels)) ≡ take 14 b
+  head-bytes : words (siteHead (s .cells) (s .slots) (s .channels)) ≡ take 14 b
   unfolding wordsAt
   head-bytes =
-      let e : headWords (s .cells) (s .slots) (s .channels) ≡ wordsAt b 0 7 =
+      let e : siteHead (s .cells) (s .slots) (s .channels) ≡ wordsAt b 0 7 =
       cc (a .word0, a .word2, a .word4, a .word6, a .word8, a .word10, a .word12) in
       ap words e ∙ words-at b bytes 7 0 (omega (arith, a .whole))
 
@@ -362,7 +293,7 @@ module _ (b : List ℕ) (bytes : Bytes b) (s : Site) (known : readSite b ≡ sit
 
   loads-bytes : words (take (s .cells) (s .loads)) ≡ X
   loads-bytes =
-      rw (a .used, take-sets (s .cells) (wordsOf X) (replicate 32 0) w-length (a .range .cells .1))
+      rw (a .used, take-sets (s .cells) (wordsOf X) (replicate 32 0) w-length (a .range .cells-most))
       (bytes-trip X (bytes-take (2 * s .cells) (drop 14 b) (bytes-drop 14 b bytes)) (omega (arith, x-length)))
 
   body-length : length (take (a .len) (drop (K + 4) b)) ≡ a .len
@@ -370,7 +301,7 @@ module _ (b : List ℕ) (bytes : Bytes b) (s : Site) (known : readSite b ≡ sit
 
   rows-trip : (pairBytes (s .reach) ≡ take (a .len) (drop (K + 4) b)) × Rows (s .reach) × Named (s .cells) (s .reach)
   rows-trip =
-      pairs-written (s .cells) (a .range .cells .1) (s .reach) (take (a .len) (drop (K + 4) b)) (omega (arith, body-length, a .even)) (a .pairs)
+      pairs-written (s .cells) (a .range .cells-most) (s .reach) (take (a .len) (drop (K + 4) b)) (omega (arith, body-length, a .even)) (a .pairs)
 
   pairs-bytes : pairBytes (s .reach) ≡ drop (K + 4) b
   pairs-bytes = rows-trip .0 ∙ take-all (a .len) (drop (K + 4) b) (simp length-drop (omega (arith, a .whole)))

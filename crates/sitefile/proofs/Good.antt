@@ -1,13 +1,13 @@
 -- A record with no fault is a site in order, as the round trips want it, and such a site has no fault: no row is at fault exactly when each of its bits
 -- names a pair of different cells of the site. Assumes nothing.
-use Prim.Native.Nat.{ℕ, zero, suc, _+_, _-_, _*_, _/_, _%_, _^_, _≤_, _<_}
+use Prim.Native.Nat.{ℕ, _+_, _-_, _*_, _/_, _%_, _^_, _≤_, _<_}
 use mathlib.Core.Path.{_≡_, refl, ap, _∙_}
 use mathlib.Core.Bool.{false}
-use native.Mathlib.Nat.{add-zero, div-eq-of-lt, lt-of-lt-of-le}
+use native.Mathlib.Nat.{div-eq-of-lt}
 use native.Mathlib.Decide.{decLt}
 use native.Mathlib.Omega.{arith}
 use lib.ListN.{getD, List·getD-eq-default}
-use lib.Pow.{pow-pos, pow-mono, shr-lt}
+use lib.Pow.{pow-pos}
 use borrow.Author.Tests.{le-ltb, eqb-false, ne-eqb}
 use Rattle.site.specs.Record.{rowBad, rowOf, faultOf}
 use Rattle.site.specs.declared.Site.{Site}
@@ -15,21 +15,11 @@ use Rattle.site.specs.declared.Fault.the-variants.{Fine}
 use Rattle.site.proofs.Accepted.{fine-sound, sound-fine, row-ok, ok-row, row-none}
 use Rattle.sitefile.specs.Held.{Held}
 use Rattle.sitefile.proofs.PairLaws.{PairOk, pair-ok, pair-is}
-use Rattle.sitefile.proofs.ReadLaws.{sizes, sizes-is}
-use Rattle.sitefile.proofs.RowLaws.{left-none}
+use Rattle.laws.proofs.Bits.{some-left, no-bits}
+use Rattle.site.proofs.Faults.{sizes, sizes-is}
 use Rattle.sitefile.proofs.Rows.{bitIn}
 use Rattle.sitefile.proofs.PairTrip.{Named}
 use Rattle.sitefile.proofs.FileTrip.{GoodSite}
-
--- a bit at b is not in a number below 2 ^ n, where n is at most b
-bit-below : (x n b : ℕ) → x < 2 ^ n → x / 2 ^ b % 2 ≡ 1 → b < n
-bit-below x n b low h = go (decLt b n)
-  where
-    go : Dec (b < n) → b < n
-    go (yes l) = l
-    go (no l) =
-        let z : x / 2 ^ b ≡ 0 = div-eq-of-lt (lt-of-lt-of-le low (pow-mono {i = n} {j = b} (omega arith))) in
-        absurd (omega arith)
 
 -- a row with no fault has bits of other cells of the site only
 row-names : (n x k b : ℕ) → rowBad n x k ≡ false → x / 2 ^ b % 2 ≡ 1 → (k < n) × (b < n) × (k ≡ b → ⊥)
@@ -38,7 +28,7 @@ row-names n x k b e h = go (decLt k n)
     go : Dec (k < n) → (k < n) × (b < n) × (k ≡ b → ⊥)
     go (yes l) =
         let r = row-ok n x k l e in
-        (l, bit-below x n b (r .0) h, λ s. eqb-false (x / 2 ^ k % 2) 1 (r .1) (ap (λ (j : ℕ). x / 2 ^ j % 2) s ∙ h))
+        (l, some-left x n b (r .0) (λ z. omega arith), λ s. eqb-false (x / 2 ^ k % 2) 1 (r .1) (ap (λ (j : ℕ). x / 2 ^ j % 2) s ∙ h))
     go (no l) =
         let z : x ≡ 0 = row-none n x k (omega arith) e in
         let y : x / 2 ^ b ≡ 0 = div-eq-of-lt (rw z (pow-pos b)) in
@@ -73,20 +63,6 @@ module _ (s : Site) (held : Held s) (fine : faultOf s ≡ Fine) where
         named = all-named;
       }
 
--- a number with no bit from n on is below 2 ^ n
-no-bits : (x n d : ℕ) → x < 2 ^ (n + d) → ((t : ℕ) → n ≤ t → t < n + d → x / 2 ^ t % 2 ≡ 1 → ⊥) → x < 2 ^ n
-no-bits x n zero h none = rw (add-zero n) at h
-no-bits x n (suc d) h none =
-    let e : n + suc d ≡ 1 + (n + d) = omega arith in
-    let l : x / 2 ^ (n + d) < 2 ^ 1 = shr-lt 1 (n + d) (rw e at h) in
-    let z : x / 2 ^ (n + d) % 2 ≡ 1 → ⊥ = none (n + d) (omega arith) (omega arith) in
-    no-bits x n d (left-none x (n + d) (low (x / 2 ^ (n + d)) l z)) (λ t a b. none t a (omega arith))
-  where
-    low : (y : ℕ) → y < 2 → (y % 2 ≡ 1 → ⊥) → y ≡ 0
-    low zero l z = refl
-    low (suc zero) l z = absurd (z refl)
-    low (suc (suc y)) l z = absurd (omega arith)
-
 module _ (s : Site) (good : GoodSite s) where
   named-bit : (k t : ℕ) → k < 32 → t < 32 → rowOf s k / 2 ^ t % 2 ≡ 1 → PairOk (s .cells) (k + 1) (t + 1)
   unfolding Named bitIn
@@ -96,7 +72,7 @@ module _ (s : Site) (good : GoodSite s) where
       pair-ok (s .cells) (k + 1) (t + 1) (rw (ek, et) at (good .named (k * 32 + t) (omega arith) (rw (ek, et) h)))
 
   few-cells : s .cells ≤ 32
-  few-cells = good .range .cells .1
+  few-cells = good .range .cells-most
 
   row-passes : (k : ℕ) → k < 32 → rowBad (s .cells) (rowOf s k) k ≡ false
   row-passes k l = go (decLt k (s .cells))

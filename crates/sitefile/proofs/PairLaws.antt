@@ -10,20 +10,13 @@ use native.Mathlib.Omega.{arith}
 use lib.ListN.{length, getD, drop, replicate, getD-replicate, length-drop}
 use lib.Seq.{getD-set-same, getD-set-other}
 use lib.Pow.{pow-pos, pow-mono}
-use lib.Dec.{leb, eqb}
+use lib.Dec.{eqb}
 use borrow.Author.Tests.{eqb-false, ne-eqb, lt-leb, le-leb, not-true}
 use Rattle.site.specs.Record.{upTo}
-use Rattle.site.proofs.Faults.{up-to}
+use Rattle.site.proofs.Faults.{UpTo, up-to, up-to-is}
 use Rattle.sitefile.specs.Pairs.{pairOk, place, mark, badPairs, readPairs}
 use Rattle.records.proofs.Laws.{drop-two}
-use Rattle.laws.proofs.Choice.{both, both-is}
-
-abbrev pub UpTo : ℕ → ℕ → Type 0
-UpTo most x = (1 ≤ x) × (x ≤ most)
-
-pub up-to-is : (most x : ℕ) → UpTo most x → upTo most x ≡ true
-unfolding upTo
-up-to-is most x u = both-is (leb 1 x) (leb x most) (le-leb 1 x (u .0)) (le-leb x most (u .1))
+use Rattle.laws.proofs.Choice.{both}
 
 pub record PairOk (cells f t : ℕ) : Type 0 where
   pub from : UpTo cells f

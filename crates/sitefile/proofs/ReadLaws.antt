@@ -1,7 +1,7 @@
 -- The site reader's definitions, record by record: what the opener's answer and each test make of them. Assumes nothing.
 use Prim.Native.Nat.{ℕ, _+_, _-_, _*_, _≤_, _<_}
 use mathlib.Core.Path.{_≡_}
-use mathlib.Core.Bool.{true, false, _&&_}
+use mathlib.Core.Bool.{true, false}
 use mathlib.Core.List.{List}
 use native.Mathlib.Nat.{add-sub-cancel-left}
 use lib.ListN.{length, take, drop, replicate}
@@ -16,26 +16,7 @@ use Rattle.sitefile.specs.declared.PairsRead.{PairsRead}
 use Rattle.records.specs.declared.Length.the-variants.{Exact, Pairs}
 use Rattle.records.specs.declared.Opened.{Opened}
 use Rattle.records.specs.declared.Opened.the-variants.{Body, Refused as NotOpened}
-use Rattle.site.specs.Record.{sizeOk, upTo}
-use Rattle.laws.proofs.Choice.{both}
-use Rattle.sitefile.proofs.PairLaws.{UpTo, up-to-is}
-use Rattle.site.proofs.Faults.{up-to}
-
-pub record Sizes (i t f : ℕ) : Type 0 where
-  pub cells : UpTo 32 i
-  pub slots : UpTo 128 t
-  pub channels : UpTo 16 f
-
-pub sizes : (i t f : ℕ) → sizeOk i t f ≡ true → Sizes i t f
-unfolding sizeOk
-sizes i t f e =
-    let p = both (upTo 32 i) (upTo 128 t && upTo 16 f) e in
-    let q = both (upTo 128 t) (upTo 16 f) (p .1) in
-    record { cells = up-to 32 i (p .0); slots = up-to 128 t (q .0); channels = up-to 16 f (q .1) }
-
-pub sizes-is : (i t f : ℕ) → Sizes i t f → sizeOk i t f ≡ true
-unfolding sizeOk
-sizes-is i t f z = simp (up-to-is 32 i (z .cells), up-to-is 128 t (z .slots), up-to-is 16 f (z .channels))
+use Rattle.site.specs.Record.{sizeOk}
 
 -- kind 3
 module _ (s : List ℕ) (at cells slots channels : ℕ) (loads : List ℕ) (o : Opened) (found : o ≡ openAt s at 3 Pairs) where

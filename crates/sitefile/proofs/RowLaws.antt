@@ -4,17 +4,16 @@ use Prim.Native.Nat.{ℕ, zero, suc, _+_, _-_, _*_, _/_, _%_, _^_, _≤_, _<_}
 use mathlib.Core.Path.{_≡_, refl, sym, ap, _∙_, subst}
 use mathlib.Core.Bool.{true, false}
 use mathlib.Core.List.{List, [], _∷_, _++_, append-assoc}
-use native.Mathlib.Nat.{add-zero, zero-add, suc-add, div-lt-iff-lt-mul, div-eq-of-lt, one-mul, lt-of-lt-of-le}
-use native.Mathlib.Decide.{decLt}
+use native.Mathlib.Nat.{add-zero, zero-add, suc-add, div-eq-of-lt, lt-of-lt-of-le}
 use native.Mathlib.Omega.{arith}
 use lib.Count.{ones, ones-step}
 use lib.ListN.{length, getD, length-append}
 use lib.Seq.{sets}
-use lib.Pow.{pow-pos, pow-mono, shr-shr}
+use lib.Pow.{pow-mono, shr-shr}
 use lib.Dec.{eqb}
 use Rattle.laws.specs.Choice.{pick}
 use Rattle.laws.specs.Bits.{bitAt}
-use Rattle.laws.proofs.Bits.{bit-above}
+use Rattle.laws.proofs.Bits.{bit-above, none-left}
 use Rattle.laws.proofs.Stores.{sets-append}
 use Rattle.sitefile.specs.Pairs.{pairOf, rowFrom, pairsFrom}
 
@@ -57,19 +56,7 @@ pub row-unroll-length :
     length (rowFrom row q (e - q)) ≡ length (pairOf row q) + length (rowFrom row (q + 1) (e - (q + 1)))
 row-unroll-length row q e h = ap length (row-unroll row q e h) ∙ simp length-append
 
--- nothing is left above the last bit, and something is left only below bit 32
-pub left-none : (row b : ℕ) → row / 2 ^ b ≡ 0 → row < 2 ^ b
-left-none row b e =
-    let h : row / 2 ^ b < 1 = omega arith in
-    rw one-mul at (div-lt-iff-lt-mul {x = row} {y = 1} (pow-pos b) .0 h)
-
-pub left-some : (row b : ℕ) → row < 2 ^ 32 → (row / 2 ^ b ≡ 0 → ⊥) → b < 32
-left-some row b h n = go (decLt b 32)
-  where
-    go : Dec (b < 32) → b < 32
-    go (yes l) = l
-    go (no l) = absurd (n (div-eq-of-lt (lt-of-lt-of-le h (pow-mono {i = 32} {j = b} (omega arith)))))
-
+-- what is left a bit later
 pub left-half : (row b : ℕ) → row / 2 ^ b / 2 ≡ row / 2 ^ (b + 1)
 left-half row b = shr-shr row b 1
 
@@ -85,7 +72,7 @@ row-none row a (suc n) b h l =
 pub row-end : (row a q : ℕ) → 32 * a ≤ q → q ≤ 32 * a + 32 → row / 2 ^ (q - 32 * a) ≡ 0 → rowFrom row q (32 * a + 32 - q) ≡ []
 row-end row a q l m e =
     let k : q ≡ 32 * a + (q - 32 * a) = omega arith in
-    let c = row-none row a (32 * a + 32 - q) (q - 32 * a) (omega arith) (left-none row (q - 32 * a) e) in
+    let c = row-none row a (32 * a + 32 - q) (q - 32 * a) (omega arith) (none-left row (q - 32 * a) e) in
     ap (λ (x : ℕ). rowFrom row x (32 * a + 32 - q)) k ∙ c
 
 -- two bytes for each bit

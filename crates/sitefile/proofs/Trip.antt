@@ -8,9 +8,11 @@ use Rattle.records.specs.declared.ReadAnswer.the-variants.{Done}
 use Rattle.site.specs.Record.{faultOf}
 use Rattle.site.specs.declared.Site.{Site}
 use Rattle.site.specs.declared.Fault.the-variants.{Fine}
-use Rattle.sitefile.specs.Held.{Held, Bytes}
+use Rattle.records.specs.Bytes.{Bytes}
+use Rattle.records.specs.Write.{over}
+use Rattle.sitefile.specs.Held.{Held}
 use Rattle.sitefile.specs.Read.{siteDone, readSite}
-use Rattle.sitefile.specs.Write.{siteBytes, written, over, siteWritten, siteOut}
+use Rattle.sitefile.specs.Write.{siteBytes, written, siteWritten, siteOut}
 use Rattle.sitefile.proofs.FileTrip.{GoodSite, read-written, written-read, read-good}
 use Rattle.sitefile.proofs.Good.{fine-good, good-fine}
 

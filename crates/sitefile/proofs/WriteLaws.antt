@@ -1,16 +1,17 @@
--- The writer's definitions: a turn of the loads' loop, the file's length, its parts stored one after the other, and the answer with what is left in the output.
+-- The writer's definitions: a turn of the loads' loop, the file's length, its parts stored one after the other, and the answer.
 -- Assumes nothing.
 use Prim.Native.Nat.{ℕ, suc, _+_, _*_, _%_, _≤_, _<_}
-use mathlib.Core.Path.{_≡_, refl, sym, ap, _∙_, subst}
+use mathlib.Core.Path.{_≡_, sym, ap, _∙_, subst}
 use mathlib.Core.List.{List, [], _∷_, _++_}
 use native.Mathlib.Numerals.{add-one, add-two, add-four}
 use native.Mathlib.Omega.{arith}
 use lib.ListN.{length, getD, take, drop, length-append, length-take, drop-of-length-le}
 use lib.Seq.{sets, drop-cons, getD-take, length-take-le}
 use borrow.Author.Tests.{le-leb, lt-leb}
-use Rattle.laws.proofs.Stores.{sets-append, sets-front}
+use Rattle.laws.proofs.Stores.{sets-append}
 use Rattle.records.specs.Bytes.{words}
-use Rattle.sitefile.specs.Write.{headWords, pairBytes, siteBytes, written, over}
+use Rattle.records.proofs.Bytes.{words-length}
+use Rattle.sitefile.specs.Write.{siteHead, pairBytes, siteBytes, written}
 use Rattle.site.specs.declared.Site.{Site}
 use Rattle.sitefile.specs.declared.SiteWritten.the-variants.{Done, OutShort}
 use Rattle.sitefile.proofs.RowLaws.{pairs-even, pairs-most}
@@ -32,10 +33,6 @@ unfolding pairBytes
 pair-bytes-even rows = pairs-even rows 0 1024
 
 -- the file's length, and its parts stored one after the other
-pub words-length : (xs : List ℕ) → length (words xs) ≡ 2 * length xs
-words-length [] = refl
-words-length (x ∷ xs) = omega (arith, words-length xs)
-
 tail-put :
     (out : List ℕ) (a m : ℕ) (l p : List ℕ) → length l ≡ m →
     sets (sets (sets (sets out 14 l) (14 + m) (words (a ∷ []))) (14 + m + 2) (words (3 ∷ []))) (14 + m + 4) p
@@ -61,7 +58,7 @@ module _ (s : Site) (cells : s .cells ≤ 32) (size : length (s .loads) ≡ 32) 
       sets
       (sets
       (sets
-      (sets (sets out 0 (words (headWords (s .cells) (s .slots) (s .channels)))) 14 (words (take (s .cells) (s .loads))))
+      (sets (sets out 0 (words (siteHead (s .cells) (s .slots) (s .channels)))) 14 (words (take (s .cells) (s .loads))))
       (14 + 2 * s .cells)
       (words ((2 + length (pairBytes (s .reach))) ∷ [])))
       (14 + 2 * s .cells + 2)
@@ -71,21 +68,12 @@ module _ (s : Site) (cells : s .cells ≤ 32) (size : length (s .loads) ≡ 32) 
       ≡ sets out 0 (siteBytes s)
   unfolding siteBytes
   site-put out =
-      tail-put (sets out 0 (words (headWords (s .cells) (s .slots) (s .channels)))) (2 + length (pairBytes (s .reach))) (2 * s .cells)
+      tail-put (sets out 0 (words (siteHead (s .cells) (s .slots) (s .channels)))) (2 + length (pairBytes (s .reach))) (2 * s .cells)
       (words (take (s .cells) (s .loads)))
       (pairBytes (s .reach))
       loads-length
 
--- the answer and the output of a writer whose file is stored from 0 on
-pub over-done : (file out : List ℕ) → length file ≤ length out → sets out 0 file ≡ over file out
-unfolding over
-over-done file out h =
-    sets-front out file h ∙ rw (le-leb (length file) (length out) h)
-
-pub over-short : (file out : List ℕ) → length out < length file → out ≡ over file out
-unfolding over
-over-short file out h = simp (lt-leb (length file) (length out) h)
-
+-- the writer's answer
 pub written-done : (file out : List ℕ) (n : ℕ) → n ≡ length file → n ≤ length out → Done n ≡ written file out
 unfolding written
 written-done file out n e h = rw e (simp (le-leb (length file) (length out) (subst (λ (k : ℕ). k ≤ length out) e h)))

@@ -1,6 +1,5 @@
--- What the types of the code give of the values that they hold: a site record's lists, and bytes.
+-- What the types of the code give of a site record's lists.
 use Prim.Native.Nat.{ℕ, _^_, _<_}
-use mathlib.Core.List.{List}
 use mathlib.Core.Path.{_≡_}
 use lib.ListN.{length, getD}
 use Rattle.site.specs.declared.Site.{Site}
@@ -10,6 +9,3 @@ pub record Held (s : Site) : Type 0 where
   pub loads : length (s .loads) ≡ 32
   pub rows : length (s .reach) ≡ 32
   pub bits : (k : ℕ) → k < 32 → getD (s .reach) k 0 < 2 ^ 32
-
-abbrev pub Bytes : List ℕ → Type 0
-Bytes b = (k : ℕ) → getD b k 0 < 256

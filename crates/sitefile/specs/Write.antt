@@ -1,10 +1,11 @@
 -- The file of a site, and what its writer answers and leaves.
 use Prim.Native.Nat.{ℕ, _+_, _*_}
 use mathlib.Core.List.{List, [], _∷_, _++_}
-use lib.ListN.{length, take, drop}
+use lib.ListN.{length, take}
 use lib.Dec.{leb}
 use Rattle.laws.specs.Choice.{pick}
 use Rattle.records.specs.Bytes.{words}
+use Rattle.records.specs.Write.{headWords, over}
 use Rattle.site.specs.Record.{faultOf, isFine}
 use Rattle.site.specs.declared.Site.{Site}
 use Rattle.sitefile.specs.Pairs.{pairsFrom}
@@ -15,13 +16,13 @@ unfoldable pub pairBytes : List ℕ → List ℕ
 pairBytes reach = pairsFrom reach 0 1024
 
 -- the head, and the length and kind of the loads
-abbrev pub headWords : ℕ → ℕ → ℕ → List ℕ
-headWords cells slots channels = 8 ∷ 1 ∷ cells ∷ slots ∷ channels ∷ (2 + 2 * cells) ∷ 2 ∷ []
+abbrev pub siteHead : ℕ → ℕ → ℕ → List ℕ
+siteHead cells slots channels = headWords cells slots channels (2 + 2 * cells) 2
 
 -- "A site file is kinds 1, 2, 3"
 unfoldable pub siteBytes : Site → List ℕ
 siteBytes s =
-    words (headWords (s .cells) (s .slots) (s .channels))
+    words (siteHead (s .cells) (s .slots) (s .channels))
     ++ (words (take (s .cells) (s .loads))
     ++ (words ((2 + length (pairBytes (s .reach))) ∷ 3 ∷ [])
     ++ pairBytes (s .reach)))
@@ -29,10 +30,6 @@ siteBytes s =
 -- 13, "lent output too short for the file": "bytes needed"; "a writer that is done answers the number of bytes written"
 unfoldable pub written : List ℕ → List ℕ → SiteWritten
 written file out = pick (leb (length file) (length out)) (Done (length file)) (OutShort (length file))
-
--- "output bytes past the file are never written"; nothing where it does not fit
-unfoldable pub over : List ℕ → List ℕ → List ℕ
-over file out = pick (leb (length file) (length out)) (file ++ drop (length file) out) out
 
 -- "Writers: 1, 2, 3, .. 13"
 unfoldable pub siteWritten : Site → List ℕ → SiteWritten

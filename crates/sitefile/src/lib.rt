@@ -3,6 +3,7 @@ use records::Length;
 use records::Opened;
 use records::ReadAnswer;
 use records::open;
+use records::put_head;
 use records::put_two;
 use records::put_word;
 use records::word;
@@ -15,9 +16,10 @@ ghost use Prim.Native.Nat.{_+_, _*_, _/_, _%_, _^_, _≤_, _<_};
 ghost use lib.ListN.{length, take, replicate};
 ghost use lib.Seq.{sets};
 ghost use Rattle.records.specs.Bytes.{wordsOf, words};
+ghost use Rattle.records.specs.Write.{over};
 ghost use Rattle.sitefile.specs.Pairs.{pairOk, place, readPairs, pairOf, rowFrom};
 ghost use Rattle.sitefile.specs.Read.{refusedSite, refusedBy, readReach, readLoads, readSite};
-ghost use Rattle.sitefile.specs.Write.{headWords, siteBytes, pairBytes, written, over, siteWritten, siteOut};
+ghost use Rattle.sitefile.specs.Write.{siteBytes, pairBytes, written, siteWritten, siteOut};
 
 // What a site read gives: the site, or a site of zeros beside the refusal.
 pub struct SiteRead {
@@ -207,20 +209,6 @@ pub fn read_site(bytes: &[u8]) -> SiteRead
     }
 }
 
-// The head, and the length and kind of the loads.
-fn put_head(out: &mut [u8], cells: u16, slots: u16, channels: u16)
-    requires { ⌜ (cells ≤ 32) × (14 ≤ length (now out)) ⌝ }
-    ensures { λ _. ⌜ now (out .exit) ≡ sets (now (out .entry)) 0 (words (headWords cells slots channels)) ⌝ }
-{
-    put_word(out, 0, 8);
-    put_word(out, 2, 1);
-    put_word(out, 4, cells);
-    put_word(out, 6, slots);
-    put_word(out, 8, channels);
-    put_word(out, 10, 2 + 2 * cells);
-    put_word(out, 12, 2);
-}
-
 fn put_loads(out: &mut [u8], at: usize, loads: [u16; 32], n: usize)
     requires { ⌜ (n ≤ 32) × (at + 2 * n ≤ length (now out)) ⌝ }
     ensures { λ _. ⌜ now (out .exit) ≡ sets (now (out .entry)) at (words (take n loads)) ⌝ }
@@ -310,7 +298,7 @@ fn put_site(s: Site, out: &mut [u8]) -> SiteWritten
     if out.len() < need {
         return SiteWritten::OutShort(need);
     }
-    put_head(out, cells, s.slots, s.channels);
+    put_head(out, cells, s.slots, s.channels, 2 + 2 * cells, 2);
     put_loads(out, 14, loads, n);
     put_word(out, at, (2 + m) as u16);
     put_word(out, at + 2, 3);

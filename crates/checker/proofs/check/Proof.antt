@@ -1,11 +1,10 @@
 -- `checker::check` meets its contract: a case for each way out. Assumes nothing.
-use native.Mathlib.Nat.{mul-le-mul-right}
 use borrow.Author.Tests.{lt-ltb}
-use Rattle.site.specs.Record.{faultOf, positions}
+use Rattle.site.specs.Record.{faultOf}
 use Rattle.site.specs.declared.Fault.the-variants.{Fine}
-use Rattle.site.proofs.Faults.{not-fine, fine-sized, Sized}
+use Rattle.site.proofs.Faults.{not-fine, fine-sized, Sized, few-positions, few-bytes}
 use Rattle.checker.specs.Check.{checkAnswer}
-use Rattle.checker.proofs.Judged.{room-most, check-judged}
+use Rattle.checker.proofs.Judged.{check-judged}
 use mathlib.Core.Path.{_≡_, sym, _∙_}
 use native.Mathlib.Omega.{arith}
 use borrow.Author.Needs.{needs}
@@ -39,13 +38,10 @@ cast-n-2 : tie.Need-cast-n-2
 cast-n-2 c = search needs
 
 mul-n : tie.Need-mul-n
-mul-n c = omega (arith, room-most (sizes (c .before .before .before)))
+mul-n c = omega (arith, few-positions (sizes (c .before .before .before)))
 
 mul-if1 : tie.Need-mul-if1
-mul-if1 c =
-    let s = c .before .before .before .before .before .before .before .args .site in
-    let z = sizes (c .before .before .before) in
-    omega (arith, room-most z, mul-le-mul-right (positions s) (z .cells-most))
+mul-if1 c = omega (arith, few-bytes (sizes (c .before .before .before)))
 
 returns-2 : tie.Need-returns-2
 unfolding checkAnswer
@@ -55,7 +51,7 @@ judge-requires : tie.Need-judge-requires
 judge-requires c κs =
     let e = c .before .before .before in
     let z = sizes (e .before .before .before .before) in
-    (z .cells-most, room-most z, e .if1 .left)
+    (z .cells-most, few-positions z, e .if1 .left)
 
 returns-3 : tie.Need-returns-3
 returns-3 c =

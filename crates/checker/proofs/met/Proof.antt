@@ -1,7 +1,7 @@
 -- `checker::met` meets its contract: a case for each way out. Assumes nothing.
 use native.Mathlib.Nat.{mod-lt}
 use lib.Dec.{lit<}
-use Rattle.checker.proofs.Masks.{digit}
+use Rattle.laws.proofs.Bits.{digit}
 use borrow.Author.Tests.{eq-eqb, ne-eqb}
 use Rattle.checker.specs.Masks.{meets}
 use borrow.Author.Needs.{needs}

@@ -3,9 +3,9 @@ use mathlib.Core.Path.{_≡_, sym, _∙_}
 use native.Mathlib.Omega.{arith}
 use Rattle.site.specs.Record.{faultOf}
 use Rattle.site.specs.declared.Fault.the-variants.{Fine}
-use Rattle.site.proofs.Faults.{not-fine, fine-sized}
+use Rattle.site.proofs.Faults.{not-fine, fine-sized, few-positions}
 use Rattle.judges.specs.Judges.{loadAnswer}
-use Rattle.judges.proofs.Laws.{room-most, load-over, load-none}
+use Rattle.judges.proofs.Laws.{load-over, load-none}
 use borrow.Author.Needs.{needs}
 use Rattle.judges.proofs.load_test.Statement.{statement}
 use Rattle.judges.proofs.load_test.Tie as tie
@@ -34,7 +34,7 @@ cast-room-2 : tie.Need-cast-room-2
 cast-room-2 c = search needs
 
 mul-room : tie.Need-mul-room
-mul-room c = omega (arith, room-most _ (fine-sized _ (fine (c .before .before .before))))
+mul-room c = omega (arith, few-positions (fine-sized _ (fine (c .before .before .before))))
 
 first-over-requires : tie.Need-first-over-requires
 first-over-requires c κs = fine-sized _ (fine (c .before .before .before .before .before .before .before)) .cells-most

@@ -1,6 +1,6 @@
 -- `judges::pair` meets its contract: the test of both bits at once is the test of either. Assumes nothing.
 use Prim.Native.Nat.{_/_, _^_}
-use Rattle.site.proofs.Reach.{either-bit}
+use Rattle.laws.proofs.Bits.{either-bit}
 use borrow.Author.Needs.{needs}
 use Rattle.judges.proofs.pair.Statement.{statement}
 use Rattle.judges.proofs.pair.Tie as tie

@@ -5,9 +5,9 @@ use native.Mathlib.Nat.{mul-le-mul-right}
 use native.Mathlib.Omega.{arith}
 use Rattle.theory.specs.Greedy.{greedy}
 use Rattle.site.specs.Reach.{netOf}
-use Rattle.site.proofs.Faults.{fine-sized}
+use Rattle.site.proofs.Faults.{fine-sized, few-positions, few-bytes}
 use Rattle.planner.specs.Plan.{answerOf}
-use Rattle.planner.proofs.Answer.{run-answer, few-positions, few-bytes}
+use Rattle.planner.proofs.Answer.{run-answer}
 use Rattle.lister.specs.Parts.{siteRest, rowCount}
 use Rattle.lister.proofs.Heading.{four, no-more}
 use borrow.Author.Needs.{needs}
@@ -66,7 +66,7 @@ entry c = site-at c .before .before .before .before .before .before .before
 mul-t25 : tie.Need-mul-t25
 mul-t25 c =
     let s = entry c in
-    omega (arith, few-positions (s .args .site) (fine-sized (s .args .site) (s .pre .0)))
+    omega (arith, few-positions (fine-sized (s .args .site) (s .pre .0)))
 
 same-length : tie.Need-same-length
 same-length c = search needs
@@ -79,7 +79,7 @@ ran : (c : tie.After-row-count) → planned-at c .plan .result ≡ answerOf (gre
 ran c =
     let s = entry c in
     planned-at c .plan .ensures .0
-    ∙ run-answer (s .args .site) (s .args .table .now) (s .pre .0) (omega (arith, s .pre .1 .1, few-bytes (s .args .site) (fine-sized (s .args .site) (s .pre .0))))
+    ∙ run-answer (s .args .site) (s .args .table .now) (s .pre .0) (omega (arith, s .pre .1 .1, few-bytes (fine-sized (s .args .site) (s .pre .0))))
 
 returns : tie.Need-returns
 unfolding siteRest
@@ -106,8 +106,8 @@ returns c =
           record {
             short = omega (arith, k₁ .1 .1, k₂ .1 .1, k₃ .1 .1, k₄ .1 .1);
             few = omega (arith, few, z .cells-most);
-            narrow = few-positions (s .args .site) z;
-            within = omega (arith, m, few-bytes (s .args .site) z);
+            narrow = few-positions z;
+            within = omega (arith, m, few-bytes z);
             some = λ _. z .channels-some;
           },
         ),

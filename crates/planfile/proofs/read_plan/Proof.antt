@@ -7,10 +7,11 @@ use native.Mathlib.Omega.{arith}
 use lib.ListN.{length}
 use denote.Ref.{now}
 use Rattle.records.specs.declared.Length.the-variants.{Exact}
-use Rattle.records.specs.declared.ReadAnswer.the-variants.{Done}
+use Rattle.records.specs.declared.Opened.the-variants.{Body}
+use Rattle.records.specs.Opener.{openAt}
 use Rattle.records.proofs.Laws.{Opening, opened, exact}
 use Rattle.site.specs.Record.{sizeOk}
-use Rattle.planfile.specs.Read.{refusedBy, firstReason, recordReasons, cellsIn, slotsIn, channelsIn}
+use Rattle.planfile.specs.Read.{refusedBy, cellsIn, slotsIn, channelsIn}
 use Rattle.planfile.proofs.ReadLaws.{refuse, head-stop, head-read, size-stop}
 use Rattle.planfile.proofs.read_plan.Statement.{statement}
 use Rattle.planfile.proofs.read_plan.Tie as tie
@@ -39,7 +40,7 @@ returns c =
 opening : (c : tie.After-enum-told) → Opening (now (c .before .before .before .before .before .args .bytes)) 0 1 (Exact 8) (c .enum-told .given .0 .0) (c .enum-told .given .0 .1 .0)
 opening c = opened _ _ _ _ _ _ (sym (c .before .before .open .ensures) ∙ c .enum-told .given .1)
 
-head-done : (c : tie.After-enum-told) → firstReason (recordReasons (now (c .before .before .before .before .before .args .bytes)) 0 1 8) ≡ Done
+head-done : (c : tie.After-enum-told) → openAt (now (c .before .before .before .before .before .args .bytes)) 0 1 (Exact 8) ≡ Body 4 6
 head-done c =
     let a = c .before .before .before .before .before in
     head-read (now (a .args .bytes)) (now (a .args .table)) _ _ (sym (c .before .before .open .ensures) ∙ c .enum-told .given .1)

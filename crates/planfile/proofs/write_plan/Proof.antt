@@ -2,13 +2,12 @@
 use borrow.Author.Needs.{needs}
 use Prim.Native.Nat.{ℕ, _+_, _≤_}
 use mathlib.Core.Path.{_≡_, sym, ap, _∙_}
-use native.Mathlib.Nat.{mul-le-mul}
 use native.Mathlib.Omega.{arith}
 use lib.Seq.{length-take-le}
 use denote.Ref.{now}
 use Rattle.site.specs.Record.{isFine, faultOf}
 use Rattle.site.specs.declared.Fault.the-variants.{Fine}
-use Rattle.site.proofs.Faults.{not-fine, fine-sized}
+use Rattle.site.proofs.Faults.{not-fine, fine-sized, few-bytes}
 use Rattle.planfile.specs.Bits.{bytesFor}
 use Rattle.planfile.specs.declared.PlanWritten.the-variants.{Refused}
 use Rattle.planfile.proofs.WriteLaws.{faulty, table-short, out-short, all-done}
@@ -53,9 +52,7 @@ returns-3 c =
     out-short (a .args .site) (now (a .args .table)) (now (a .args .out)) (fine (c .before .before .before)) (rw e at (c .before .if1 .left)) _ (ap (λ (n : ℕ). 14 + bytesFor n) e) (c .if2 .taken)
 
 few : (c : tie.After-entries) → c .entries .result ≤ 65536
-few c =
-    let z = fine-sized _ (fine (c .before)) in
-    rw (c .entries .ensures) (mul-le-mul (z .cells-most) (mul-le-mul (z .slots-most) (z .channels-most)))
+few c = rw (c .entries .ensures) (few-bytes (fine-sized _ (fine (c .before))))
 
 add-put-head : tie.Need-add-put-head
 add-put-head c = search needs

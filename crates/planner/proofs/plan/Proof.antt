@@ -5,8 +5,8 @@ use borrow.Author.Needs.{needs}
 use Rattle.site.specs.Record.{positions, faultOf}
 use Rattle.site.specs.Reach.{netOf}
 use Rattle.site.specs.declared.Fault.the-variants.{Fine}
-use Rattle.site.proofs.Faults.{not-fine, fine-sized}
-use Rattle.planner.proofs.Answer.{refused-answer, refused-table, short-answer, short-table, run-answer, run-table, few-positions, few-bytes}
+use Rattle.site.proofs.Faults.{not-fine, fine-sized, few-positions, few-bytes}
+use Rattle.planner.proofs.Answer.{refused-answer, refused-table, short-answer, short-table, run-answer, run-table}
 use Rattle.planner.proofs.Cells.{no-rows}
 use Rattle.planner.proofs.plan.Statement.{statement}
 use Rattle.planner.proofs.plan.Tie as tie
@@ -41,12 +41,12 @@ cast-channels c = search needs
 mul-size : tie.Need-mul-size
 mul-size c =
     let told = c .before .before .before in
-    omega (arith, few-positions _ (fine-sized (told .before .before .before .before .args .site) (fine told)))
+    omega (arith, few-positions (fine-sized (told .before .before .before .before .args .site) (fine told)))
 
 mul-size-2 : tie.Need-mul-size-2
 mul-size-2 c =
     let told = c .before .before .before in
-    omega (arith, few-bytes _ (fine-sized (told .before .before .before .before .args .site) (fine told)))
+    omega (arith, few-bytes (fine-sized (told .before .before .before .before .args .site) (fine told)))
 
 returns-2 : tie.Need-returns-2
 returns-2 c =

@@ -7,7 +7,8 @@ use native.Mathlib.Omega.{arith}
 use lib.ListN.{length}
 use lib.Seq.{sets}
 use Rattle.sitefile.specs.Pairs.{rowFrom}
-use Rattle.sitefile.proofs.RowLaws.{row-put, row-unroll-length, row-end, left-some, left-half}
+use Rattle.laws.proofs.Bits.{some-left}
+use Rattle.sitefile.proofs.RowLaws.{row-put, row-unroll-length, row-end, left-half}
 use Rattle.sitefile.proofs.put_row.Statement.{statement}
 use Rattle.sitefile.proofs.put_row.Tie as tie
 
@@ -47,7 +48,7 @@ below : (c : tie.In-loop Inv-loop μ-loop) → c .before .loop .q < 32 * c .befo
 below c =
     let l = c .before .loop in
     let a = c .before .before .before .args in
-    omega (arith, left-some (a .row) (l .q - 32 * a .a) (omega arith) (λ e. c .loop-test .taken (l .inv .rest ∙ e)))
+    omega (arith, some-left (a .row) 32 (l .q - 32 * a .a) (omega arith) (λ e. c .loop-test .taken (l .inv .rest ∙ e)))
 
 put-pair-requires : tie.Need-put-pair-requires Inv-loop μ-loop
 put-pair-requires c κs =

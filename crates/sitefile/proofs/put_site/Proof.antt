@@ -5,7 +5,8 @@ use native.Mathlib.Omega.{arith}
 use lib.ListN.{length}
 use denote.Ref.{now}
 use Rattle.sitefile.specs.Write.{siteBytes}
-use Rattle.sitefile.proofs.WriteLaws.{pair-bytes-most, site-length, site-put, over-done, over-short, written-done, written-short}
+use Rattle.records.proofs.Write.{over-done, over-short}
+use Rattle.sitefile.proofs.WriteLaws.{pair-bytes-most, site-length, site-put, written-done, written-short}
 use borrow.Author.Needs.{needs}
 use Rattle.sitefile.proofs.put_site.Statement.{statement}
 use Rattle.sitefile.proofs.put_site.Tie as tie
@@ -42,6 +43,12 @@ add-need-2 c = omega (arith, few c)
 returns : tie.Need-returns
 returns c =
     (written-short _ _ _ (need (c .before)) (c .if1 .taken), over-short _ _ (omega (arith, need (c .before))))
+
+mul-put-head : tie.Need-mul-put-head
+mul-put-head c = search needs
+
+add-put-head : tie.Need-add-put-head
+add-put-head c = search needs
 
 put-head-requires : tie.Need-put-head-requires
 put-head-requires c κs = search needs
@@ -98,6 +105,8 @@ put-site-spec =
     add-need
     add-need-2
     returns
+    mul-put-head
+    add-put-head
     put-head-requires
     put-loads-requires
     add-put-word

@@ -6,7 +6,8 @@ use lib.ListN.{length}
 use denote.Ref.{now}
 use Rattle.records.specs.declared.Length.the-variants.{Exact}
 use Rattle.records.proofs.Laws.{Opening, opened, exact}
-use Rattle.sitefile.proofs.ReadLaws.{sizes, head-refused, head-good, head-bad}
+use Rattle.site.proofs.Faults.{sizes}
+use Rattle.sitefile.proofs.ReadLaws.{head-refused, head-good, head-bad}
 use borrow.Author.Needs.{needs}
 use Rattle.sitefile.proofs.read_site.Statement.{statement}
 use Rattle.sitefile.proofs.read_site.Tie as tie
@@ -46,7 +47,7 @@ size-ok-requires : tie.Need-size-ok-requires
 size-ok-requires c κs = search needs
 
 read-loads-requires : tie.Need-read-loads-requires
-read-loads-requires c κs = sizes _ _ _ (sym (c .before .size-ok .ensures) ∙ c .if1 .taken) .cells .1
+read-loads-requires c κs = sizes _ _ _ (sym (c .before .size-ok .ensures) ∙ c .if1 .taken) .cells-most
 
 refused-requires : tie.Need-refused-requires
 refused-requires c κs = search needs
