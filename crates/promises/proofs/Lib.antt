@@ -2,6 +2,7 @@ pub mod Desk
 pub mod Demand1
 pub mod Demand2
 pub mod Demand3
+pub mod Files
 pub mod SiteOne
 pub mod JudgesOne
 pub mod PlannerOne
