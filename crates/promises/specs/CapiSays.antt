@@ -56,12 +56,12 @@ pub record DuggChain (site : Site) (r : Answer) : Type 0 where
 
 -- capi::dugg_plan
 pub record DuggPlan (site : Site) (table : List ℕ) (r : Answer) (table′ : List ℕ) : Type 0 where
-  pub answer : r ≡ told (planGiven (planAnswer site (table)))
-  pub table-after : table′ ≡ planTable site (table)
+  pub answer : r ≡ told (planGiven (planAnswer site table))
+  pub table-after : table′ ≡ planTable site table
 
 -- capi::dugg_check
 pub record DuggCheck (site : Site) (table : List ℕ) (r : Answer) : Type 0 where
-  pub answer : r ≡ told (checkGiven (checkAnswer site (table)))
+  pub answer : r ≡ told (checkGiven (checkAnswer site table))
 
 -- capi::dugg_share
 pub record DuggShare (slots : ℕ) (burst : ℕ) (period : ℕ) (r : Answer) : Type 0 where
@@ -69,19 +69,19 @@ pub record DuggShare (slots : ℕ) (burst : ℕ) (period : ℕ) (r : Answer) : T
 
 -- capi::dugg_read_site
 pub record DuggReadSite (bytes : List ℕ) (r : EditedSite) : Type 0 where
-  pub answer : r ≡ toldSiteRead (readSite (bytes))
+  pub answer : r ≡ toldSiteRead (readSite bytes)
 
 -- capi::dugg_write_site
 pub record DuggWriteSite (site : Site) (out : List ℕ) (r : Answer) (out′ : List ℕ) : Type 0 where
-  pub answer : r ≡ told (siteWrittenGiven (siteWritten site (out)))
-  pub out-after : out′ ≡ siteOut site (out)
+  pub answer : r ≡ told (siteWrittenGiven (siteWritten site out))
+  pub out-after : out′ ≡ siteOut site out
 
 -- capi::dugg_read_plan
 pub record DuggReadPlan (bytes : List ℕ) (table : List ℕ) (r : PlanReadC) (table′ : List ℕ) : Type 0 where
-  pub answer : r ≡ toldPlanRead (readPlan (bytes) (table))
-  pub table-after : table′ ≡ planTableRead (bytes) (table)
+  pub answer : r ≡ toldPlanRead (readPlan bytes table)
+  pub table-after : table′ ≡ planTableRead bytes table
 
 -- capi::dugg_write_plan
 pub record DuggWritePlan (site : Site) (table : List ℕ) (out : List ℕ) (r : Answer) (out′ : List ℕ) : Type 0 where
-  pub answer : r ≡ told (planWrittenGiven (planWritten site (table) (out)))
-  pub out-after : out′ ≡ planOut site (table) (out)
+  pub answer : r ≡ told (planWrittenGiven (planWritten site table out))
+  pub out-after : out′ ≡ planOut site table out

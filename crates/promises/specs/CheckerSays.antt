@@ -8,4 +8,4 @@ use Rattle.site.specs.declared.Site.{Site}
 
 -- checker::check
 pub record Check (site : Site) (table : List ℕ) (r : CheckAnswer) : Type 0 where
-  pub answer : r ≡ checkAnswer site (table)
+  pub answer : r ≡ checkAnswer site table

@@ -10,10 +10,10 @@ use Rattle.site.specs.declared.Site.{Site}
 
 -- planfile::read_plan
 pub record ReadPlan (bytes : List ℕ) (table : List ℕ) (r : PlanRead) (table′ : List ℕ) : Type 0 where
-  pub answer : r ≡ readPlan (bytes) (table)
-  pub table-after : table′ ≡ planTableRead (bytes) (table)
+  pub answer : r ≡ readPlan bytes table
+  pub table-after : table′ ≡ planTableRead bytes table
 
 -- planfile::write_plan
 pub record WritePlan (site : Site) (table : List ℕ) (out : List ℕ) (r : PlanWritten) (out′ : List ℕ) : Type 0 where
-  pub answer : r ≡ planWritten site (table) (out)
-  pub out-after : out′ ≡ planOut site (table) (out)
+  pub answer : r ≡ planWritten site table out
+  pub out-after : out′ ≡ planOut site table out

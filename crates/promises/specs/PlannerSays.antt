@@ -8,5 +8,5 @@ use Rattle.site.specs.declared.Site.{Site}
 
 -- planner::plan
 pub record Plan (site : Site) (table : List ℕ) (r : PlanAnswer) (table′ : List ℕ) : Type 0 where
-  pub answer : r ≡ planAnswer site (table)
-  pub table-after : table′ ≡ planTable site (table)
+  pub answer : r ≡ planAnswer site table
+  pub table-after : table′ ≡ planTable site table

@@ -21,7 +21,7 @@ pub record SizeOk (cells : ℕ) (slots : ℕ) (channels : ℕ) (r : Bool) : Type
 
 -- site::clashes
 pub record Clashes (reach : List ℕ) (a : ℕ) (b : ℕ) (r : Bool) : Type 0 where
-  pub answer : r ≡ clashIn (reach) a b
+  pub answer : r ≡ clashIn reach a b
 
 -- site::Site::zeros
 pub record SiteZeros (r : Site) : Type 0 where

@@ -10,9 +10,9 @@ use Rattle.sitefile.specs.declared.SiteWritten.{SiteWritten}
 
 -- sitefile::read_site
 pub record ReadSite (bytes : List ℕ) (r : SiteRead) : Type 0 where
-  pub answer : r ≡ readSite (bytes)
+  pub answer : r ≡ readSite bytes
 
 -- sitefile::write_site
 pub record WriteSite (site : Site) (out : List ℕ) (r : SiteWritten) (out′ : List ℕ) : Type 0 where
-  pub answer : r ≡ siteWritten site (out)
-  pub out-after : out′ ≡ siteOut site (out)
+  pub answer : r ≡ siteWritten site out
+  pub out-after : out′ ≡ siteOut site out
