@@ -5,7 +5,8 @@
  *
  *    1  cells, slots or channels out of range
  *    2  a load beyond the last cell (value: lowest such cell), or a load edit of a cell that is not there (the cell)
- *    3  a reach row or bit beyond the last cell, or of a cell to itself (value: lowest row); in an edit its "from"
+ *    3  a reach row or bit beyond the last cell, or of a cell to itself (value: lowest row); or an edit or a pair that
+ *       names a cell that is not there, or one cell twice (in an edit the value is its "from")
  *    4  the lent table is too short
  *    5  the planner finds no room (values: cell, fragments short)
  *    6  two clashing cells transmit at one position (values: position, first cell, second cell)

@@ -19,14 +19,14 @@ numbered n a b c = record { number = n; value = a ∷ b ∷ c ∷ [] }
 unfoldable pub told : Given → Answer
 told g = numbered (g .number) (getD (g .values) 0 0) (getD (g .values) 1 0) (getD (g .values) 2 0)
 
--- "Each edit hands back the site with that one thing changed; a refused edit hands back the site it was given."
+-- the site as the edit gave it, and the answer as told
 unfoldable pub toldEdited : Edited → EditedSite
 toldEdited e = record { site = e .site; answer = told (faultGiven (e .answer)) }
 
--- "A refused site read gives a site of zeros."
+-- the site as the read gave it, and the answer as told
 unfoldable pub toldSiteRead : SiteRead → EditedSite
 toldSiteRead e = record { site = e .site; answer = told (readGiven (e .answer)) }
 
--- "A plan read gives I, T and F; refused, three zeros."
+-- I, T and F as the read gave them, and the answer as told
 unfoldable pub toldPlanRead : PlanRead → PlanReadC
 toldPlanRead e = record { cells = e .cells; slots = e .slots; channels = e .channels; answer = told (readGiven (e .answer)) }

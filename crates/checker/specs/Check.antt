@@ -1,5 +1,5 @@
 -- What the checker answers. Cells are numbered from 1 in an answer, and positions are counted from 0.
--- "A table is valid for a site (000, Definition 1) when no two clashing cells hold 1 at one position, and each cell holds 1 exactly as often as its load."
+-- What a valid table is stands in theory/specs/Net.antt, and what the verdict names in theory/specs/Verdict.antt.
 use mathlib.Core.List.{List}
 use Prim.Native.Nat.{ℕ, _+_}
 use lib.Dec.{ltb}

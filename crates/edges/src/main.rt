@@ -5,7 +5,7 @@ use planner::PlanAnswer;
 use site::Fault;
 use site::Site;
 
-// A fault's number, and the cell or row that goes with it.
+// A fault's number.
 fn refused(f: Fault) {
     match f {
         Fault::Fine => io::write_all(STDOUT_FILENO, b"0"),

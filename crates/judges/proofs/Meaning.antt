@@ -25,28 +25,25 @@ load-is-holds : (v : LoadVerdict) → loadOf v ≡ load.Holds → v ≡ holds
 load-is-holds holds e = refl
 load-is-holds (over i m) e = let z : _≡_ {A = ℕ} 0 1 = cc in absurd (omega arith)
 
-load-is-over : (v : LoadVerdict) (i m : ℕ) → loadOf v ≡ load.Over (i + 1) m → v ≡ over i m
-load-is-over holds i m e = let z : _≡_ {A = ℕ} 0 1 = cc in absurd (omega arith)
-load-is-over (over j n) i m e =
-    let p : j + 1 ≡ i + 1 = cc in
+load-is-over : (v : LoadVerdict) (cell m : ℕ) → loadOf v ≡ load.Over cell m → (i : ℕ) × (cell ≡ i + 1) × (v ≡ over i m)
+load-is-over holds cell m e = let z : _≡_ {A = ℕ} 0 1 = cc in absurd (omega arith)
+load-is-over (over j n) cell m e =
+    let p : j + 1 ≡ cell = cc in
     let q : n ≡ m = cc in
-    let r : j ≡ i = omega arith in
-    rw (r, q)
+    (j, sym p, ap (over j) q)
 
 chain-is-chained : (v : ChainVerdict) → chainOf v ≡ chain.Chained → v ≡ chained
 chain-is-chained chained e = refl
 chain-is-chained (broken a b c) e = let z : _≡_ {A = ℕ} 0 1 = cc in absurd (omega arith)
 
-chain-is-broken : (v : ChainVerdict) (a b c : ℕ) → chainOf v ≡ chain.Broken (a + 1) (b + 1) (c + 1) → v ≡ broken a b c
+chain-is-broken : (v : ChainVerdict) (a b c : ℕ) → chainOf v ≡ chain.Broken a b c
+    → (x y z : ℕ) × (a ≡ x + 1) × (b ≡ y + 1) × (c ≡ z + 1) × (v ≡ broken x y z)
 chain-is-broken chained a b c e = let z : _≡_ {A = ℕ} 0 1 = cc in absurd (omega arith)
 chain-is-broken (broken x y z) a b c e =
-    let p : x + 1 ≡ a + 1 = cc in
-    let q : y + 1 ≡ b + 1 = cc in
-    let r : z + 1 ≡ c + 1 = cc in
-    let p′ : x ≡ a = omega arith in
-    let q′ : y ≡ b = omega arith in
-    let r′ : z ≡ c = omega arith in
-    rw (p′, q′, r′)
+    let p : x + 1 ≡ a = cc in
+    let q : y + 1 ≡ b = cc in
+    let r : z + 1 ≡ c = cc in
+    (x, y, z, sym p, sym q, sym r, refl)
 
 -- an accepted record gets its verdict, and what gets a verdict is accepted
 pub load-fine : (s : Site) → faultOf s ≡ Fine → loadAnswer s ≡ loadOf (loadVerdict (netOf s) (counted s))
@@ -75,10 +72,12 @@ holds-means s = (
 )
 
 -- "If not, it names the lowest cell that is over and by how much."
-pub over-means : (s : Site) (i m : ℕ) → loadAnswer s ≡ load.Over (i + 1) m → (faultOf s ≡ Fine) × FirstOver (netOf s) (counted s) i m
-over-means s i m e =
-    let f = load-accepted s (load.Over (i + 1) m) (λ q. let z : _≡_ {A = ℕ} 0 1 = cc in omega arith) e in
-    (f, load-names (netOf s) (counted s) i m (load-is-over _ i m (sym (load-fine s f) ∙ e)))
+pub over-means : (s : Site) (cell m : ℕ) → loadAnswer s ≡ load.Over cell m
+    → (faultOf s ≡ Fine) × ((i : ℕ) × (cell ≡ i + 1) × FirstOver (netOf s) (counted s) i m)
+over-means s cell m e =
+    let f = load-accepted s (load.Over cell m) (λ q. let z : _≡_ {A = ℕ} 0 1 = cc in omega arith) e in
+    let v = load-is-over (loadVerdict (netOf s) (counted s)) cell m (sym (load-fine s f) ∙ e) in
+    (f, (v .0, v .1, load-names (netOf s) (counted s) (v .0) m (v .2)))
 
 -- "A site is chained when, for every clashing pair a < c, each b strictly between clashes with a, the EARLIER cell."
 pub chained-means : (s : Site) → chainAnswer s ≡ chain.Chained ↔ ((faultOf s ≡ Fine) × Chained (netOf s) (counted s))
@@ -90,7 +89,9 @@ chained-means s = (
 )
 
 -- "If not chained, the judge names the first triple a, b, c in rising order of a, then c, then b."
-pub broken-means : (s : Site) (a b c : ℕ) → chainAnswer s ≡ chain.Broken (a + 1) (b + 1) (c + 1) → (faultOf s ≡ Fine) × FirstBreaks (netOf s) (counted s) a b c
+pub broken-means : (s : Site) (a b c : ℕ) → chainAnswer s ≡ chain.Broken a b c
+    → (faultOf s ≡ Fine) × ((x y z : ℕ) × (a ≡ x + 1) × (b ≡ y + 1) × (c ≡ z + 1) × FirstBreaks (netOf s) (counted s) x y z)
 broken-means s a b c e =
-    let f = chain-accepted s (chain.Broken (a + 1) (b + 1) (c + 1)) (λ q. let z : _≡_ {A = ℕ} 0 1 = cc in omega arith) e in
-    (f, chain-names (netOf s) (counted s) a b c (chain-is-broken _ a b c (sym (chain-fine s f) ∙ e)))
+    let f = chain-accepted s (chain.Broken a b c) (λ q. let z : _≡_ {A = ℕ} 0 1 = cc in omega arith) e in
+    let v = chain-is-broken (chainVerdict (netOf s) (counted s)) a b c (sym (chain-fine s f) ∙ e) in
+    (f, (v .0, v .1, v .2, v .3, v .4, v .5, chain-names (netOf s) (counted s) (v .0) (v .1) (v .2) (v .6)))

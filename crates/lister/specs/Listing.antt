@@ -1,5 +1,5 @@
--- The listing of a site file, as document 01 has it: the lines of the crate `listing`, put together. "The lister reads a site file on standard input (the first
--- 4,096 bytes) and prints."
+-- The listing of a site file, as document 01 has it: the lines of the crate `listing`, put together. It is of the
+-- bytes that were read: "the first 4,096 bytes" are the program's to read.
 use Prim.Native.Nat.{ℕ, zero, suc, _+_}
 use mathlib.Core.List.{List, [], _++_}
 use Rattle.theory.specs.Greedy.{Outcome, planned, noRoom, greedy, rowAt}

@@ -68,7 +68,7 @@ fn unpack_whole(body: &[u8], table: &mut [u8], m: usize)
     }
 }
 
-// The bits from table index k to n, one by one.
+// The bits from table index `from` to n, one by one.
 fn unpack_rest(body: &[u8], table: &mut [u8], from: usize, n: usize)
     requires { ⌜ (from ≤ n) × (n ≤ 8 * length (now body)) × (n ≤ length (now table)) ⌝ }
     ensures { λ _. ⌜ now (table .exit) ≡ sets (now (table .entry)) from (bitsFrom (now (body .entry)) from (n - from)) ⌝ }

@@ -1,21 +1,24 @@
 -- Demand 2, over what the contracts cite. Each crate proves its own part; here they stand side by side. Assumes nothing.
-use mathlib.Core.Path.{_≡_, ap, _∙_}
+use mathlib.Core.Path.{_≡_, refl, sym, ap, _∙_}
+use mathlib.Core.Bool.{true≢false}
 use mathlib.Core.List.{List, _++_}
 use mathlib.Core.Logic.{_↔_}
-use Prim.Native.Nat.{ℕ}
+use Prim.Native.Nat.{ℕ, _<_}
 use native.Mathlib.Omega.{arith}
 use lib.ListN.{length, drop, length-append}
+use Rattle.laws.proofs.Sums.{count-most}
 use Rattle.theory.specs.Net.{Valid, LoadTest, Chained, everyone}
 use Rattle.theory.specs.Greedy.{reserved}
 use Rattle.theory.specs.Figure.{figureOne}
-use Rattle.site.specs.Record.{positions, size}
-use Rattle.site.specs.Reach.{netOf}
+use Rattle.site.specs.Record.{positions, size, loadAt}
+use Rattle.site.specs.Reach.{clashIn, netOf}
+use Rattle.site.proofs.Reach.{clash-sym, clash-self}
 use Rattle.site.specs.declared.Site.{Site}
 use Rattle.planner.specs.Plan.{answerOf, tableOf, planAnswer, planTable}
 use Rattle.planner.specs.declared.PlanAnswer.the-variants as planner
 use Rattle.planner.proofs.Meaning.{done-means, done-valid, figure-answer, figure-table}
 use Rattle.planner.proofs.Answer.{run-table}
-use Rattle.theory.proofs.Exact.{planned-size}
+use Rattle.theory.proofs.Exact.{planned-size, apart-any}
 use Rattle.judges.specs.Judges.{loadAnswer, chainAnswer}
 use Rattle.judges.specs.declared.LoadAnswer.the-variants as load
 use Rattle.judges.specs.declared.ChainAnswer.the-variants as chain
@@ -23,7 +26,7 @@ use Rattle.judges.proofs.Meaning.{holds-means, chained-means}
 use Rattle.checker.specs.Check.{checkAnswer}
 use Rattle.checker.specs.declared.CheckAnswer.the-variants as checker
 use Rattle.checker.proofs.Meaning.{valid-means}
-use Rattle.promises.specs.Demands.{Accepted, LongEnough}
+use Rattle.promises.specs.Demands.{Accepted, LongEnough, DefinitionOne}
 
 -- "The plan equals the paper's greedy schedule, mark for mark": answer and table are those of Figure 1, and the bytes past the site's part are as they were.
 pub plan-is-figure : (s : Site) (t : List ℕ) → Accepted s → LongEnough s t
@@ -31,10 +34,31 @@ pub plan-is-figure : (s : Site) (t : List ℕ) → Accepted s → LongEnough s t
     × (planTable s t ≡ tableOf (size s) (figureOne (netOf s) (s .slots) (s .channels)) ++ drop (size s) t)
 plan-is-figure s t fine long = (figure-answer s t fine long, figure-table s t fine long)
 
+-- `Valid` is the paper's Definition 1: it asks pairs with the lower cell first, and clash is symmetric and never of a cell with itself.
+pub valid-is-definition-one : (s : Site) (t : List ℕ) → Valid (netOf s) (reserved (positions s) t) ↔ DefinitionOne s t
+valid-is-definition-one s t = (
+  λ v. record {
+    condition-one = λ a c k la lc w h p q.
+        apart-any (netOf s) (reserved (positions s) t) v (clash-sym (s .reach)) a c k
+        (λ e. true≢false (sym h ∙ ap (clashIn (s .reach) a) (sym e) ∙ clash-self (s .reach) a)) la lc w h p q;
+    condition-two = v .exact;
+  },
+  λ d. record {
+    apart = λ a c k l m w h p q. d .condition-one a c k (omega arith) m w h p q;
+    exact = d .condition-two;
+    allowed = λ i k l w h. refl;
+  },
+)
+
 -- "The checker says yes exactly to the paper's valid schedules."
 pub check-is-valid : (s : Site) (t : List ℕ)
     → checkAnswer s t ≡ checker.Valid ↔ ((Accepted s) × (LongEnough s t) × (Valid (netOf s) (reserved (positions s) t)))
 check-is-valid = valid-means
+
+-- "A load above N is accepted in a site; the planner refuses it."
+pub load-above-refused : (s : Site) (i : ℕ) → i < s .cells → positions s < loadAt s i → (t : List ℕ) → planAnswer s t ≡ planner.Done → ⊥
+load-above-refused s i l above t e =
+    omega (arith, done-valid s t e .exact i l, count-most (reserved (positions s) (planTable s t) i) (positions s))
 
 -- "The load test is the paper's."
 pub load-is-C1 : (s : Site) → loadAnswer s ≡ load.Holds ↔ ((Accepted s) × (LoadTest (netOf s) everyone))

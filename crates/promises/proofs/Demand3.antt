@@ -3,11 +3,13 @@
 use mathlib.Core.Path.{_≡_, refl, sym, ap, _∙_}
 use mathlib.Core.List.{List}
 use mathlib.Core.Logic.{_↔_}
-use Prim.Native.Nat.{ℕ, _≤_, _<_}
+use Prim.Native.Nat.{ℕ, _+_, _≤_, _<_}
 use native.Mathlib.Omega.{arith}
 use native.Mathlib.Nat.{le-refl}
 use Rattle.laws.proofs.Sums.{count-all}
-use Rattle.theory.specs.Net.{Net, Eases, everyone}
+use Rattle.theory.specs.Net.{Net, Valid, Chained, Eases, everyone}
+use Rattle.theory.specs.Full.{Mutual, weight, around}
+use Rattle.theory.proofs.Full.{over-full}
 use Rattle.theory.specs.Greedy.{reserved}
 use Rattle.theory.proofs.Exact.{covers-everyone, chained-class, demand-three, class-exact}
 use Rattle.site.specs.Record.{positions}
@@ -18,10 +20,12 @@ use Rattle.planner.proofs.Meaning.{done-means, test-done}
 use Rattle.planner.specs.declared.PlanAnswer.the-variants as planner
 use Rattle.judges.specs.Judges.{loadAnswer, chainAnswer}
 use Rattle.judges.specs.declared.LoadAnswer.the-variants as load
+use Rattle.judges.proofs.Meaning.{over-means}
+use Rattle.site.proofs.Accepted.{net-open}
 use Rattle.judges.specs.declared.ChainAnswer.the-variants as chain
 use Rattle.checker.specs.Check.{checkAnswer}
 use Rattle.checker.specs.declared.CheckAnswer.the-variants as checker
-use Rattle.promises.specs.Demands.{LongEnough, Easier}
+use Rattle.promises.specs.Demands.{Accepted, LongEnough, Easier}
 use Rattle.promises.proofs.Demand2.{check-is-valid, load-is-C1, chain-is-chained}
 
 eases : (second first : Site) → Easier second first → Eases (netOf second) (netOf first)
@@ -32,19 +36,26 @@ eases second first h = record {
   sparser = λ a c l m. h .no-new-clash a c (omega arith) m;
 }
 
--- "If any valid plan of the first exists, however found, the planner plans the second."
+-- "If any valid plan of the first exists, however found, the planner plans the second." Over the valid-table definition.
+pub demand-three-sites : (first second : Site) → Accepted first → Accepted second → Easier second first → Chained (netOf second) everyone
+    → (found : List ℕ) → Valid (netOf first) (reserved (positions first) found)
+    → (lent : List ℕ) → LongEnough second lent → planAnswer second lent ≡ planner.Done
+demand-three-sites first second _ fine easier ch found v lent long =
+    done-means second lent .1 (
+      fine,
+      long,
+      demand-three (netOf first) (reserved (positions first) found) v (netOf second) (eases second first easier) everyone
+          (covers-everyone (netOf second)) (chained-class (netOf second) everyone ch),
+    )
+
+-- The same over what the calls say: the judge says "chained", the checker says "valid", and the planner is done.
 pub demand-three-calls : (first second : Site) → Easier second first → chainAnswer second ≡ chain.Chained
     → (found : List ℕ) → checkAnswer first found ≡ checker.Valid
     → (lent : List ℕ) → LongEnough second lent → planAnswer second lent ≡ planner.Done
 demand-three-calls first second easier ch found ok lent long =
     let c = chain-is-chained second .0 ch in
     let v = check-is-valid first found .0 ok in
-    done-means second lent .1 (
-      c .0,
-      long,
-      demand-three (netOf first) (reserved (positions first) found) (v .2) (netOf second) (eases second first easier) everyone
-          (covers-everyone (netOf second)) (chained-class (netOf second) everyone (c .1)),
-    )
+    demand-three-sites first second (v .0) (c .0) easier (c .1) found (v .2) lent long
 
 -- "On a chained site the load test holds exactly when the planner plans"
 pub chained-exact : (s : Site) → chainAnswer s ≡ chain.Chained → (lent : List ℕ) → LongEnough s lent
@@ -71,3 +82,13 @@ chained-full s ch lent long cell short five any ok =
     let yes = demand-three-calls s s (record { same-cells = refl; as-many-channel-slots = le-refl _; no-greater-load = λ i _. le-refl _; no-new-clash = λ a c _ _ e. e }) ch any ok lent long in
     let z : _≡_ {A = ℕ} 0 1 = cc in
     omega arith
+
+-- Why it is full: the cell that the load test names, with its lower clashing loaded cells, all clash with one another, and their loads come to more than the positions there are.
+pub chained-why : (s : Site) → chainAnswer s ≡ chain.Chained → (cell m : ℕ) → loadAnswer s ≡ load.Over cell m
+    → (i : ℕ) × (cell ≡ i + 1) × (Mutual (netOf s) (around (netOf s) i)) × (positions s < weight (netOf s) (around (netOf s) i))
+chained-why s ch cell m e =
+    let c = chain-is-chained s .0 ch in
+    let o = over-means s cell m e in
+    let f = o .1 .2 in
+    let w = over-full (netOf s) (o .1 .0) everyone (covers-everyone (netOf s)) (chained-class (netOf s) everyone (c .1)) (f .inside) (f .counts) (f .exceeds) in
+    (o .1 .0, o .1 .1, w .0, rw (← net-open s) (w .1))

@@ -2,7 +2,7 @@
 -- The trips are those of the file crates. Assumes nothing.
 use mathlib.Core.Path.{_≡_, refl, sym, ap, _∙_}
 use mathlib.Core.Bool.{Bool, true, false}
-use mathlib.Core.List.{List, _++_}
+use mathlib.Core.List.{List, _++_, map}
 use Prim.Native.Nat.{ℕ, _≤_}
 use native.Mathlib.Omega.{arith}
 use lib.Dec.{leb}
@@ -13,7 +13,7 @@ use Rattle.laws.specs.Choice.{pick}
 use Rattle.records.specs.Bytes.{Bytes}
 use Rattle.records.specs.Write.{over}
 use Rattle.records.specs.declared.ReadAnswer.the-variants as read
-use Rattle.site.specs.Record.{faultOf, isFine}
+use Rattle.site.specs.Record.{size, faultOf, isFine}
 use Rattle.site.specs.declared.Site.{Site}
 use Rattle.site.specs.declared.Fault.{Fault}
 use Rattle.site.proofs.Faults.{fine-is}
@@ -23,6 +23,11 @@ use Rattle.sitefile.specs.Write.{siteBytes, written, siteWritten, siteOut}
 use Rattle.sitefile.specs.declared.SiteWritten.{SiteWritten}
 use Rattle.sitefile.specs.declared.SiteWritten.the-variants as site
 use Rattle.sitefile.proofs.Trip.{written-then-read, written-again}
+use Rattle.planfile.specs.Bits.{one}
+use Rattle.planfile.specs.Read.{readPlan, planTableRead}
+use Rattle.planfile.specs.Write.{planWritten, planOut}
+use Rattle.planfile.specs.declared.PlanWritten.the-variants as plan
+use Rattle.planfile.proofs.Trip.{calls-written-read, calls-read-written}
 use Rattle.promises.specs.Demands.{Accepted}
 
 -- what a writer that is done wrote
@@ -55,3 +60,18 @@ site-read-written file bytes ok out fits =
     let w = written-again file bytes ok out in
     let room = le-leb (length file) (length out) fits in
     (w .0 ∙ rw room, w .1 ∙ rw room)
+
+-- ---- plan files
+
+-- what `write_plan` wrote, `read_plan` reads: I, T and F, and the table's reservations; "read back, 2 becomes 0"
+pub plan-written-read : (s : Site) (t out u : List ℕ) (n : ℕ) → planWritten s t out ≡ plan.Done n → size s ≤ length u
+    → (readPlan (take n (planOut s t out)) u ≡ record { cells = s .cells; slots = s .slots; channels = s .channels; answer = read.Done })
+    × (planTableRead (take n (planOut s t out)) u ≡ map one (take (size s) t) ++ drop (size s) u)
+plan-written-read = calls-written-read
+
+-- what `read_plan` accepted, `write_plan` writes as the same bytes, given an accepted site with the I, T and F that were read
+pub plan-read-written : (file t : List ℕ) → readPlan file t .answer ≡ read.Done → Bytes file
+    → (s : Site) → Accepted s → s .cells ≡ readPlan file t .cells → s .slots ≡ readPlan file t .slots → s .channels ≡ readPlan file t .channels
+    → (out : List ℕ) → length file ≤ length out
+    → (planWritten s (planTableRead file t) out ≡ plan.Done (length file)) × (planOut s (planTableRead file t) out ≡ file ++ drop (length file) out)
+plan-read-written = calls-read-written

@@ -3,6 +3,7 @@ pub mod Demand1
 pub mod Demand2
 pub mod Demand3
 pub mod Files
+pub mod InC
 pub mod SiteOne
 pub mod JudgesOne
 pub mod PlannerOne

@@ -1,4 +1,4 @@
--- The site record: what is wrong with one, and the planning problem that an accepted one states. Cells are indexed from 0 here, and numbered from 1 in answers.
+-- The site record: its sizes, and what is wrong with one. Cells are indexed from 0 here, and numbered from 1 in answers.
 use Prim.Native.Nat.{ℕ, _+_, _*_, _/_, _^_}
 use mathlib.Core.Bool.{Bool, true, false, _||_, _&&_}
 use lib.ListN.{getD, replicate}

@@ -1,4 +1,4 @@
--- The site file, read. "A site file is kinds 1, 2, 3; kind 3 is there even when empty."
+-- The site file, read, as the code goes. specs/Reasons.antt says the same as one list of reasons, and proofs/Reasons.antt proves it. "A site file is kinds 1, 2, 3; kind 3 is there even when empty."
 -- "In a file, record by record: 8 for the four bytes, 9, 10, 8 for the end, then contents: head 1; each pair 3 then 11 .. Then 12."
 use Prim.Native.Nat.{ℕ, _+_, _*_}
 use mathlib.Core.List.{List}

@@ -12,6 +12,7 @@ use Rattle.sitefile.specs.Pairs.{pairsFrom}
 use Rattle.sitefile.specs.declared.SiteWritten.{SiteWritten}
 use Rattle.sitefile.specs.declared.SiteWritten.the-variants.{Done, OutShort, Refused}
 
+-- the bytes of all the pairs, from row after row: 32 places in each of 32 rows
 unfoldable pub pairBytes : List ℕ → List ℕ
 pairBytes reach = pairsFrom reach 0 1024
 

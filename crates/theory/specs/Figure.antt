@@ -15,12 +15,12 @@ pub record Scan : Type 0 where
   pub table : List ℕ
   pub left : ℕ
 
--- lines 13 and 14: foreach (j in nbr(i) and j > i) s[j][t][f] := -1, for the cells below n
+-- lines 13 and 14: foreach (j in nbr(i) and j > i) s[j][t][f] := -1, for the first so many cells
 unfoldable pub markLater : Net → ℕ → ℕ → ℕ → List ℕ → List ℕ
 markLater s i k zero t = t
 markLater s i k (suc j) t = pick (ltb i j && s .clash i j) (set (markLater s i k j t) (j * s .width + k) 2) (markLater s i k j t)
 
--- lines 9 to 15, at position k: a fragment is left, and the position is idle
+-- lines 9 to 15, at position k: a fragment is left, and the position is idle (and usable, as every position of a site of document 01 is)
 abbrev pub look : Net → ℕ → ℕ → Scan → Scan
 look s i k x =
     pick (ltb 0 (x .left) && (s .usable k && eqb (getD (x .table) (i * s .width + k) 0) 0))
