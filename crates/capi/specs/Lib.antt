@@ -1,1 +1,2 @@
+-- The definitions of crate `capi`, module by module.
 pub mod Told

@@ -68,6 +68,7 @@ fn give(number: u64, a: u64, b: u64, c: u64) -> Answer
     }
 }
 
+// From here to `plan_read`: an answer of the product as its number and values.
 fn fault_answer(answer: Fault) -> Answer
     ensures { λ r. ⌜ r ≡ told (faultGiven answer) ⌝ }
 {
@@ -212,6 +213,7 @@ fn plan_read(e: PlanRead) -> PlanReadC
     }
 }
 
+// The exports. Each makes its call and converts the answer; a cell is named by a number of two bytes.
 #[no_mangle]
 pub extern "C" fn dugg_fault(site: Site) -> Answer
     ensures { λ r. ⌜ r ≡ told (faultGiven (faultOf site)) ⌝ }

@@ -1,3 +1,4 @@
+-- The laws of crate `checker`, module by module.
 pub mod Masks
 pub mod Rows
 pub mod Lowest

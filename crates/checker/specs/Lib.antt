@@ -1,3 +1,4 @@
+-- The definitions of crate `checker`, module by module.
 pub mod Masks
 pub mod Check
 pub mod Given

@@ -8,14 +8,22 @@ use site::Site;
 // A fault's number.
 fn refused(f: Fault) {
     match f {
-        Fault::Fine => io::write_all(STDOUT_FILENO, b"0"),
-        Fault::Size => io::write_all(STDOUT_FILENO, b"1"),
-        Fault::Load(_) => io::write_all(STDOUT_FILENO, b"2"),
-        Fault::Reach(_) => io::write_all(STDOUT_FILENO, b"3"),
+        Fault::Fine => {
+            io::write_all(STDOUT_FILENO, b"0");
+        }
+        Fault::Size => {
+            io::write_all(STDOUT_FILENO, b"1");
+        }
+        Fault::Load(_) => {
+            io::write_all(STDOUT_FILENO, b"2");
+        }
+        Fault::Reach(_) => {
+            io::write_all(STDOUT_FILENO, b"3");
+        }
     }
-    ;
 }
 
+// The cell that no room was found for, and how many fragments it is short.
 fn short(cell: usize, fragments: usize) {
     io::write_all(STDOUT_FILENO, b"5 ");
     io::print_decimal(STDOUT_FILENO, cell as u64);
@@ -73,6 +81,7 @@ fn sized(cells: u16, slots: u16, channels: u16) -> Site {
     s
 }
 
+// P1 and P2, one after the other on one table.
 fn desk_runs() {
     let mut table = [7u8; 24];
     say(planner::plan(desk(1), &mut table));
@@ -95,6 +104,7 @@ fn whole(table: &mut [u8], cells: u16, slots: u16, channels: u16) {
     say(planner::plan(sized(cells, slots, channels), table));
 }
 
+// Every run, one line for each answer.
 fn main() {
     desk_runs();
     let mut table = io::large_buffer();

@@ -22,6 +22,7 @@ use Rattle.site.specs.Record.{positions, faultOf}
 use Rattle.site.specs.Reach.{reaches, clashIn, netOf, netIn}
 use Rattle.site.specs.declared.Site.{Site}
 use Rattle.site.specs.declared.Fault.the-variants.{Fine}
+use Rattle.site.proofs.Accepted.{net-open}
 use Rattle.judges.specs.Judges.{counted, loadAnswer, chainAnswer}
 use Rattle.judges.specs.declared.LoadAnswer.the-variants as load
 use Rattle.judges.specs.declared.ChainAnswer.the-variants as chain
@@ -44,7 +45,7 @@ module _ (s : Site) (fine : faultOf s ≡ Fine) (i : ℕ) (e : i ≡ lowestOver 
   pub load-over : i < s .cells → (positions s ≤ demand (netOf s) i) × (loadAnswer s ≡ load.Over (i + 1) (demand (netOf s) i - positions s))
   unfolding loadAnswer loadVerdict
   load-over h =
-      let wide : room (netOf s) ≡ positions s = count-all (positions s) in
+      let wide : room (netOf s) ≡ positions s = net-open s in
       let above : positions s < demand (netOf s) i = rw wide at (over (netOf s) (counted s) i e h) in
       (omega arith, simp (fine, sym e, lt-ltb i (s .cells) h, wide))
 

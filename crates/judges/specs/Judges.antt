@@ -1,14 +1,12 @@
 -- The load test and the chain judge, as calls on a site record: the record's fault, or the theory's verdict on the problem that the record states.
 -- "Load test and chain judge are verdicts; they refuse only with 1 to 3." Cells are named by number, from 1.
 use Prim.Native.Nat.{ℕ, _+_}
-use mathlib.Core.Bool.{Bool, true}
-use mathlib.Core.List.{List}
-use lib.ListN.{getD}
+use mathlib.Core.Bool.{Bool}
 use Rattle.laws.specs.Choice.{pick}
-use Rattle.theory.specs.Net.{Net, everyone}
+use Rattle.theory.specs.Net.{everyone}
 use Rattle.theory.specs.Verdict.{LoadVerdict, holds, over, loadVerdict, ChainVerdict, chained, broken, chainVerdict}
 use Rattle.site.specs.Record.{isFine, faultOf}
-use Rattle.site.specs.Reach.{clashIn, netOf}
+use Rattle.site.specs.Reach.{netOf}
 use Rattle.site.specs.declared.Site.{Site}
 use Rattle.judges.specs.declared.LoadAnswer.{LoadAnswer}
 use Rattle.judges.specs.declared.LoadAnswer.the-variants as load

@@ -1,2 +1,3 @@
+-- The definitions of crate `judges`, module by module.
 pub mod Judges
 pub mod Given

@@ -28,6 +28,7 @@ pub enum ChainAnswer {
     Refused(Fault),
 }
 
+// A number of two bytes as a `usize`, with its bound.
 fn wide(x: u16) -> usize
     ensures { λ r. ⌜ (r ≡ x) × (r ≤ 65535) ⌝ }
 {
@@ -83,6 +84,7 @@ fn first_over(loads: &[u16; 32], reach: &[u32; 32], cells: usize, room: usize) -
     i
 }
 
+// The load test: the lowest cell that is over, and by how much.
 pub fn load_test(site: Site) -> LoadAnswer
     ensures { λ r. ⌜ r ≡ loadAnswer site ⌝ }
 {
@@ -165,6 +167,7 @@ fn first_break(reach: &[u32; 32], cells: usize) -> usize
     a
 }
 
+// The chain judge: the first triple that breaks the chain.
 pub fn chain(site: Site) -> ChainAnswer
     ensures { λ r. ⌜ r ≡ chainAnswer site ⌝ }
 {

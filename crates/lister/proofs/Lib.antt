@@ -1,3 +1,4 @@
+-- The laws of crate `lister`, module by module.
 pub mod Heading
 pub mod Printed
 pub mod Example

@@ -1,2 +1,3 @@
+-- The definitions of crate `lister`, module by module.
 pub mod Listing
 pub mod Parts

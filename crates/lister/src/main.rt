@@ -28,6 +28,7 @@ pub struct Rest {
     pub channels: usize,
 }
 
+// The line of the chain judge. A refusal has none: a site that was read is never refused.
 fn chain_line(out: &mut [u8], at: usize, answer: ChainAnswer) -> usize
     requires { ⌜ at + 80 ≤ length (now out) ⌝ }
     ensures stored { λ r. ⌜ now (out .exit) ≡ sets (now (out .entry)) at (chainLine answer) ⌝ }
@@ -41,6 +42,7 @@ fn chain_line(out: &mut [u8], at: usize, answer: ChainAnswer) -> usize
     }
 }
 
+// The line of the load test.
 fn load_line(out: &mut [u8], at: usize, answer: LoadAnswer) -> usize
     requires { ⌜ at + 80 ≤ length (now out) ⌝ }
     ensures stored { λ r. ⌜ now (out .exit) ≡ sets (now (out .entry)) at (loadLine answer) ⌝ }
@@ -54,6 +56,7 @@ fn load_line(out: &mut [u8], at: usize, answer: LoadAnswer) -> usize
     }
 }
 
+// The line of the planner. A table of 65,536 bytes is never short.
 fn plan_line(out: &mut [u8], at: usize, answer: PlanAnswer) -> usize
     requires { ⌜ at + 80 ≤ length (now out) ⌝ }
     ensures stored { λ r. ⌜ now (out .exit) ≡ sets (now (out .entry)) at (planLine answer) ⌝ }
@@ -68,6 +71,7 @@ fn plan_line(out: &mut [u8], at: usize, answer: PlanAnswer) -> usize
     }
 }
 
+// How many cell lines follow: one for each cell of a planned site.
 fn row_count(answer: PlanAnswer, cells: usize) -> usize
     ensures { λ r. ⌜ r ≡ rowCount answer cells ⌝ }
 {
@@ -144,6 +148,7 @@ fn row_line(out: &mut [u8], table: &[u8], width: usize, channels: usize, i: usiz
     listing::cell_line(out, i + 1, channels, &table[from..to])
 }
 
+// Prints the cell lines, one after the other.
 fn print_rows(out: &mut [u8], table: &[u8], rows: usize, width: usize, channels: usize)
     requires { ⌜ (rows ≤ 32) × (width ≤ 2048) × (rows * width ≤ length (now table)) × (0 < rows → 0 < channels) ⌝ }
     requires { ⌜ 24576 ≤ length (now out) ⌝ }
@@ -154,6 +159,7 @@ fn print_rows(out: &mut [u8], table: &[u8], rows: usize, width: usize, channels:
     }
 }
 
+// Reads at most 4,096 bytes from standard input, and prints their listing.
 fn main() {
     let mut input = io::buffer();
     let n = io::read_full(STDIN_FILENO, &mut input);

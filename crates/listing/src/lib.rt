@@ -7,6 +7,7 @@ ghost use lib.Seq.{sets};
 ghost use Rattle.listing.specs.Decimal.{decimal};
 ghost use Rattle.listing.specs.Lines.{field, fields, line, reservation, listed, reservations, siteLine, chainYes, chainNo, loadHolds, loadOver, planDone, planShort, refusedLine, cellLine};
 
+// A text as it is.
 fn put_text(out: &mut [u8], at: usize, text: &[u8]) -> usize
     requires { ⌜ at + length (now text) ≤ length (now out) ⌝ }
     ensures stored { λ r. ⌜ now (out .exit) ≡ sets (now (out .entry)) at (now (text .entry)) ⌝ }
@@ -35,6 +36,7 @@ pub fn put_number(out: &mut [u8], at: usize, x: usize) -> usize
     last + 1
 }
 
+// A space and a number.
 fn put_field(out: &mut [u8], at: usize, x: usize) -> usize
     requires { ⌜ at + length (field x) ≤ length (now out) ⌝ }
     ensures stored { λ r. ⌜ now (out .exit) ≡ sets (now (out .entry)) at (field x) ⌝ }
@@ -44,6 +46,7 @@ fn put_field(out: &mut [u8], at: usize, x: usize) -> usize
     put_number(out, at + 1, x)
 }
 
+// Numbers, with one space before each.
 fn put_fields(out: &mut [u8], at: usize, xs: &[usize]) -> usize
     requires { ⌜ at + length (fields (now xs)) ≤ length (now out) ⌝ }
     ensures stored { λ r. ⌜ now (out .exit) ≡ sets (now (out .entry)) at (fields (now (xs .entry))) ⌝ }
@@ -70,6 +73,7 @@ fn put_line(out: &mut [u8], at: usize, text: &[u8], xs: &[usize]) -> usize
     end + 1
 }
 
+// The lines of the head. Each takes at most 80 bytes.
 pub fn site_line(out: &mut [u8], at: usize, cells: usize, slots: usize, channels: usize) -> usize
     requires { ⌜ at + 80 ≤ length (now out) ⌝ }
     ensures stored { λ r. ⌜ now (out .exit) ≡ sets (now (out .entry)) at (siteLine cells slots channels) ⌝ }
@@ -172,6 +176,7 @@ fn put_listed(out: &mut [u8], at: usize, channels: usize, p: usize, byte: u8) ->
     put_reservation(out, at, channels, p)
 }
 
+// The reservations of a row, in rising position.
 fn put_reservations(out: &mut [u8], at: usize, channels: usize, row: &[u8]) -> usize
     requires { ⌜ (0 < channels) × (length (now row) ≤ 2048) ⌝ }
     requires { ⌜ at + length (reservations channels 0 (now row)) ≤ length (now out) ⌝ }

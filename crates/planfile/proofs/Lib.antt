@@ -1,3 +1,4 @@
+-- The laws of crate `planfile`, module by module.
 pub mod Bits
 pub mod ReadLaws
 pub mod WriteLaws

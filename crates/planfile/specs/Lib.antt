@@ -1,3 +1,4 @@
+-- The definitions of crate `planfile`, module by module.
 pub mod Bits
 pub mod Read
 pub mod Write

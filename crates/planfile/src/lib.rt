@@ -11,7 +11,7 @@ use site::size_ok;
 ghost use mathlib.Core.Path.{_≡_};
 ghost use mathlib.Core.List.{[], _∷_};
 ghost use Prim.Native.Nat.{_+_, _-_, _*_, _≤_, _<_};
-ghost use lib.ListN.{length, getD};
+ghost use lib.ListN.{length};
 ghost use lib.Seq.{sets};
 ghost use Rattle.planfile.specs.Bits.{entriesOf, bytesFor, one, bitsFrom, leftOver, ones, packedFrom};
 ghost use Rattle.planfile.specs.Read.{HeadRead, refusedPlan, refusedBy, readPlan, planTableRead};
@@ -176,6 +176,7 @@ fn put_bits(table: &[u8], out: &mut [u8])
     out[14 + m] = x;
 }
 
+// A refused read: its number and offset, and no site.
 fn refused(number: u8, at: usize) -> PlanRead
     ensures { λ r. ⌜ r ≡ refusedPlan number at ⌝ }
 {
@@ -187,6 +188,7 @@ fn refused(number: u8, at: usize) -> PlanRead
     }
 }
 
+// The opener's refusal, handed on. It is asked of no body.
 fn refused_by(o: Opened) -> PlanRead
     ensures { λ r. ⌜ r ≡ refusedBy o ⌝ }
 {

@@ -1,3 +1,4 @@
+-- The laws of crate `planner`, module by module.
 pub mod Marked
 pub mod Cells
 pub mod Answer

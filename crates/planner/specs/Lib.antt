@@ -1,2 +1,3 @@
+-- The definitions of crate `planner`, module by module.
 pub mod Plan
 pub mod Given

@@ -5,7 +5,7 @@ use mathlib.Core.List.{List, _++_}
 use mathlib.Core.Logic.{_↔_}
 use Prim.Native.Nat.{ℕ, _<_}
 use native.Mathlib.Omega.{arith}
-use lib.ListN.{length, drop, length-append}
+use lib.ListN.{drop, length-append}
 use Rattle.laws.proofs.Sums.{count-most}
 use Rattle.theory.specs.Net.{Valid, LoadTest, Chained, everyone}
 use Rattle.theory.specs.Greedy.{reserved}

@@ -1,13 +1,12 @@
 -- Demand 3, over two accepted site records and over tables as the checker reads them. The theory's demand 3 is about problems; here the premises and the answer are what
 -- the public calls say. Assumes nothing.
-use mathlib.Core.Path.{_≡_, refl, sym, ap, _∙_}
+use mathlib.Core.Path.{_≡_, refl}
 use mathlib.Core.List.{List}
 use mathlib.Core.Logic.{_↔_}
-use Prim.Native.Nat.{ℕ, _+_, _≤_, _<_}
+use Prim.Native.Nat.{ℕ, _+_, _<_}
 use native.Mathlib.Omega.{arith}
 use native.Mathlib.Nat.{le-refl}
-use Rattle.laws.proofs.Sums.{count-all}
-use Rattle.theory.specs.Net.{Net, Valid, Chained, Eases, everyone}
+use Rattle.theory.specs.Net.{Valid, Chained, Eases, everyone}
 use Rattle.theory.specs.Full.{Mutual, weight, around}
 use Rattle.theory.proofs.Full.{over-full}
 use Rattle.theory.specs.Greedy.{reserved}
@@ -15,13 +14,13 @@ use Rattle.theory.proofs.Exact.{covers-everyone, chained-class, demand-three, c
 use Rattle.site.specs.Record.{positions}
 use Rattle.site.specs.Reach.{netOf}
 use Rattle.site.specs.declared.Site.{Site}
+use Rattle.site.proofs.Accepted.{net-open}
 use Rattle.planner.specs.Plan.{planAnswer}
 use Rattle.planner.proofs.Meaning.{done-means, test-done}
 use Rattle.planner.specs.declared.PlanAnswer.the-variants as planner
 use Rattle.judges.specs.Judges.{loadAnswer, chainAnswer}
 use Rattle.judges.specs.declared.LoadAnswer.the-variants as load
 use Rattle.judges.proofs.Meaning.{over-means}
-use Rattle.site.proofs.Accepted.{net-open}
 use Rattle.judges.specs.declared.ChainAnswer.the-variants as chain
 use Rattle.checker.specs.Check.{checkAnswer}
 use Rattle.checker.specs.declared.CheckAnswer.the-variants as checker
@@ -31,7 +30,7 @@ use Rattle.promises.proofs.Demand2.{check-is-valid, load-is-C1, chain-i
 eases : (second first : Site) → Easier second first → Eases (netOf second) (netOf first)
 eases second first h = record {
   same = h .same-cells;
-  roomier = omega (arith, count-all (positions second), count-all (positions first), h .as-many-channel-slots);
+  roomier = omega (arith, net-open second, net-open first, h .as-many-channel-slots);
   lighter = h .no-greater-load;
   sparser = λ a c l m. h .no-new-clash a c (omega arith) m;
 }

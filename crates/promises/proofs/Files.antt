@@ -20,7 +20,6 @@ use Rattle.site.proofs.Faults.{fine-is}
 use Rattle.sitefile.specs.Held.{Held}
 use Rattle.sitefile.specs.Read.{siteDone, readSite}
 use Rattle.sitefile.specs.Write.{siteBytes, written, siteWritten, siteOut}
-use Rattle.sitefile.specs.declared.SiteWritten.{SiteWritten}
 use Rattle.sitefile.specs.declared.SiteWritten.the-variants as site
 use Rattle.sitefile.proofs.Trip.{written-then-read, written-again}
 use Rattle.planfile.specs.Bits.{one}

@@ -1,3 +1,4 @@
+-- The laws of crate `promises`, module by module.
 pub mod Desk
 pub mod Demand1
 pub mod Demand2

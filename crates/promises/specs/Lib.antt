@@ -1,3 +1,4 @@
+-- The definitions of crate `promises`, module by module.
 pub mod Demands
 pub mod Desk
 pub mod SiteSays

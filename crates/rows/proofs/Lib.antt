@@ -1,2 +1,3 @@
+-- The laws of crate `rows`, module by module.
 pub mod Fill
 pub mod Forbid

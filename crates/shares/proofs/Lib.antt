@@ -1,2 +1,3 @@
+-- The laws of crate `shares`, module by module.
 pub mod Laws
 pub mod Given

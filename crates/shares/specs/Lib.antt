@@ -1,2 +1,3 @@
+-- The definitions of crate `shares`, module by module.
 pub mod Share
 pub mod Given

@@ -41,6 +41,7 @@ fn time_for(burst: Fragments, share: Fragments, slots: Slots) -> Slots
     Slots(rounded_up(burst.0 * slots.0, share.0))
 }
 
+// Fragments and fragments.
 fn add_fragments(a: Fragments, b: Fragments) -> Fragments
     requires { ⌜ (a .0 ≤ 65535) × (b .0 ≤ 65535) ⌝ }
     ensures { λ r. ⌜ r .0 ≡ a .0 + b .0 ⌝ }
@@ -48,6 +49,7 @@ fn add_fragments(a: Fragments, b: Fragments) -> Fragments
     Fragments(a.0 + b.0)
 }
 
+// Slots and slots.
 fn add_slots(a: Slots, b: Slots) -> Slots
     requires { ⌜ (a .0 ≤ 128) × (b .0 ≤ 65535) ⌝ }
     ensures { λ r. ⌜ r .0 ≡ a .0 + b .0 ⌝ }

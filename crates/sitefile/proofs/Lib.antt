@@ -1,3 +1,4 @@
+-- The laws of crate `sitefile`, module by module.
 pub mod PairLaws
 pub mod ReadLaws
 pub mod RowLaws

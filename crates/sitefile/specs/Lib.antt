@@ -1,3 +1,4 @@
+-- The definitions of crate `sitefile`, module by module.
 pub mod Held
 pub mod Pairs
 pub mod Read

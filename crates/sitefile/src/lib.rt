@@ -70,6 +70,7 @@ fn pair_ok(cells: u16, f: u8, t: u8) -> bool
     f != t
 }
 
+// The place of a pair; places rise by from, then to.
 fn place_of(f: u8, t: u8) -> usize
     requires { ⌜ (1 ≤ f) × (1 ≤ t) ⌝ }
     ensures { λ r. ⌜ r ≡ place f t ⌝ }
@@ -120,6 +121,7 @@ fn pairs_of(body: &[u8], cells: u16) -> PairsRead
     PairsRead { reach, number: 0 }
 }
 
+// A refused read: its number and offset, and a site of zeros.
 fn refused(number: u8, at: usize) -> SiteRead
     ensures { λ r. ⌜ r ≡ refusedSite number at ⌝ }
 {
@@ -209,6 +211,7 @@ pub fn read_site(bytes: &[u8]) -> SiteRead
     }
 }
 
+// Stores the first n loads, two bytes each.
 fn put_loads(out: &mut [u8], at: usize, loads: [u16; 32], n: usize)
     requires { ⌜ (n ≤ 32) × (at + 2 * n ≤ length (now out)) ⌝ }
     ensures { λ _. ⌜ now (out .exit) ≡ sets (now (out .entry)) at (words (take n loads)) ⌝ }
@@ -270,6 +273,7 @@ fn put_row(out: &mut [u8], at: usize, row: u32, a: usize) -> usize
     k
 }
 
+// Stores the pairs of all rows, in rising order.
 fn put_pairs(out: &mut [u8], at: usize, reach: [u32; 32])
     requires { ⌜ at + length (pairBytes reach) ≤ length (now out) ⌝ }
     ensures { λ _. ⌜ now (out .exit) ≡ sets (now (out .entry)) at (pairBytes reach) ⌝ }

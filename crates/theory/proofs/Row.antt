@@ -7,18 +7,15 @@
 use mathlib.Core.Path.{_≡_, refl, sym, ap, _∙_}
 use mathlib.Core.Bool.{Bool, true, false, _&&_, _||_, not, and-false}
 use mathlib.Core.List.{List, [], _∷_, _++_}
-use Prim.Native.Nat.{ℕ, zero, suc, _+_, _-_, _*_, _≤_, _<_, min, zero-le}
+use Prim.Native.Nat.{ℕ, zero, suc, _+_, _-_, _*_, _<_, min}
 use native.Mathlib.Omega.{arith}
 use native.Mathlib.Nat.{not-suc-le-zero, le-of-suc-le-suc, zero-add, add-zero}
-use lib.Dec.{ltb, eqb, leb, leb·zero, leb·suc-zero, leb·suc-suc}
-use lib.ListN.{length, getD, take, drop, replicate, length-replicate, getD-replicate}
-use lib.Seq.{getD-take, getD-drop}
-use borrow.Author.Tests.{ltb-true, ltb-false}
+use lib.Dec.{ltb, eqb, leb·zero, leb·suc-zero, leb·suc-suc}
+use lib.ListN.{length, getD, length-replicate, getD-replicate}
 use Rattle.laws.specs.Choice.{pick}
 use Rattle.laws.specs.Sum.{bit, sum, count, any}
-use Rattle.theory.specs.Net.{Net, Reserved, taken, free}
+use Rattle.theory.specs.Net.{Net, taken, free}
 use Rattle.theory.specs.Greedy.{rowAt, reserved, forbid, marked, fill, unmet, row, held}
-use Rattle.laws.proofs.Choice.{cases}
 use Rattle.laws.proofs.Sums.{sum-eq, sum-front, count-first}
 use Rattle.laws.proofs.Part.{getD-part}
 use Rattle.laws.proofs.Grid.{kept-byte, added-byte}
@@ -31,7 +28,7 @@ forbid-length [] b = refl
 forbid-length (x ∷ e) [] = refl
 forbid-length (x ∷ e) (y ∷ b) = ap suc (forbid-length e b)
 
-either-length : (c : Bool) (x y : List ℕ) (n : ℕ) → length x ≡ n → length y ≡ n → length (pick c x y) ≡ n
+pub either-length : (c : Bool) (x y : List ℕ) (n : ℕ) → length x ≡ n → length y ≡ n → length (pick c x y) ≡ n
 either-length true x y n p q = p
 either-length false x y n p q = q
 
