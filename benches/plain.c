@@ -1,6 +1,6 @@
-/* Document 01 in plain C, as a yardstick for the speed of the proved library: fast, but nothing out of the ordinary.
- * Compile with -DPREFIX=name_ ; every call of include/duggfrask.h is then there under that prefix. Inside, cells are
- * counted from 0; in answers they are numbered from 1. */
+/* The rules of docs/RULES.md in plain C, as a yardstick for the speed of the proved library: fast, but nothing out of
+ * the ordinary. Compile with -DPREFIX=name_ ; every call of include/duggfrask.h is then there under that prefix.
+ * Inside, cells are counted from 0; in answers they are numbered from 1. */
 #include <stdbool.h>
 #include <string.h>
 #include "plain.h"

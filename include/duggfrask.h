@@ -1,7 +1,7 @@
 /* Duggfrask, the C interface: plans channel time-slots for the cells of a wireless fieldbus, and checks finished plans.
  *
  * Every call answers a number and up to three values. Number 0 is "done"; 1 to 16 are the refusals of
- * docs/01-scope.md. Values that are not named below are 0. No call keeps anything between calls.
+ * docs/RULES.md. Values that are not named below are 0. No call keeps anything between calls.
  *
  *    1  cells, slots or channels out of range
  *    2  a load beyond the last cell (value: lowest such cell), or a load edit of a cell that is not there (the cell)

@@ -1,6 +1,6 @@
 //! "Numbers given back": the number of an answer and the values that come with it.
 
-/// A number from document 01's table, with at most three values; those not named are 0.
+/// A number of the table in docs/RULES.md, with at most three values; those not named are 0.
 #[repr(C)]
 #[derive(Clone, Copy, Debug, Default, PartialEq, Eq)]
 pub struct Answer {

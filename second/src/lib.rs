@@ -1,5 +1,5 @@
-//! The second program: document 01 once more, in plain Rust and written from the document alone, so that the proved
-//! library can be compared with it. Each module holds one section of the document.
+//! The second program: the rules of docs/RULES.md once more, in plain Rust and written from the rules alone, so that
+//! the proved library can be compared with it. Each module holds one section of the rules.
 
 pub mod answer;
 pub mod capi;

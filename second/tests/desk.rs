@@ -1,4 +1,4 @@
-//! Document 01's desk examples P1 to P12, each with the verdicts and the plan or check that the document gives.
+//! The desk examples P1 to P12 of docs/RULES.md, each with the verdicts and the plan or check given there.
 
 use second::answer::{refuse, Outcome};
 use second::checker::check;

@@ -1,4 +1,5 @@
-//! Document 01's two files and its listing, byte for byte, the sample files, and each refusal of the readers and writers.
+//! The two files and the listing of docs/RULES.md, byte for byte, the sample files, and each refusal of the readers and
+//! writers.
 
 use second::answer::{refuse, Outcome};
 use second::files::{read_plan, read_site, write_plan, write_site};
@@ -29,7 +30,7 @@ fn sample(name: &str) -> Vec<u8> {
     std::fs::read(samples.join(name)).unwrap()
 }
 
-/// The document's site file with some bytes changed.
+/// The site file of docs/RULES.md with some bytes changed.
 fn changed(changes: &[(usize, u8)]) -> Vec<u8> {
     let mut file = SITE.to_vec();
     for &(at, byte) in changes {
@@ -44,7 +45,7 @@ fn plan_read(file: &[u8], len: usize) -> (Outcome<Site>, Vec<u8>) {
 }
 
 #[test]
-fn the_documents_files_are_the_samples() {
+fn the_files_of_the_rules_are_the_samples() {
     assert_eq!(sample("p1.site"), SITE);
     assert_eq!(sample("p1.plan"), PLAN);
 }

@@ -1,5 +1,5 @@
-//! Document 01's list "run by a program": 32 and 33 cells, 128 and 129 slots, 16 and 17 channels, a table of 65,536
-//! bytes and of one byte less, each with its neighbours and through every call; and flows at their limits.
+//! The limits of a site: 32 and 33 cells, 128 and 129 slots, 16 and 17 channels, a table of 65,536 bytes and of one
+//! byte less, each with its neighbours and through every call; and flows at their limits.
 
 use crate::case::{Call, Case};
 use crate::run::Run;

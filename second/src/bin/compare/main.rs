@@ -1,7 +1,7 @@
 //! Compares the proved library with the second program, call by call: answer, values, records given back and every byte
 //! of lent memory, guards included.
 //!
-//!     compare SAMPLES                   document 01's boundaries, the sample files, and random cases from a fixed seed
+//!     compare SAMPLES                   the limits of a site, the sample files, and random cases from a fixed seed
 //!     compare --seconds N --seed S      random cases only, from fresh seeds, for N seconds
 
 mod boundary;

@@ -39,7 +39,7 @@ fn one_file(run: &mut Run, file: &[u8]) {
 
 fn both_ways(run: &mut Run, bytes: &[u8], mark: u64) {
     run.read_site(bytes, mark);
-    // 18 bytes are just enough for the document's own plan.
+    // 18 bytes are just enough for the plan of p1.site.
     for table_len in [18, 17, 40] {
         run.read_plan(bytes, table_len, mark);
     }
