@@ -6,8 +6,8 @@ use Prim.Native.Nat.{ℕ}
 use Rattle.capi.specs.declared.Answer.{Answer}
 use Rattle.capi.specs.declared.EditedSite.{EditedSite}
 use Rattle.capi.specs.declared.PlanReadC.{PlanReadC}
+use Rattle.promises.specs.CapiSays.{DuggChain, DuggCheck, DuggClash, DuggClearReach, DuggFault, DuggLoadTest, DuggPlan, DuggReadPlan, DuggReadSite, DuggSetLoad, DuggSetReach, DuggShare, DuggWritePlan, DuggWriteSite}
 use Rattle.site.specs.declared.Site.{Site}
-use Rattle.promises.specs.CapiSays.{DuggFault, DuggClash, DuggSetLoad, DuggSetReach, DuggClearReach, DuggLoadTest, DuggChain, DuggPlan, DuggCheck, DuggShare, DuggReadSite, DuggWriteSite, DuggReadPlan, DuggWritePlan}
 
 -- capi::dugg_fault
 pub duggFault-one : (site : Site) (r q : Answer) → DuggFault site r → DuggFault site q → (r ≡ q)

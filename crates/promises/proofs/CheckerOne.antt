@@ -4,8 +4,8 @@ use mathlib.Core.Path.{_≡_, sym, _∙_}
 use mathlib.Core.List.{List}
 use Prim.Native.Nat.{ℕ}
 use Rattle.checker.specs.declared.CheckAnswer.{CheckAnswer}
-use Rattle.site.specs.declared.Site.{Site}
 use Rattle.promises.specs.CheckerSays.{Check}
+use Rattle.site.specs.declared.Site.{Site}
 
 -- checker::check
 pub check-one : (site : Site) (table : List ℕ) (r q : CheckAnswer) → Check site table r → Check site table q → (r ≡ q)

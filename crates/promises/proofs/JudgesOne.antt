@@ -3,8 +3,8 @@
 use mathlib.Core.Path.{_≡_, sym, _∙_}
 use Rattle.judges.specs.declared.ChainAnswer.{ChainAnswer}
 use Rattle.judges.specs.declared.LoadAnswer.{LoadAnswer}
+use Rattle.promises.specs.JudgesSays.{Chain, LoadTest}
 use Rattle.site.specs.declared.Site.{Site}
-use Rattle.promises.specs.JudgesSays.{LoadTest, Chain}
 
 -- judges::load_test
 pub loadTest-one : (site : Site) (r q : LoadAnswer) → LoadTest site r → LoadTest site q → (r ≡ q)

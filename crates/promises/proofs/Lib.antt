@@ -7,9 +7,13 @@ pub mod Files
 pub mod InC
 pub mod SiteOne
 pub mod JudgesOne
+pub mod RowsOne
 pub mod PlannerOne
+pub mod WordsOne
 pub mod CheckerOne
 pub mod SharesOne
+pub mod RecordsOne
 pub mod SitefileOne
 pub mod PlanfileOne
+pub mod ListingOne
 pub mod CapiOne

@@ -5,8 +5,8 @@ use mathlib.Core.List.{List}
 use Prim.Native.Nat.{ℕ}
 use Rattle.planfile.specs.declared.PlanRead.{PlanRead}
 use Rattle.planfile.specs.declared.PlanWritten.{PlanWritten}
-use Rattle.site.specs.declared.Site.{Site}
 use Rattle.promises.specs.PlanfileSays.{ReadPlan, WritePlan}
+use Rattle.site.specs.declared.Site.{Site}
 
 -- planfile::read_plan
 pub readPlan-one : (bytes : List ℕ) (table : List ℕ) (r q : PlanRead) (table′ table″ : List ℕ) → ReadPlan bytes table r table′ → ReadPlan bytes table q table″ → (r ≡ q) × (table′ ≡ table″)

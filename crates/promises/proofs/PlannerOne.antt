@@ -4,8 +4,8 @@ use mathlib.Core.Path.{_≡_, sym, _∙_}
 use mathlib.Core.List.{List}
 use Prim.Native.Nat.{ℕ}
 use Rattle.planner.specs.declared.PlanAnswer.{PlanAnswer}
-use Rattle.site.specs.declared.Site.{Site}
 use Rattle.promises.specs.PlannerSays.{Plan}
+use Rattle.site.specs.declared.Site.{Site}
 
 -- planner::plan
 pub plan-one : (site : Site) (table : List ℕ) (r q : PlanAnswer) (table′ table″ : List ℕ) → Plan site table r table′ → Plan site table q table″ → (r ≡ q) × (table′ ≡ table″)

@@ -2,8 +2,8 @@
 -- Assumes nothing.
 use mathlib.Core.Path.{_≡_, sym, _∙_}
 use Prim.Native.Nat.{ℕ}
-use Rattle.shares.specs.declared.ShareAnswer.{ShareAnswer}
 use Rattle.promises.specs.SharesSays.{Share}
+use Rattle.shares.specs.declared.ShareAnswer.{ShareAnswer}
 
 -- shares::share
 pub share-one : (slots : ℕ) (burst : ℕ) (period : ℕ) (r q : ShareAnswer) → Share slots burst period r → Share slots burst period q → (r ≡ q)

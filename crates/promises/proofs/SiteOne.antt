@@ -4,11 +4,11 @@ use mathlib.Core.Path.{_≡_, sym, _∙_}
 use mathlib.Core.Bool.{Bool}
 use mathlib.Core.List.{List}
 use Prim.Native.Nat.{ℕ}
+use Rattle.promises.specs.SiteSays.{Clashes, SiteClash, SiteClearReach, SiteFaultIn, SiteSetLoad, SiteSetReach, SiteZeros, SizeOk, Within}
 use Rattle.site.specs.declared.ClashAnswer.{ClashAnswer}
 use Rattle.site.specs.declared.Edited.{Edited}
 use Rattle.site.specs.declared.Fault.{Fault}
 use Rattle.site.specs.declared.Site.{Site}
-use Rattle.promises.specs.SiteSays.{Within, SizeOk, Clashes, SiteZeros, SiteFaultIn, SiteClash, SiteSetLoad, SiteSetReach, SiteClearReach}
 
 -- site::within
 pub within-one : (x : ℕ) (most : ℕ) (r q : Bool) → Within x most r → Within x most q → (r ≡ q)

@@ -3,10 +3,10 @@
 use mathlib.Core.Path.{_≡_, sym, _∙_}
 use mathlib.Core.List.{List}
 use Prim.Native.Nat.{ℕ}
+use Rattle.promises.specs.SitefileSays.{ReadSite, WriteSite}
 use Rattle.site.specs.declared.Site.{Site}
 use Rattle.sitefile.specs.declared.SiteRead.{SiteRead}
 use Rattle.sitefile.specs.declared.SiteWritten.{SiteWritten}
-use Rattle.promises.specs.SitefileSays.{ReadSite, WriteSite}
 
 -- sitefile::read_site
 pub readSite-one : (bytes : List ℕ) (r q : SiteRead) → ReadSite bytes r → ReadSite bytes q → (r ≡ q)

@@ -3,6 +3,9 @@ use mathlib.Core.Path.{_≡_}
 use mathlib.Core.List.{List}
 use Prim.Native.Nat.{ℕ}
 use Rattle.capi.specs.Told.{told, toldEdited, toldPlanRead, toldSiteRead}
+use Rattle.capi.specs.declared.Answer.{Answer}
+use Rattle.capi.specs.declared.EditedSite.{EditedSite}
+use Rattle.capi.specs.declared.PlanReadC.{PlanReadC}
 use Rattle.checker.specs.Check.{checkAnswer}
 use Rattle.checker.specs.Given.{checkGiven}
 use Rattle.judges.specs.Given.{chainGiven, loadGiven}
@@ -18,13 +21,10 @@ use Rattle.site.specs.Edit.{clearReachOf, setLoadOf, setReachOf}
 use Rattle.site.specs.Given.{clashGiven, faultGiven}
 use Rattle.site.specs.Reach.{clashAnswer}
 use Rattle.site.specs.Record.{faultOf}
+use Rattle.site.specs.declared.Site.{Site}
 use Rattle.sitefile.specs.Given.{siteWrittenGiven}
 use Rattle.sitefile.specs.Read.{readSite}
 use Rattle.sitefile.specs.Write.{siteOut, siteWritten}
-use Rattle.capi.specs.declared.Answer.{Answer}
-use Rattle.capi.specs.declared.EditedSite.{EditedSite}
-use Rattle.capi.specs.declared.PlanReadC.{PlanReadC}
-use Rattle.site.specs.declared.Site.{Site}
 
 -- capi::dugg_fault
 pub record DuggFault (site : Site) (r : Answer) : Type 0 where

@@ -2,9 +2,9 @@
 use mathlib.Core.Path.{_≡_}
 use mathlib.Core.List.{List}
 use Prim.Native.Nat.{ℕ}
+use Rattle.site.specs.declared.Site.{Site}
 use Rattle.sitefile.specs.Read.{readSite}
 use Rattle.sitefile.specs.Write.{siteOut, siteWritten}
-use Rattle.site.specs.declared.Site.{Site}
 use Rattle.sitefile.specs.declared.SiteRead.{SiteRead}
 use Rattle.sitefile.specs.declared.SiteWritten.{SiteWritten}
 

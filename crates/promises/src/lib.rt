@@ -1,4 +1,4 @@
 // What the owner of the product may rely on stands in specs/ and proofs/. This function only makes the folder a library.
-pub fn version() -> u32 {
+fn version() -> u32 {
     1
 }

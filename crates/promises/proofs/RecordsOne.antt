@@ -1,0 +1,28 @@
+-- Each contract of crate `records` leaves one possible answer and one possible content of what is lent. Made by tools/surface from the source.
+-- Assumes nothing.
+use mathlib.Core.Path.{_≡_, sym, _∙_}
+use mathlib.Core.List.{List}
+use Prim.Native.Nat.{ℕ}
+use Rattle.promises.specs.RecordsSays.{RecordsOpen, RecordsPutHead, RecordsPutTwo, RecordsPutWord, RecordsWord}
+use Rattle.records.specs.declared.Length.{Length}
+use Rattle.records.specs.declared.Opened.{Opened}
+
+-- records::word
+pub recordsWord-one : (s : List ℕ) (k : ℕ) (r q : ℕ) → RecordsWord s k r → RecordsWord s k q → (r ≡ q)
+recordsWord-one s k r q says also = says .answer ∙ sym (also .answer)
+
+-- records::open
+pub recordsOpen-one : (s : List ℕ) (at : ℕ) (kind : ℕ) (rule : Length) (r q : Opened) → RecordsOpen s at kind rule r → RecordsOpen s at kind rule q → (r ≡ q)
+recordsOpen-one s at kind rule r q says also = says .answer ∙ sym (also .answer)
+
+-- records::put_two
+pub recordsPutTwo-one : (out : List ℕ) (at : ℕ) (a : ℕ) (b : ℕ) (out′ out″ : List ℕ) → RecordsPutTwo out at a b out′ → RecordsPutTwo out at a b out″ → (out′ ≡ out″)
+recordsPutTwo-one out at a b out′ out″ says also = says .out-after ∙ sym (also .out-after)
+
+-- records::put_word
+pub recordsPutWord-one : (out : List ℕ) (at : ℕ) (x : ℕ) (out′ out″ : List ℕ) → RecordsPutWord out at x out′ → RecordsPutWord out at x out″ → (out′ ≡ out″)
+recordsPutWord-one out at x out′ out″ says also = says .out-after ∙ sym (also .out-after)
+
+-- records::put_head
+pub recordsPutHead-one : (out : List ℕ) (cells : ℕ) (slots : ℕ) (channels : ℕ) (len : ℕ) (kind : ℕ) (out′ out″ : List ℕ) → RecordsPutHead out cells slots channels len kind out′ → RecordsPutHead out cells slots channels len kind out″ → (out′ ≡ out″)
+recordsPutHead-one out cells slots channels len kind out′ out″ says also = says .out-after ∙ sym (also .out-after)

@@ -1,0 +1,30 @@
+-- What the contracts of crate `records` say: r is the answer, and x′ what a lent x holds afterwards. Made by tools/surface from the source.
+use mathlib.Core.Path.{_≡_}
+use mathlib.Core.List.{List, [], _∷_}
+use Prim.Native.Nat.{ℕ}
+use Rattle.records.specs.Bytes.{le16, words}
+use Rattle.records.specs.Opener.{openAt}
+use Rattle.records.specs.Write.{headWords}
+use Rattle.records.specs.declared.Length.{Length}
+use Rattle.records.specs.declared.Opened.{Opened}
+use lib.Seq.{sets}
+
+-- records::word
+pub record RecordsWord (s : List ℕ) (k : ℕ) (r : ℕ) : Type 0 where
+  pub answer : r ≡ le16 s k
+
+-- records::open
+pub record RecordsOpen (s : List ℕ) (at : ℕ) (kind : ℕ) (rule : Length) (r : Opened) : Type 0 where
+  pub answer : r ≡ openAt s at kind rule
+
+-- records::put_two
+pub record RecordsPutTwo (out : List ℕ) (at : ℕ) (a : ℕ) (b : ℕ) (out′ : List ℕ) : Type 0 where
+  pub out-after : out′ ≡ sets out at (a ∷ b ∷ [])
+
+-- records::put_word
+pub record RecordsPutWord (out : List ℕ) (at : ℕ) (x : ℕ) (out′ : List ℕ) : Type 0 where
+  pub out-after : out′ ≡ sets out at (words (x ∷ []))
+
+-- records::put_head
+pub record RecordsPutHead (out : List ℕ) (cells : ℕ) (slots : ℕ) (channels : ℕ) (len : ℕ) (kind : ℕ) (out′ : List ℕ) : Type 0 where
+  pub out-after : out′ ≡ sets out 0 (words (headWords cells slots channels len kind))

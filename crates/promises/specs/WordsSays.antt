@@ -1,0 +1,15 @@
+-- What the contracts of crate `words` say: r is the answer, and x′ what a lent x holds afterwards. Made by tools/surface from the source.
+use mathlib.Core.Path.{_≡_}
+use mathlib.Core.List.{List}
+use Prim.Native.Nat.{ℕ}
+use Rattle.theory.specs.Greedy.{reserved}
+use Rattle.words.specs.Stored.{stored}
+use Rattle.words.specs.Words.{wordAt}
+
+-- words::clear
+pub record WordsClear (words : List ℕ) (n : ℕ) (words′ : List ℕ) : Type 0 where
+  pub words-after : words′ ≡ stored (λ k. 0) n words
+
+-- words::gather
+pub record WordsGather (words : List ℕ) (table : List ℕ) (n : ℕ) (cells : ℕ) (words′ : List ℕ) : Type 0 where
+  pub words-after : words′ ≡ stored (wordAt cells (reserved n table)) n words
