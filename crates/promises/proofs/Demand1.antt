@@ -1,114 +1,159 @@
--- Demand 1, what a refusal leaves: "The planner's no-room refusal leaves the site's part of the lent table idle; every other refusal leaves lent memory untouched."
--- Answer and table go the same way through the same tests, so each is read off at the values of the tests. Assumes nothing.
+-- Demand 1, what a call leaves in lent memory, by the number it gives back. Answer and memory go the same way through the same tests, so each is read off at the values of
+-- the tests. And the verdicts refuse only as the record's fault says. Assumes nothing.
 use mathlib.Core.Path.{_≡_, refl}
 use mathlib.Core.Bool.{Bool, true, false, not}
-use mathlib.Core.List.{List, _++_}
-use Prim.Native.Nat.{ℕ}
+use mathlib.Core.List.{List, [], _∷_, _++_}
+use Prim.Native.Nat.{ℕ, _≤_}
+use native.Mathlib.Omega.{arith}
 use lib.Dec.{ltb, leb}
 use borrow.Author.Tests.{ltb-true, ltb-false, le-leb, lt-leb}
-use lib.ListN.{length, drop, replicate}
+use lib.ListN.{length, drop}
 use lib.Seq.{drop-at}
 use Rattle.laws.specs.Choice.{pick}
 use Rattle.theory.specs.Greedy.{Outcome, planned, noRoom, greedy}
+use Rattle.theory.specs.Verdict.{LoadVerdict, holds, over, loadVerdict, ChainVerdict, chained, broken, chainVerdict}
 use Rattle.theory.proofs.Exact.{planned-size}
 use Rattle.site.specs.Record.{faultOf, isFine, size}
 use Rattle.site.specs.Reach.{netOf}
+use Rattle.site.specs.Given.{Given, faultGiven}
 use Rattle.site.specs.declared.Site.{Site}
 use Rattle.site.specs.declared.Fault.{Fault}
+use Rattle.site.specs.declared.Fault.the-variants.{Fine, Size, Load, Reach}
 use Rattle.planner.specs.Plan.{answerOf, tableOf, planAnswer, planTable}
-use Rattle.planner.specs.declared.PlanAnswer.{PlanAnswer}
+use Rattle.planner.specs.Given.{planGiven}
 use Rattle.planner.specs.declared.PlanAnswer.the-variants as planner
-use Rattle.records.specs.Write.{over}
+use Rattle.judges.specs.Judges.{counted, loadOf, loadAnswer, chainOf, chainAnswer}
+use Rattle.judges.specs.Given.{loadGiven, chainGiven}
+use Rattle.judges.specs.declared.LoadAnswer.the-variants as load
+use Rattle.judges.specs.declared.ChainAnswer.the-variants as chain
+use Rattle.records.specs.Given.{readGiven}
+use Rattle.records.specs.Write.{over as writtenOver}
 use Rattle.records.specs.declared.ReadAnswer.{ReadAnswer}
 use Rattle.records.specs.declared.ReadAnswer.the-variants as read
+use Rattle.sitefile.specs.Given.{siteWrittenGiven}
 use Rattle.sitefile.specs.Write.{siteBytes, written, siteWritten, siteOut}
-use Rattle.sitefile.specs.declared.SiteWritten.{SiteWritten}
 use Rattle.sitefile.specs.declared.SiteWritten.the-variants as site
 use Rattle.planfile.specs.Bits.{entriesOf, bitsFrom}
+use Rattle.planfile.specs.Given.{planWrittenGiven}
 use Rattle.planfile.specs.Read.{cellsIn, slotsIn, channelsIn, entriesIn, bodyIn, planAnswer as readAnswer, isDone, answered, readPlan, planTableRead}
 use Rattle.planfile.specs.Write.{planFile, planWritten, planOut}
-use Rattle.planfile.specs.declared.PlanWritten.{PlanWritten}
 use Rattle.planfile.specs.declared.PlanWritten.the-variants as plan
 use Rattle.planfile.proofs.Bits.{length-bits}
+use Rattle.promises.specs.Numbers.{doneWith}
+use Rattle.promises.specs.Leaves.{PlannerLeaves, ReaderLeaves, WriterLeaves}
 
 -- ---- the planner
 
--- what the planner leaves, by what it answers; n is the size of the site's part
-abbrev pub Left : ℕ → List ℕ → PlanAnswer → List ℕ → Type 0
-Left n t planner.Done after = drop n after ≡ drop n t
-Left n t planner.TableShort after = after ≡ t
-Left n t (planner.NoRoom cell short) after = after ≡ replicate n 0 ++ drop n t
-Left n t (planner.Refused f) after = after ≡ t
+-- any number but 0 and 5, and the table as it was
+plan-untouched : (n : ℕ) (t : List ℕ) (number : ℕ) → (number ≡ 0 → ⊥) → (number ≡ 5 → ⊥) → PlannerLeaves n t number t
+plan-untouched n t number z f = record { if-done = λ e. absurd (z e); if-no-room = λ e. absurd (f e); if-refused = λ _ _. refl }
 
-left-at : (n : ℕ) (t : List ℕ) (fine short : Bool) (o : Outcome) (f : Fault) → ((u : List ℕ) → o ≡ planned u → length u ≡ n)
-    → Left n t (pick fine (pick short planner.TableShort (answerOf o)) (planner.Refused f)) (pick fine (pick short t (tableOf n o ++ drop n t)) t)
-left-at n t true true o f h = refl
-left-at n t true false (planned u) f h = drop-at u (drop n t) n (h u refl)
-left-at n t true false (noRoom c m) f h = refl
-left-at n t false short o f h = refl
+plan-left : (n : ℕ) (t : List ℕ) (f : Fault) (short : Bool) (o : Outcome) → ((u : List ℕ) → o ≡ planned u → length u ≡ n)
+    → PlannerLeaves n t (planGiven (pick (isFine f) (pick short planner.TableShort (answerOf o)) (planner.Refused f)) .number)
+    (pick (isFine f) (pick short t (tableOf n o ++ drop n t)) t)
+plan-left n t Fine true o h = plan-untouched n t 4 (λ e. omega arith) (λ e. omega arith)
+plan-left n t Fine false (planned u) h =
+    record { if-done = λ _. drop-at u (drop n t) n (h u refl); if-no-room = λ e. absurd (omega arith); if-refused = λ z _. absurd (z refl) }
+plan-left n t Fine false (noRoom c m) h =
+    record { if-done = λ e. absurd (omega arith); if-no-room = λ _. refl; if-refused = λ _ f. absurd (f refl) }
+plan-left n t Size short o h = plan-untouched n t 1 (λ e. omega arith) (λ e. omega arith)
+plan-left n t (Load k) short o h = plan-untouched n t 2 (λ e. omega arith) (λ e. omega arith)
+plan-left n t (Reach k) short o h = plan-untouched n t 3 (λ e. omega arith) (λ e. omega arith)
 
-pub plan-leaves-by-answer : (s : Site) (t : List ℕ) → Left (size s) t (planAnswer s t) (planTable s t)
+pub plan-leaves : (s : Site) (t : List ℕ) → PlannerLeaves (size s) t (planGiven (planAnswer s t) .number) (planTable s t)
 unfolding planAnswer planTable
-plan-leaves-by-answer s t =
-    left-at (size s) t (isFine (faultOf s)) (ltb (length t) (size s)) (greedy (netOf s)) (faultOf s) (planned-size (netOf s))
+plan-leaves s t = plan-left (size s) t (faultOf s) (ltb (length t) (size s)) (greedy (netOf s)) (planned-size (netOf s))
 
--- ---- the file writers and the plan reader
+-- ---- the plan reader
 
--- what `write_site` leaves, by what it answers
-abbrev pub SiteLeft : Site → List ℕ → SiteWritten → List ℕ → Type 0
-SiteLeft s out (site.Done n) after = after ≡ siteBytes s ++ drop n out
-SiteLeft s out (site.OutShort n) after = after ≡ out
-SiteLeft s out (site.Refused f) after = after ≡ out
-
-site-left-at : (s : Site) (out : List ℕ) (fine fits : Bool) (f : Fault)
-    → SiteLeft s out (pick fine (pick fits (site.Done (length (siteBytes s))) (site.OutShort (length (siteBytes s)))) (site.Refused f))
-    (pick fine (pick fits (siteBytes s ++ drop (length (siteBytes s)) out) out) out)
-site-left-at s out true true f = refl
-site-left-at s out true false f = refl
-site-left-at s out false fits f = refl
-
-pub site-leaves-by-answer : (s : Site) (out : List ℕ) → SiteLeft s out (siteWritten s out) (siteOut s out)
-unfolding siteWritten siteOut written over
-site-leaves-by-answer s out = site-left-at s out (isFine (faultOf s)) (leb (length (siteBytes s)) (length out)) (faultOf s)
-
--- what `read_plan` leaves in the table, by what it answers: refused, all as it was
-abbrev pub PlanReadLeft : List ℕ → ℕ → ReadAnswer → List ℕ → Type 0
-PlanReadLeft t n read.Done after = drop n after ≡ drop n t
-PlanReadLeft t n (read.Refused number at) after = after ≡ t
-
-read-left-at : (a : ReadAnswer) (bits t : List ℕ) (n i o u : ℕ) → length bits ≡ n → PlanReadLeft t n (answered i o u a .answer) (pick (isDone a) (bits ++ drop n t) t)
+read-left : (a : ReadAnswer) (bits t : List ℕ) (n i o u : ℕ) → length bits ≡ n
+    → ReaderLeaves n t (readGiven (answered i o u a .answer) .number) (pick (isDone a) (bits ++ drop n t) t)
 unfolding answered
-read-left-at read.Done bits t n i o u h = drop-at bits (drop n t) n h
-read-left-at (read.Refused number at) bits t n i o u h = refl
+read-left read.Done bits t n i o u h = record { if-done = λ _. drop-at bits (drop n t) n h; if-refused = λ z. absurd (z refl) }
+read-left (read.Refused number at) bits t n i o u h = record { if-done = λ _. refl; if-refused = λ _. refl }
 
-pub plan-read-leaves-by-answer : (file t : List ℕ) → PlanReadLeft t (entriesIn file) (readPlan file t .answer) (planTableRead file t)
+pub plan-read-leaves : (file t : List ℕ) → ReaderLeaves (entriesIn file) t (readGiven (readPlan file t .answer) .number) (planTableRead file t)
 unfolding readPlan planTableRead
-plan-read-leaves-by-answer file t =
-    read-left-at (readAnswer file t) (bitsFrom (bodyIn file) 0 (entriesIn file)) t (entriesIn file) (cellsIn file) (slotsIn file) (channelsIn file)
+plan-read-leaves file t =
+    read-left (readAnswer file t) (bitsFrom (bodyIn file) 0 (entriesIn file)) t (entriesIn file) (cellsIn file) (slotsIn file) (channelsIn file)
     (length-bits (bodyIn file) (entriesIn file) 0)
 
--- what `write_plan` leaves, by what it answers
-abbrev pub PlanLeft : Site → List ℕ → List ℕ → PlanWritten → List ℕ → Type 0
-PlanLeft s t out (plan.Done n) after = after ≡ planFile s t ++ drop n out
-PlanLeft s t out plan.TableShort after = after ≡ out
-PlanLeft s t out (plan.OutShort n) after = after ≡ out
-PlanLeft s t out (plan.Refused f) after = after ≡ out
+-- ---- the writers
 
-plan-left-at : (s : Site) (t out : List ℕ) (fine short room : Bool) (f : Fault) → leb (length (planFile s t)) (length out) ≡ not room
-    → PlanLeft s t out
-    (pick fine (pick short plan.TableShort (pick room (plan.OutShort (length (planFile s t))) (plan.Done (length (planFile s t))))) (plan.Refused f))
-    (pick fine (pick short out (pick (leb (length (planFile s t)) (length out)) (planFile s t ++ drop (length (planFile s t)) out) out)) out)
-plan-left-at s t out true true room f e = refl
-plan-left-at s t out true false true f e = rw e
-plan-left-at s t out true false false f e = rw e
-plan-left-at s t out false short room f e = refl
+module _ (file out : List ℕ) where
+  -- done, with the file's length, and the file in front of the output
+  did-write : WriterLeaves file out (doneWith (length file ∷ [])) (file ++ drop (length file) out)
+  did-write = record { if-done = λ _. (refl, refl); if-refused = λ z. absurd (z refl) }
+
+  -- any number but 0, and the output as it was
+  out-untouched : (g : Given) → (g .number ≡ 0 → ⊥) → WriterLeaves file out g out
+  out-untouched g z = record { if-done = λ e. absurd (z e); if-refused = λ _. refl }
+
+  site-left : (f : Fault) (fits : Bool)
+      → WriterLeaves file out (siteWrittenGiven (pick (isFine f) (pick fits (site.Done (length file)) (site.OutShort (length file))) (site.Refused f)))
+      (pick (isFine f) (pick fits (file ++ drop (length file) out) out) out)
+  site-left Fine true = did-write
+  site-left Fine false = out-untouched _ (λ e. omega arith)
+  site-left Size fits = out-untouched _ (λ e. omega arith)
+  site-left (Load k) fits = out-untouched _ (λ e. omega arith)
+  site-left (Reach k) fits = out-untouched _ (λ e. omega arith)
+
+  plan-file-left : (f : Fault) (short room : Bool) → leb (length file) (length out) ≡ not room
+      → WriterLeaves file out
+      (planWrittenGiven (pick (isFine f) (pick short plan.TableShort (pick room (plan.OutShort (length file)) (plan.Done (length file)))) (plan.Refused f)))
+      (pick (isFine f) (pick short out (pick (leb (length file) (length out)) (file ++ drop (length file) out) out)) out)
+  plan-file-left Fine true room e = out-untouched _ (λ e′. omega arith)
+  plan-file-left Fine false true e = rw e (out-untouched _ (λ e′. omega arith))
+  plan-file-left Fine false false e = rw e did-write
+  plan-file-left Size short room e = out-untouched _ (λ e′. omega arith)
+  plan-file-left (Load k) short room e = out-untouched _ (λ e′. omega arith)
+  plan-file-left (Reach k) short room e = out-untouched _ (λ e′. omega arith)
+
+pub site-write-leaves : (s : Site) (out : List ℕ) → WriterLeaves (siteBytes s) out (siteWrittenGiven (siteWritten s out)) (siteOut s out)
+unfolding siteWritten siteOut written writtenOver
+site-write-leaves s out = site-left (siteBytes s) out (faultOf s) (leb (length (siteBytes s)) (length out))
 
 fits-or-not : (a b : ℕ) (t : Bool) → ltb b a ≡ t → leb a b ≡ not t
 fits-or-not a b true e = lt-leb a b (ltb-true b a e)
 fits-or-not a b false e = le-leb a b (ltb-false b a e)
 
-pub plan-write-leaves-by-answer : (s : Site) (t out : List ℕ) → PlanLeft s t out (planWritten s t out) (planOut s t out)
-unfolding planWritten planOut over
-plan-write-leaves-by-answer s t out =
-    plan-left-at s t out (isFine (faultOf s)) (ltb (length t) (entriesOf (s .cells) (s .slots) (s .channels))) (ltb (length out) (length (planFile s t))) (faultOf s)
+pub plan-write-leaves : (s : Site) (t out : List ℕ) → WriterLeaves (planFile s t) out (planWrittenGiven (planWritten s t out)) (planOut s t out)
+unfolding planWritten planOut writtenOver
+plan-write-leaves s t out =
+    plan-file-left (planFile s t) out (faultOf s) (ltb (length t) (entriesOf (s .cells) (s .slots) (s .channels))) (ltb (length out) (length (planFile s t)))
     (fits-or-not (length (planFile s t)) (length out) (ltb (length out) (length (planFile s t))) refl)
+
+-- ---- "Load test and chain judge are verdicts; they refuse only with 1 to 3."
+
+load-refusals : (f : Fault) (v : LoadVerdict) → loadGiven (pick (isFine f) (loadOf v) (load.Refused f)) .number ≡ faultGiven f .number
+load-refusals Fine holds = refl
+load-refusals Fine (over i m) = refl
+load-refusals Size v = refl
+load-refusals (Load k) v = refl
+load-refusals (Reach k) v = refl
+
+chain-refusals : (f : Fault) (v : ChainVerdict) → chainGiven (pick (isFine f) (chainOf v) (chain.Refused f)) .number ≡ faultGiven f .number
+chain-refusals Fine chained = refl
+chain-refusals Fine (broken a b c) = refl
+chain-refusals Size v = refl
+chain-refusals (Load k) v = refl
+chain-refusals (Reach k) v = refl
+
+-- their number is that of the record's fault
+pub load-refuses : (s : Site) → loadGiven (loadAnswer s) .number ≡ faultGiven (faultOf s) .number
+unfolding loadAnswer
+load-refuses s = load-refusals (faultOf s) (loadVerdict (netOf s) (counted s))
+
+pub chain-refuses : (s : Site) → chainGiven (chainAnswer s) .number ≡ faultGiven (faultOf s) .number
+unfolding chainAnswer
+chain-refuses s = chain-refusals (faultOf s) (chainVerdict (netOf s) (counted s))
+
+fault-to-three : (f : Fault) → faultGiven f .number ≤ 3
+fault-to-three Fine = omega arith
+fault-to-three Size = omega arith
+fault-to-three (Load k) = omega arith
+fault-to-three (Reach k) = omega arith
+
+-- and so is 0, or 1 to 3
+pub verdicts-to-three : (s : Site) → (loadGiven (loadAnswer s) .number ≤ 3) × (chainGiven (chainAnswer s) .number ≤ 3)
+verdicts-to-three s = (omega (arith, load-refuses s, fault-to-three (faultOf s)), omega (arith, chain-refuses s, fault-to-three (faultOf s)))

@@ -1,4 +1,4 @@
--- Demand 2, over what the contracts cite. Each crate proves its own part; here they stand side by side. Assumes nothing.
+-- Demand 2, over what the contracts cite, in the document's numbers. Each crate proves its own part; here they stand side by side. Assumes nothing.
 use mathlib.Core.Path.{_≡_, refl, sym, ap, _∙_}
 use mathlib.Core.Bool.{true≢false}
 use mathlib.Core.List.{List, _++_}
@@ -14,25 +14,30 @@ use Rattle.site.specs.Record.{positions, size, loadAt}
 use Rattle.site.specs.Reach.{clashIn, netOf}
 use Rattle.site.proofs.Reach.{clash-sym, clash-self}
 use Rattle.site.specs.declared.Site.{Site}
-use Rattle.planner.specs.Plan.{answerOf, tableOf, planAnswer, planTable}
-use Rattle.planner.specs.declared.PlanAnswer.the-variants as planner
+use Rattle.planner.specs.Plan.{tableOf, planAnswer, planTable}
+use Rattle.planner.specs.Given.{planGiven}
 use Rattle.planner.proofs.Meaning.{done-means, done-valid, figure-answer, figure-table}
 use Rattle.planner.proofs.Answer.{run-table}
 use Rattle.theory.proofs.Exact.{planned-size, apart-any}
 use Rattle.judges.specs.Judges.{loadAnswer, chainAnswer}
-use Rattle.judges.specs.declared.LoadAnswer.the-variants as load
-use Rattle.judges.specs.declared.ChainAnswer.the-variants as chain
+use Rattle.judges.specs.Given.{loadGiven, chainGiven}
 use Rattle.judges.proofs.Meaning.{holds-means, chained-means}
 use Rattle.checker.specs.Check.{checkAnswer}
-use Rattle.checker.specs.declared.CheckAnswer.the-variants as checker
+use Rattle.checker.specs.Given.{checkGiven}
 use Rattle.checker.proofs.Meaning.{valid-means}
+use Rattle.promises.specs.Numbers.{done, runGiven}
 use Rattle.promises.specs.Demands.{Accepted, LongEnough, DefinitionOne}
+use Rattle.promises.proofs.Numbers.{accepted-number, plan-number, run-number, check-number, load-number, chain-number}
 
 -- "The plan equals the paper's greedy schedule, mark for mark": answer and table are those of Figure 1, and the bytes past the site's part are as they were.
 pub plan-is-figure : (s : Site) (t : List ℕ) → Accepted s → LongEnough s t
-    → (planAnswer s t ≡ answerOf (figureOne (netOf s) (s .slots) (s .channels)))
+    → (planGiven (planAnswer s t) ≡ runGiven (figureOne (netOf s) (s .slots) (s .channels)))
     × (planTable s t ≡ tableOf (size s) (figureOne (netOf s) (s .slots) (s .channels)) ++ drop (size s) t)
-plan-is-figure s t fine long = (figure-answer s t fine long, figure-table s t fine long)
+plan-is-figure s t ok long =
+    let fine = accepted-number s .0 ok in (
+      ap planGiven (figure-answer s t fine long) ∙ run-number (figureOne (netOf s) (s .slots) (s .channels)),
+      figure-table s t fine long,
+    )
 
 -- `Valid` is the paper's Definition 1: it asks pairs with the lower cell first, and clash is symmetric and never of a cell with itself.
 pub valid-is-definition-one : (s : Site) (t : List ℕ) → Valid (netOf s) (reserved (positions s) t) ↔ DefinitionOne s t
@@ -52,28 +57,44 @@ valid-is-definition-one s t = (
 
 -- "The checker says yes exactly to the paper's valid schedules."
 pub check-is-valid : (s : Site) (t : List ℕ)
-    → checkAnswer s t ≡ checker.Valid ↔ ((Accepted s) × (LongEnough s t) × (Valid (netOf s) (reserved (positions s) t)))
-check-is-valid = valid-means
+    → checkGiven (checkAnswer s t) ≡ done ↔ ((Accepted s) × (LongEnough s t) × (Valid (netOf s) (reserved (positions s) t)))
+check-is-valid s t = (
+  λ e.
+      let v = valid-means s t .0 (check-number s t .0 e) in
+      (accepted-number s .1 (v .0), v .1, v .2),
+  λ v. check-number s t .1 (valid-means s t .1 (accepted-number s .0 (v .0), v .1, v .2)),
+)
 
 -- "A load above N is accepted in a site; the planner refuses it."
-pub load-above-refused : (s : Site) (i : ℕ) → i < s .cells → positions s < loadAt s i → (t : List ℕ) → planAnswer s t ≡ planner.Done → ⊥
+pub load-above-refused : (s : Site) (i : ℕ) → i < s .cells → positions s < loadAt s i → (t : List ℕ) → planGiven (planAnswer s t) ≡ done → ⊥
 load-above-refused s i l above t e =
-    omega (arith, done-valid s t e .exact i l, count-most (reserved (positions s) (planTable s t) i) (positions s))
+    omega (arith, done-valid s t (plan-number s t .0 e) .exact i l, count-most (reserved (positions s) (planTable s t) i) (positions s))
 
 -- "The load test is the paper's."
-pub load-is-C1 : (s : Site) → loadAnswer s ≡ load.Holds ↔ ((Accepted s) × (LoadTest (netOf s) everyone))
-load-is-C1 = holds-means
+pub load-is-C1 : (s : Site) → loadGiven (loadAnswer s) ≡ done ↔ ((Accepted s) × (LoadTest (netOf s) everyone))
+load-is-C1 s = (
+  λ e.
+      let h = holds-means s .0 (load-number s .0 e) in
+      (accepted-number s .1 (h .0), h .1),
+  λ h. load-number s .1 (holds-means s .1 (accepted-number s .0 (h .0), h .1)),
+)
 
 -- The chain judge says yes exactly to chained sites.
-pub chain-is-chained : (s : Site) → chainAnswer s ≡ chain.Chained ↔ ((Accepted s) × (Chained (netOf s) everyone))
-chain-is-chained = chained-means
+pub judge-is-chained : (s : Site) → chainGiven (chainAnswer s) ≡ done ↔ ((Accepted s) × (Chained (netOf s) everyone))
+judge-is-chained s = (
+  λ e.
+      let c = chained-means s .0 (chain-number s .0 e) in
+      (accepted-number s .1 (c .0), c .1),
+  λ c. chain-number s .1 (chained-means s .1 (accepted-number s .0 (c .0), c .1)),
+)
 
 -- What the planner leaves when it is done, the checker calls valid.
-pub planned-checks : (s : Site) (lent : List ℕ) → planAnswer s lent ≡ planner.Done → checkAnswer s (planTable s lent) ≡ checker.Valid
-planned-checks s lent e =
+pub planned-checks : (s : Site) (lent : List ℕ) → planGiven (planAnswer s lent) ≡ done → checkGiven (checkAnswer s (planTable s lent)) ≡ done
+planned-checks s lent g =
+    let e = plan-number s lent .0 g in
     let d = done-means s lent .0 e in
     let u = d .2 .0 in
     let rest = drop (size s) lent in
     let is : planTable s lent ≡ u ++ rest = run-table s lent (d .0) (d .1) ∙ ap (λ o. tableOf (size s) o ++ rest) (d .2 .1) in
     let long : LongEnough s (planTable s lent) = rw is (omega (arith, length-append u rest, planned-size (netOf s) u (d .2 .1))) in
-    valid-means s (planTable s lent) .1 (d .0, long, done-valid s lent e)
+    check-is-valid s (planTable s lent) .1 (accepted-number s .1 (d .0), long, done-valid s lent e)

@@ -1,7 +1,7 @@
 -- Demand 3, over two accepted site records and over tables as the checker reads them. The theory's demand 3 is about problems; here the premises and the answer are what
--- the public calls say. Assumes nothing.
-use mathlib.Core.Path.{_≡_, refl}
-use mathlib.Core.List.{List}
+-- the public calls say, in the document's numbers. Assumes nothing.
+use mathlib.Core.Path.{_≡_, refl, sym, ap, _∙_}
+use mathlib.Core.List.{List, [], _∷_}
 use mathlib.Core.Logic.{_↔_}
 use Prim.Native.Nat.{ℕ, _+_, _<_}
 use native.Mathlib.Omega.{arith}
@@ -13,19 +13,21 @@ use Rattle.theory.specs.Greedy.{reserved}
 use Rattle.theory.proofs.Exact.{covers-everyone, chained-class, demand-three, class-exact}
 use Rattle.site.specs.Record.{positions}
 use Rattle.site.specs.Reach.{netOf}
+use Rattle.site.specs.Given.{Given}
 use Rattle.site.specs.declared.Site.{Site}
 use Rattle.site.proofs.Accepted.{net-open}
 use Rattle.planner.specs.Plan.{planAnswer}
 use Rattle.planner.proofs.Meaning.{done-means, test-done}
-use Rattle.planner.specs.declared.PlanAnswer.the-variants as planner
+use Rattle.planner.specs.Given.{planGiven}
 use Rattle.judges.specs.Judges.{loadAnswer, chainAnswer}
-use Rattle.judges.specs.declared.LoadAnswer.the-variants as load
+use Rattle.judges.specs.Given.{loadGiven, chainGiven}
 use Rattle.judges.proofs.Meaning.{over-means}
-use Rattle.judges.specs.declared.ChainAnswer.the-variants as chain
 use Rattle.checker.specs.Check.{checkAnswer}
-use Rattle.checker.specs.declared.CheckAnswer.the-variants as checker
+use Rattle.checker.specs.Given.{checkGiven}
+use Rattle.promises.specs.Numbers.{done, doneWith, refused}
 use Rattle.promises.specs.Demands.{Accepted, LongEnough, Easier}
-use Rattle.promises.proofs.Demand2.{check-is-valid, load-is-C1, chain-is-chained}
+use Rattle.promises.proofs.Numbers.{accepted-number, plan-number, over-number}
+use Rattle.promises.proofs.Demand2.{check-is-valid, load-is-C1, judge-is-chained}
 
 eases : (second first : Site) → Easier second first → Eases (netOf second) (netOf first)
 eases second first h = record {
@@ -38,56 +40,56 @@ eases second first h = record {
 -- "If any valid plan of the first exists, however found, the planner plans the second." Over the valid-table definition.
 pub demand-three-sites : (first second : Site) → Accepted first → Accepted second → Easier second first → Chained (netOf second) everyone
     → (found : List ℕ) → Valid (netOf first) (reserved (positions first) found)
-    → (lent : List ℕ) → LongEnough second lent → planAnswer second lent ≡ planner.Done
+    → (lent : List ℕ) → LongEnough second lent → planGiven (planAnswer second lent) ≡ done
 demand-three-sites first second _ fine easier ch found v lent long =
-    done-means second lent .1 (
-      fine,
+    plan-number second lent .1 (done-means second lent .1 (
+      accepted-number second .0 fine,
       long,
       demand-three (netOf first) (reserved (positions first) found) v (netOf second) (eases second first easier) everyone
           (covers-everyone (netOf second)) (chained-class (netOf second) everyone ch),
-    )
+    ))
 
 -- The same over what the calls say: the judge says "chained", the checker says "valid", and the planner is done.
-pub demand-three-calls : (first second : Site) → Easier second first → chainAnswer second ≡ chain.Chained
-    → (found : List ℕ) → checkAnswer first found ≡ checker.Valid
-    → (lent : List ℕ) → LongEnough second lent → planAnswer second lent ≡ planner.Done
+pub demand-three-calls : (first second : Site) → Easier second first → chainGiven (chainAnswer second) ≡ done
+    → (found : List ℕ) → checkGiven (checkAnswer first found) ≡ done
+    → (lent : List ℕ) → LongEnough second lent → planGiven (planAnswer second lent) ≡ done
 demand-three-calls first second easier ch found ok lent long =
-    let c = chain-is-chained second .0 ch in
+    let c = judge-is-chained second .0 ch in
     let v = check-is-valid first found .0 ok in
     demand-three-sites first second (v .0) (c .0) easier (c .1) found (v .2) lent long
 
 -- "On a chained site the load test holds exactly when the planner plans"
-pub chained-exact : (s : Site) → chainAnswer s ≡ chain.Chained → (lent : List ℕ) → LongEnough s lent
-    → loadAnswer s ≡ load.Holds ↔ planAnswer s lent ≡ planner.Done
+pub chained-exact : (s : Site) → chainGiven (chainAnswer s) ≡ done → (lent : List ℕ) → LongEnough s lent
+    → loadGiven (loadAnswer s) ≡ done ↔ planGiven (planAnswer s lent) ≡ done
 chained-exact s ch lent long =
-    let c = chain-is-chained s .0 ch in
+    let c = judge-is-chained s .0 ch in
     let x = class-exact (netOf s) everyone (covers-everyone (netOf s)) (chained-class (netOf s) everyone (c .1)) in (
-      λ e. done-means s lent .1 (c .0, long, x .0 (load-is-C1 s .0 e .1)),
-      λ e. load-is-C1 s .1 (c .0, x .1 (done-means s lent .0 e .2)),
+      λ e. plan-number s lent .1 (done-means s lent .1 (accepted-number s .0 (c .0), long, x .0 (load-is-C1 s .0 e .1))),
+      λ e. load-is-C1 s .1 (c .0, x .1 (done-means s lent .0 (plan-number s lent .0 e) .2)),
     )
 
 -- "on any site a load test that holds means a plan"
-pub holds-plans : (s : Site) → loadAnswer s ≡ load.Holds → (lent : List ℕ) → LongEnough s lent → planAnswer s lent ≡ planner.Done
+pub holds-plans : (s : Site) → loadGiven (loadAnswer s) ≡ done → (lent : List ℕ) → LongEnough s lent → planGiven (planAnswer s lent) ≡ done
 holds-plans s e lent long =
     let h = load-is-C1 s .0 e in
-    test-done s lent (h .0) long (h .1)
+    plan-number s lent .1 (test-done s lent (accepted-number s .0 (h .0)) long (h .1))
 
 -- ---- what these mean on the ground
 
 -- Refusal 5 on a chained site: the site is full. No table at all is valid for it.
-pub chained-full : (s : Site) → chainAnswer s ≡ chain.Chained → (lent : List ℕ) → LongEnough s lent
-    → (cell short : ℕ) → planAnswer s lent ≡ planner.NoRoom cell short → (any : List ℕ) → checkAnswer s any ≡ checker.Valid → ⊥
+pub chained-full : (s : Site) → chainGiven (chainAnswer s) ≡ done → (lent : List ℕ) → LongEnough s lent
+    → (cell short : ℕ) → planGiven (planAnswer s lent) ≡ refused 5 (cell ∷ short ∷ []) → (any : List ℕ) → checkGiven (checkAnswer s any) ≡ done → ⊥
 chained-full s ch lent long cell short five any ok =
     let yes = demand-three-calls s s (record { same-cells = refl; as-many-channel-slots = le-refl _; no-greater-load = λ i _. le-refl _; no-new-clash = λ a c _ _ e. e }) ch any ok lent long in
-    let z : _≡_ {A = ℕ} 0 1 = cc in
+    let z : _≡_ {A = ℕ} 5 0 = ap (λ (g : Given). g .number) (sym five ∙ yes) in
     omega arith
 
 -- Why it is full: the cell that the load test names, with its lower clashing loaded cells, all clash with one another, and their loads come to more than the positions there are.
-pub chained-why : (s : Site) → chainAnswer s ≡ chain.Chained → (cell m : ℕ) → loadAnswer s ≡ load.Over cell m
+pub chained-why : (s : Site) → chainGiven (chainAnswer s) ≡ done → (cell m : ℕ) → loadGiven (loadAnswer s) ≡ doneWith (cell ∷ m ∷ [])
     → (i : ℕ) × (cell ≡ i + 1) × (Mutual (netOf s) (around (netOf s) i)) × (positions s < weight (netOf s) (around (netOf s) i))
 chained-why s ch cell m e =
-    let c = chain-is-chained s .0 ch in
-    let o = over-means s cell m e in
+    let c = judge-is-chained s .0 ch in
+    let o = over-means s cell m (over-number s cell m e) in
     let f = o .1 .2 in
     let w = over-full (netOf s) (o .1 .0) everyone (covers-everyone (netOf s)) (chained-class (netOf s) everyone (c .1)) (f .inside) (f .counts) (f .exceeds) in
     (o .1 .0, o .1 .1, w .0, rw (← net-open s) (w .1))

@@ -1,7 +1,8 @@
 -- In C a value that the document does not name is 0. So a good verdict is 0, 0, 0, and this is told apart from every other answer: cells are numbered from 1.
 -- Assumes nothing.
 use mathlib.Core.Path.{_≡_, refl, ap}
-use Prim.Native.Nat.{ℕ, _+_}
+use mathlib.Core.Logic.{_↔_}
+use Prim.Native.Nat.{ℕ}
 use native.Mathlib.Omega.{arith}
 use lib.ListN.{getD}
 use Rattle.site.specs.declared.Site.{Site}
@@ -13,39 +14,41 @@ use Rattle.judges.specs.declared.LoadAnswer.the-variants as load
 use Rattle.judges.specs.declared.ChainAnswer.{ChainAnswer}
 use Rattle.judges.specs.declared.ChainAnswer.the-variants as chain
 use Rattle.judges.proofs.Meaning.{over-means, broken-means}
-use Rattle.judges.proofs.Given.{load-proper, chain-proper}
 use Rattle.capi.specs.Told.{numbered, told}
 use Rattle.capi.specs.declared.Answer.{Answer}
+use Rattle.promises.specs.Numbers.{done}
 
-number : Answer → ℕ
-number a = a .number
+numberIn : Answer → ℕ
+numberIn a = a .number
 
-first : Answer → ℕ
-first a = getD (a .value) 0 0
+valueIn : Answer → ℕ
+valueIn a = getD (a .value) 0 0
 
 module _ (s : Site) where
-  load-in-c : (a : LoadAnswer) → loadAnswer s ≡ a → told (loadGiven a) ≡ numbered 0 0 0 0 → a ≡ load.Holds
-  unfolding told number first
+  load-in-c : (a : LoadAnswer) → loadAnswer s ≡ a → told (loadGiven a) ≡ numbered 0 0 0 0 → loadGiven a ≡ done
+  unfolding told numberIn valueIn
   load-in-c load.Holds q e = refl
-  load-in-c (load.Over cell m) q e = let z : cell ≡ 0 = ap first e in let o = over-means s cell m q .1 .1 in absurd (omega arith)
-  load-in-c (load.Refused Fine) q e = absurd (load-proper s q)
-  load-in-c (load.Refused Size) q e = let z : _≡_ {A = ℕ} 1 0 = ap number e in absurd (omega arith)
-  load-in-c (load.Refused (Load k)) q e = let z : _≡_ {A = ℕ} 2 0 = ap number e in absurd (omega arith)
-  load-in-c (load.Refused (Reach k)) q e = let z : _≡_ {A = ℕ} 3 0 = ap number e in absurd (omega arith)
+  load-in-c (load.Over cell m) q e = let z : cell ≡ 0 = ap valueIn e in let o = over-means s cell m q .1 .1 in absurd (omega arith)
+  load-in-c (load.Refused Fine) q e = refl
+  load-in-c (load.Refused Size) q e = let z : _≡_ {A = ℕ} 1 0 = ap numberIn e in absurd (omega arith)
+  load-in-c (load.Refused (Load k)) q e = let z : _≡_ {A = ℕ} 2 0 = ap numberIn e in absurd (omega arith)
+  load-in-c (load.Refused (Reach k)) q e = let z : _≡_ {A = ℕ} 3 0 = ap numberIn e in absurd (omega arith)
 
-  -- `dugg_load_test` gives 0, 0, 0 exactly where the load test holds
-  pub holds-in-c : told (loadGiven (loadAnswer s)) ≡ numbered 0 0 0 0 → loadAnswer s ≡ load.Holds
-  holds-in-c e = load-in-c (loadAnswer s) refl e
+  -- `dugg_load_test` gives 0 and 0, 0, 0 exactly where the load test holds
+  pub holds-in-c : told (loadGiven (loadAnswer s)) ≡ numbered 0 0 0 0 ↔ loadGiven (loadAnswer s) ≡ done
+  unfolding told
+  holds-in-c = (load-in-c (loadAnswer s) refl, ap told)
 
-  chain-in-c : (a : ChainAnswer) → chainAnswer s ≡ a → told (chainGiven a) ≡ numbered 0 0 0 0 → a ≡ chain.Chained
-  unfolding told number first
+  chain-in-c : (a : ChainAnswer) → chainAnswer s ≡ a → told (chainGiven a) ≡ numbered 0 0 0 0 → chainGiven a ≡ done
+  unfolding told numberIn valueIn
   chain-in-c chain.Chained q e = refl
-  chain-in-c (chain.Broken a b c) q e = let z : a ≡ 0 = ap first e in let o = broken-means s a b c q .1 .3 in absurd (omega arith)
-  chain-in-c (chain.Refused Fine) q e = absurd (chain-proper s q)
-  chain-in-c (chain.Refused Size) q e = let z : _≡_ {A = ℕ} 1 0 = ap number e in absurd (omega arith)
-  chain-in-c (chain.Refused (Load k)) q e = let z : _≡_ {A = ℕ} 2 0 = ap number e in absurd (omega arith)
-  chain-in-c (chain.Refused (Reach k)) q e = let z : _≡_ {A = ℕ} 3 0 = ap number e in absurd (omega arith)
+  chain-in-c (chain.Broken a b c) q e = let z : a ≡ 0 = ap valueIn e in let o = broken-means s a b c q .1 .3 in absurd (omega arith)
+  chain-in-c (chain.Refused Fine) q e = refl
+  chain-in-c (chain.Refused Size) q e = let z : _≡_ {A = ℕ} 1 0 = ap numberIn e in absurd (omega arith)
+  chain-in-c (chain.Refused (Load k)) q e = let z : _≡_ {A = ℕ} 2 0 = ap numberIn e in absurd (omega arith)
+  chain-in-c (chain.Refused (Reach k)) q e = let z : _≡_ {A = ℕ} 3 0 = ap numberIn e in absurd (omega arith)
 
-  -- `dugg_chain` gives 0, 0, 0 exactly where the site is chained
-  pub chained-in-c : told (chainGiven (chainAnswer s)) ≡ numbered 0 0 0 0 → chainAnswer s ≡ chain.Chained
-  chained-in-c e = chain-in-c (chainAnswer s) refl e
+  -- `dugg_chain` gives 0 and 0, 0, 0 exactly where the site is chained
+  pub chained-in-c : told (chainGiven (chainAnswer s)) ≡ numbered 0 0 0 0 ↔ chainGiven (chainAnswer s) ≡ done
+  unfolding told
+  chained-in-c = (chain-in-c (chainAnswer s) refl, ap told)

@@ -1,5 +1,6 @@
 -- The laws of crate `promises`, module by module.
 pub mod Desk
+pub mod Numbers
 pub mod Demand1
 pub mod Demand2
 pub mod Demand3

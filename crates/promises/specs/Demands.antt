@@ -1,5 +1,5 @@
--- The words of demand 3, over two site records. Nothing here looks inside a call: a site is accepted when the calls find no fault in it, and a table is valid when the checker
--- says so.
+-- The words of demands 2 and 3, over site records and tables. A site is accepted when its record has none of the faults 1, 2 and 3, and a table is valid by the paper's
+-- definition, `Valid`, whatever the checker says of it; that the checker says the same is a theorem.
 use mathlib.Core.Path.{_≡_}
 use mathlib.Core.Bool.{true}
 use mathlib.Core.List.{List}
@@ -9,12 +9,13 @@ use Rattle.laws.specs.Sum.{count}
 use Rattle.theory.specs.Greedy.{reserved}
 use Rattle.site.specs.Record.{positions, loadAt, faultOf, size}
 use Rattle.site.specs.Reach.{clashOf}
+use Rattle.site.specs.Given.{faultGiven}
 use Rattle.site.specs.declared.Site.{Site}
-use Rattle.site.specs.declared.Fault.the-variants.{Fine}
+use Rattle.promises.specs.Numbers.{done}
 
--- "accepted": no call refuses the record with 1, 2 or 3
+-- "accepted": the record's fault is number 0, none; any other is 1, 2 or 3, and every call that takes the record refuses it with that
 abbrev pub Accepted : Site → Type 0
-Accepted s = faultOf s ≡ Fine
+Accepted s = faultGiven (faultOf s) ≡ done
 
 -- "a long enough table": a byte for each cell and position, or more
 abbrev pub LongEnough : Site → List ℕ → Type 0

@@ -1,4 +1,6 @@
 -- The definitions of crate `promises`, module by module.
+pub mod Numbers
+pub mod Leaves
 pub mod Demands
 pub mod Desk
 pub mod SiteSays

@@ -1,0 +1,64 @@
+-- From the numbers given back to the calls' answers and back: each crate proves that its numbers tell its answers apart, so each good answer is one number and its values.
+-- Also what the record's fault may be. Assumes nothing.
+use mathlib.Core.Path.{_≡_, refl, ap}
+use mathlib.Core.List.{List, [], _∷_}
+use mathlib.Core.Logic.{_↔_}
+use Prim.Native.Nat.{ℕ}
+use native.Mathlib.Omega.{arith}
+use Rattle.theory.specs.Greedy.{Outcome, planned, noRoom}
+use Rattle.site.specs.Record.{faultOf}
+use Rattle.site.specs.Given.{faultGiven}
+use Rattle.site.specs.declared.Site.{Site}
+use Rattle.site.specs.declared.Fault.the-variants.{Fine}
+use Rattle.site.proofs.Given.{fault-apart}
+use Rattle.planner.specs.Plan.{answerOf, planAnswer}
+use Rattle.planner.specs.Given.{planGiven}
+use Rattle.planner.specs.declared.PlanAnswer.the-variants as planner
+use Rattle.planner.proofs.Given.{tells-apart as plan-apart, answers-proper as plan-proper}
+use Rattle.checker.specs.Check.{checkAnswer}
+use Rattle.checker.specs.Given.{checkGiven}
+use Rattle.checker.specs.declared.CheckAnswer.the-variants as checker
+use Rattle.checker.proofs.Given.{tells-apart as check-apart, answers-proper as check-proper}
+use Rattle.judges.specs.Judges.{loadAnswer, chainAnswer}
+use Rattle.judges.specs.Given.{loadGiven, chainGiven}
+use Rattle.judges.specs.declared.LoadAnswer.the-variants as load
+use Rattle.judges.specs.declared.ChainAnswer.the-variants as chain
+use Rattle.judges.proofs.Given.{load-apart, load-proper, chain-apart, chain-proper}
+use Rattle.promises.specs.Numbers.{done, doneWith, refused, runGiven}
+use Rattle.promises.specs.Demands.{Accepted}
+
+pub accepted-number : (s : Site) → Accepted s ↔ faultOf s ≡ Fine
+accepted-number s = (fault-apart (faultOf s) Fine, ap faultGiven)
+
+pub plan-number : (s : Site) (t : List ℕ) → planGiven (planAnswer s t) ≡ done ↔ planAnswer s t ≡ planner.Done
+plan-number s t = (plan-apart (planAnswer s t) planner.Done (plan-proper s t) refl, ap planGiven)
+
+pub no-room-number : (s : Site) (t : List ℕ) (c m : ℕ) → planGiven (planAnswer s t) ≡ refused 5 (c ∷ m ∷ []) → planAnswer s t ≡ planner.NoRoom c m
+no-room-number s t c m = plan-apart (planAnswer s t) (planner.NoRoom c m) (plan-proper s t) refl
+
+pub run-number : (o : Outcome) → planGiven (answerOf o) ≡ runGiven o
+run-number (planned u) = refl
+run-number (noRoom c m) = refl
+
+pub check-number : (s : Site) (t : List ℕ) → checkGiven (checkAnswer s t) ≡ done ↔ checkAnswer s t ≡ checker.Valid
+check-number s t = (check-apart (checkAnswer s t) checker.Valid (check-proper s t) refl, ap checkGiven)
+
+-- ---- the verdicts
+
+load-no-fault : load.Holds ≡ load.Refused Fine → ⊥
+load-no-fault e = let z : _≡_ {A = ℕ} 0 1 = cc in omega arith
+
+over-no-fault : (c m : ℕ) → load.Over c m ≡ load.Refused Fine → ⊥
+over-no-fault c m e = let z : _≡_ {A = ℕ} 0 1 = cc in omega arith
+
+chain-no-fault : chain.Chained ≡ chain.Refused Fine → ⊥
+chain-no-fault e = let z : _≡_ {A = ℕ} 0 1 = cc in omega arith
+
+pub load-number : (s : Site) → loadGiven (loadAnswer s) ≡ done ↔ loadAnswer s ≡ load.Holds
+load-number s = (load-apart (loadAnswer s) load.Holds (load-proper s) load-no-fault, ap loadGiven)
+
+pub over-number : (s : Site) (c m : ℕ) → loadGiven (loadAnswer s) ≡ doneWith (c ∷ m ∷ []) → loadAnswer s ≡ load.Over c m
+over-number s c m = load-apart (loadAnswer s) (load.Over c m) (load-proper s) (over-no-fault c m)
+
+pub chain-number : (s : Site) → chainGiven (chainAnswer s) ≡ done ↔ chainAnswer s ≡ chain.Chained
+chain-number s = (chain-apart (chainAnswer s) chain.Chained (chain-proper s) chain-no-fault, ap chainGiven)

@@ -1,0 +1,23 @@
+-- Demand 1, what lent memory holds after a call, by the number that the call gives back. "The planner's no-room refusal leaves the site's part of the lent table idle;
+-- every other refusal leaves lent memory untouched." "Table bytes past IN and output bytes past the file are never written."
+use mathlib.Core.Path.{_≡_}
+use mathlib.Core.List.{List, [], _∷_, _++_}
+use Prim.Native.Nat.{ℕ}
+use lib.ListN.{length, drop, replicate}
+use Rattle.site.specs.Given.{Given}
+
+-- the planner; n is IN, the size of the site's part
+pub record PlannerLeaves (n : ℕ) (table : List ℕ) (number : ℕ) (after : List ℕ) : Type 0 where
+  pub if-done : number ≡ 0 → drop n after ≡ drop n table
+  pub if-no-room : number ≡ 5 → after ≡ replicate n 0 ++ drop n table
+  pub if-refused : (number ≡ 0 → ⊥) → (number ≡ 5 → ⊥) → after ≡ table
+
+-- the plan reader; n is IN of the file's head
+pub record ReaderLeaves (n : ℕ) (table : List ℕ) (number : ℕ) (after : List ℕ) : Type 0 where
+  pub if-done : number ≡ 0 → drop n after ≡ drop n table
+  pub if-refused : (number ≡ 0 → ⊥) → after ≡ table
+
+-- the writers: "A writer that is done answers the number of bytes written"
+pub record WriterLeaves (file out : List ℕ) (given : Given) (after : List ℕ) : Type 0 where
+  pub if-done : given .number ≡ 0 → (given .values ≡ length file ∷ []) × (after ≡ file ++ drop (length file) out)
+  pub if-refused : (given .number ≡ 0 → ⊥) → after ≡ out
