@@ -3,6 +3,7 @@ pub mod Desk
 pub mod Numbers
 pub mod Demand1
 pub mod Demand2
+pub mod Names
 pub mod Demand3
 pub mod Files
 pub mod InC

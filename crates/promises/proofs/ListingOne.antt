@@ -1,4 +1,4 @@
--- Each contract of crate `listing` leaves one possible answer and one possible content of what is lent. Made by tools/surface from the source.
+-- Each contract of crate `listing` leaves one possible answer and one possible content of what is lent, by its equalities alone. Made by tools/surface from the source.
 -- Assumes nothing.
 use mathlib.Core.Path.{_≡_, sym, _∙_}
 use mathlib.Core.List.{List}

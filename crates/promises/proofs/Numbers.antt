@@ -43,6 +43,12 @@ run-number (noRoom c m) = refl
 pub check-number : (s : Site) (t : List ℕ) → checkGiven (checkAnswer s t) ≡ done ↔ checkAnswer s t ≡ checker.Valid
 check-number s t = (check-apart (checkAnswer s t) checker.Valid (check-proper s t) refl, ap checkGiven)
 
+pub clash-number : (s : Site) (t : List ℕ) (p a c : ℕ) → checkGiven (checkAnswer s t) ≡ refused 6 (p ∷ a ∷ c ∷ []) → checkAnswer s t ≡ checker.Clash p a c
+clash-number s t p a c = check-apart (checkAnswer s t) (checker.Clash p a c) (check-proper s t) refl
+
+pub count-number : (s : Site) (t : List ℕ) (c n : ℕ) → checkGiven (checkAnswer s t) ≡ refused 7 (c ∷ n ∷ []) → checkAnswer s t ≡ checker.Count c n
+count-number s t c n = check-apart (checkAnswer s t) (checker.Count c n) (check-proper s t) refl
+
 -- ---- the verdicts
 
 load-no-fault : load.Holds ≡ load.Refused Fine → ⊥
@@ -54,6 +60,9 @@ over-no-fault c m e = let z : _≡_ {A = ℕ} 0 1 = cc in omega arith
 chain-no-fault : chain.Chained ≡ chain.Refused Fine → ⊥
 chain-no-fault e = let z : _≡_ {A = ℕ} 0 1 = cc in omega arith
 
+broken-no-fault : (a b c : ℕ) → chain.Broken a b c ≡ chain.Refused Fine → ⊥
+broken-no-fault a b c e = let z : _≡_ {A = ℕ} 0 1 = cc in omega arith
+
 pub load-number : (s : Site) → loadGiven (loadAnswer s) ≡ done ↔ loadAnswer s ≡ load.Holds
 load-number s = (load-apart (loadAnswer s) load.Holds (load-proper s) load-no-fault, ap loadGiven)
 
@@ -62,3 +71,6 @@ over-number s c m = load-apart (loadAnswer s) (load.Over c m) (load-proper s) (o
 
 pub chain-number : (s : Site) → chainGiven (chainAnswer s) ≡ done ↔ chainAnswer s ≡ chain.Chained
 chain-number s = (chain-apart (chainAnswer s) chain.Chained (chain-proper s) chain-no-fault, ap chainGiven)
+
+pub broken-number : (s : Site) (a b c : ℕ) → chainGiven (chainAnswer s) ≡ doneWith (a ∷ b ∷ c ∷ []) → chainAnswer s ≡ chain.Broken a b c
+broken-number s a b c = chain-apart (chainAnswer s) (chain.Broken a b c) (chain-proper s) (broken-no-fault a b c)

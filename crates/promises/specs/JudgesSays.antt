@@ -1,4 +1,4 @@
--- What the contracts of crate `judges` say: r is the answer, and x′ what a lent x holds afterwards. Made by tools/surface from the source.
+-- The equalities that the contracts of crate `judges` state: r is the answer, and x′ what a lent x holds afterwards. Made by tools/surface from the source.
 use mathlib.Core.Path.{_≡_}
 use Rattle.judges.specs.Judges.{chainAnswer, loadAnswer}
 use Rattle.judges.specs.declared.ChainAnswer.{ChainAnswer}
