@@ -35,7 +35,7 @@ use Rattle.planfile.specs.Write.{planWritten, planOut}
 use Rattle.planfile.specs.Given.{planWrittenGiven}
 use Rattle.planfile.specs.declared.PlanRead.{PlanRead}
 use Rattle.planfile.specs.declared.PlanWritten.the-variants as plan
-use Rattle.planfile.proofs.Given.{written-apart as plan-apart}
+use Rattle.planfile.proofs.Given.{written-apart}
 use Rattle.planfile.proofs.Trip.{calls-written-read, calls-read-written}
 use Rattle.promises.specs.Numbers.{done, doneWith}
 use Rattle.promises.specs.Demands.{Accepted}
@@ -83,7 +83,7 @@ pub plan-written-read : (s : Site) (t out u : List ℕ) (n : ℕ) → planWritte
     (readGiven (back .answer) ≡ done) × (back .cells ≡ s .cells) × (back .slots ≡ s .slots) × (back .channels ≡ s .channels)
     × (planTableRead (take n (planOut s t out)) u ≡ map one (take (size s) t) ++ drop (size s) u)
 plan-written-read s t out u n e long =
-    let w = calls-written-read s t out u n (plan-apart (planWritten s t out) (plan.Done n) e) long in (
+    let w = calls-written-read s t out u n (written-apart (planWritten s t out) (plan.Done n) e) long in (
       ap (λ (r : PlanRead). readGiven (r .answer)) (w .0),
       ap (λ (r : PlanRead). r .cells) (w .0),
       ap (λ (r : PlanRead). r .slots) (w .0),
