@@ -5,10 +5,10 @@ use mathlib.Core.Path.{_≡_, refl}
 use mathlib.Core.List.{List, [], _∷_}
 use lib.ListN.{replicate}
 use Rattle.records.specs.Opener.{openAt, lengthOk}
-use Rattle.site.specs.Record.{sizeOk, upTo}
+use Rattle.site.specs.Record.{siteOf, sizeOk, upTo}
 use Rattle.site.specs.declared.Site.{Site}
 use Rattle.sitefile.specs.Pairs.{pairOk, readPairs, pairOf, pairsFrom}
-use Rattle.sitefile.specs.Read.{siteOf, siteDone, siteOr, reachFrom, readReach, loadsFrom, readLoads, headFrom, readSite}
+use Rattle.sitefile.specs.Read.{siteDone, siteOr, reachFrom, readReach, loadsFrom, readLoads, headFrom, readSite}
 use Rattle.sitefile.specs.Write.{pairBytes, siteBytes}
 
 abbrev pub deskFile : List ℕ

@@ -15,9 +15,9 @@ use Rattle.laws.proofs.Stores.{take-sets, sets-past}
 use Rattle.records.specs.Bytes.{Bytes, le16, words, wordsOf}
 use Rattle.records.specs.Opener.{openAt}
 use Rattle.sitefile.specs.Pairs.{readPairs}
-use Rattle.sitefile.specs.Read.{refusedSite, siteOf, siteDone, siteOr, reachFrom, readReach, loadsFrom, readLoads, headFrom, readSite}
+use Rattle.sitefile.specs.Read.{refusedSite, siteDone, siteOr, reachFrom, readReach, loadsFrom, readLoads, headFrom, readSite}
 use Rattle.sitefile.specs.Write.{siteHead, pairBytes, siteBytes}
-use Rattle.site.specs.Record.{sizeOk}
+use Rattle.site.specs.Record.{siteOf, sizeOk}
 use Rattle.site.specs.declared.Site.{Site}
 use Rattle.sitefile.specs.declared.SiteRead.{SiteRead}
 use Rattle.sitefile.specs.declared.PairsRead.{PairsRead}

@@ -11,12 +11,12 @@ use Rattle.laws.specs.Choice.{pick}
 use Rattle.records.specs.Bytes.{le16, wordsOf}
 use Rattle.records.specs.Opener.{openAt}
 use Rattle.sitefile.specs.Pairs.{readPairs}
-use Rattle.sitefile.specs.Read.{refusedSite, refusedBy, siteOf, siteDone, siteOr, reachFrom, readReach, loadsFrom, readLoads, headFrom, readSite}
+use Rattle.sitefile.specs.Read.{refusedSite, refusedBy, siteDone, siteOr, reachFrom, readReach, loadsFrom, readLoads, headFrom, readSite}
 use Rattle.sitefile.specs.declared.PairsRead.{PairsRead}
 use Rattle.records.specs.declared.Length.the-variants.{Exact, Pairs}
 use Rattle.records.specs.declared.Opened.{Opened}
 use Rattle.records.specs.declared.Opened.the-variants.{Body, Refused as NotOpened}
-use Rattle.site.specs.Record.{sizeOk}
+use Rattle.site.specs.Record.{siteOf, sizeOk}
 
 -- kind 3
 module _ (s : List ℕ) (at cells slots channels : ℕ) (loads : List ℕ) (o : Opened) (found : o ≡ openAt s at 3 Pairs) where

@@ -23,9 +23,9 @@ use Rattle.records.specs.declared.ReadAnswer.the-variants.{Done, Refused}
 use Rattle.records.specs.Reasons.{Reason, reason, firstReason}
 use Rattle.records.proofs.Laws.{Opening, opened, exact, length-least}
 use Rattle.records.proofs.Reasons.{afterOpen, open-reasons, wrong-exact, wrong-pairs, First, refused-first, Some, some-append, some-record, some-first}
-use Rattle.site.specs.Record.{sizeOk}
+use Rattle.site.specs.Record.{siteOf, sizeOk}
 use Rattle.sitefile.specs.Pairs.{pairOk, place, mark, badPairs, readPairs}
-use Rattle.sitefile.specs.Read.{refusedSite, siteOf, siteDone, siteOr, reachFrom, readReach, loadsFrom, readLoads, headFrom, readSite}
+use Rattle.sitefile.specs.Read.{refusedSite, siteDone, siteOr, reachFrom, readReach, loadsFrom, readLoads, headFrom, readSite}
 use Rattle.sitefile.specs.Reasons.{rises, pairReasons, reachReasons, loadsReasons, siteReasons}
 use Rattle.sitefile.specs.declared.PairsRead.{PairsRead}
 use Rattle.sitefile.proofs.PairLaws.{PairOk, pair-ok}

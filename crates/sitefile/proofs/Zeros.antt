@@ -14,8 +14,8 @@ use Rattle.records.specs.declared.Length.the-variants.{Exact, Pairs}
 use Rattle.records.specs.declared.Opened.{Opened}
 use Rattle.records.specs.declared.Opened.the-variants.{Body, Refused as NotOpened}
 use Rattle.records.specs.declared.ReadAnswer.the-variants.{Done, Refused}
-use Rattle.site.specs.Record.{zeroSite, sizeOk}
-use Rattle.sitefile.specs.Read.{refusedSite, siteDone, siteOf, siteOr, reachFrom, readReach, loadsFrom, readLoads, headFrom, readSite}
+use Rattle.site.specs.Record.{siteOf, zeroSite, sizeOk}
+use Rattle.sitefile.specs.Read.{refusedSite, siteDone, siteOr, reachFrom, readReach, loadsFrom, readLoads, headFrom, readSite}
 use Rattle.sitefile.specs.declared.PairsRead.{PairsRead}
 use Rattle.sitefile.specs.declared.SiteRead.{SiteRead}
 

@@ -12,7 +12,7 @@ use Rattle.records.specs.declared.Length.the-variants.{Exact, Pairs}
 use Rattle.records.specs.declared.Opened.{Opened}
 use Rattle.records.specs.declared.Opened.the-variants.{Body, Refused as NotOpened}
 use Rattle.records.specs.declared.ReadAnswer.the-variants.{Done, Refused}
-use Rattle.site.specs.Record.{zeroSite, sizeOk}
+use Rattle.site.specs.Record.{siteOf, zeroSite, sizeOk}
 use Rattle.site.specs.declared.Site.{Site}
 use Rattle.sitefile.specs.Pairs.{readPairs}
 use Rattle.sitefile.specs.declared.SiteRead.{SiteRead}
@@ -25,11 +25,6 @@ refusedSite number at = record { site = zeroSite; answer = Refused number at }
 unfoldable pub refusedBy : Opened → SiteRead
 refusedBy (NotOpened number at) = refusedSite number at
 refusedBy (Body start len) = refusedSite 0 0
-
--- the site that a file's contents make
-abbrev pub siteOf : ℕ → ℕ → ℕ → List ℕ → List ℕ → Site
-siteOf cells slots channels loads reach =
-    record { cells = cells; slots = slots; channels = channels; loads = loads; reach = reach }
 
 abbrev pub siteDone : Site → SiteRead
 siteDone s = record { site = s; answer = Done }
