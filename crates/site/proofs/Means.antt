@@ -1,0 +1,256 @@
+-- The definitions say what specs/Means.antt says, and nothing else: the fault or answer that a definition gives means what is the case, and the one that means what is the case
+-- is the one that it gives. Each search of a definition finds the lowest, and each test of a row is the test of its bits. Assumes nothing.
+use Prim.Native.Nat.{ℕ, zero, suc, _+_, _-_, _^_, _≤_, _<_}
+use mathlib.Core.Bool.{Bool, true, false, not, _||_, _&&_, or-true, true≢false}
+use mathlib.Core.List.{[], _∷_}
+use mathlib.Core.Logic.{_⊎_, inl, inr, ⊎-elim}
+use mathlib.Core.Path.{_≡_, refl, sym, ap, _∙_}
+use native.Mathlib.Omega.{arith}
+use native.Mathlib.Nat.{two-pow-succ, lt-of-lt-of-le}
+use borrow.Author.Tests.{ltb-true, ltb-false, lt-ltb, le-ltb, eqb-true, eqb-false, eq-eqb, ne-eqb, not-true}
+use lib.Dec.{ltb, eqb}
+use lib.ListN.{getD}
+use lib.Pow.{pow-pos, pow-mono}
+use Rattle.laws.specs.Choice.{pick}
+use Rattle.laws.specs.Bits.{bitAt}
+use Rattle.laws.proofs.Choice.{cases, refute, both, both-is, at-least}
+use Rattle.laws.proofs.Search.{first-least, first-passes, first-before, first-none, first-is}
+use Rattle.laws.proofs.Bits.{bit-above, bit-past, no-bits}
+use Rattle.site.specs.Record.{zeroSite, loadAt, rowOf, upTo, sizeOk, rowBad, extraLoad, badRow, isFine, faultOf}
+use Rattle.site.specs.Reach.{reaches, clashIn, clashOf, clashAnswer}
+use Rattle.site.specs.Edit.{orElse, loadEditFault, reachEditFault, answered, setLoadOf, setReachOf, clearReachOf}
+use Rattle.site.specs.Means.{UpTo, Reaches, Sized, LoadBeyond, RowGood, FaultMeans, Clashing, ClashMeans, EditMeans, Two}
+use Rattle.site.specs.declared.Site.{Site}
+use Rattle.site.specs.declared.Fault.{Fault}
+use Rattle.site.specs.declared.Fault.the-variants.{Fine, Size, Load, Reach}
+use Rattle.site.specs.declared.ClashAnswer.{ClashAnswer}
+use Rattle.site.specs.declared.ClashAnswer.the-variants.{Clear, Clash, Refused}
+use Rattle.site.proofs.Faults.{fine-is, up-to, up-to-is, sized, sizes-is}
+use Rattle.site.proofs.Accepted.{row-ok, ok-row, row-none}
+
+-- ---- a site of zeros
+
+pub zeros : (zeroSite .cells ≡ 0) × (zeroSite .slots ≡ 0) × (zeroSite .channels ≡ 0)
+    × (zeroSite .loads ≡ 0 ∷ 0 ∷ 0 ∷ 0 ∷ 0 ∷ 0 ∷ 0 ∷ 0 ∷ 0 ∷ 0 ∷ 0 ∷ 0 ∷ 0 ∷ 0 ∷ 0 ∷ 0 ∷ 0 ∷ 0 ∷ 0 ∷ 0 ∷ 0 ∷ 0 ∷ 0 ∷ 0 ∷ 0 ∷ 0 ∷ 0 ∷ 0 ∷ 0 ∷ 0 ∷ 0 ∷ 0 ∷ [])
+    × (zeroSite .reach ≡ 0 ∷ 0 ∷ 0 ∷ 0 ∷ 0 ∷ 0 ∷ 0 ∷ 0 ∷ 0 ∷ 0 ∷ 0 ∷ 0 ∷ 0 ∷ 0 ∷ 0 ∷ 0 ∷ 0 ∷ 0 ∷ 0 ∷ 0 ∷ 0 ∷ 0 ∷ 0 ∷ 0 ∷ 0 ∷ 0 ∷ 0 ∷ 0 ∷ 0 ∷ 0 ∷ 0 ∷ 0 ∷ [])
+unfolding zeroSite
+zeros = (refl, refl, refl, refl, refl)
+
+-- ---- rows
+
+module _ (n x k : ℕ) where
+  -- a row that is no fault has no bit past the cells, and not its own
+  bits-within : rowBad n x k ≡ false → (b : ℕ) → n ≤ b → bitAt x b ≡ false
+  bits-within e b l =
+      ⊎-elim (λ h. bit-past x b n (row-ok n x k (ltb-true k n h) e .0) l)
+      (λ h. rw (row-none n x k (ltb-false k n h) e) (bit-above 0 b (pow-pos b)))
+      (cases (ltb k n))
+
+  bits-others : rowBad n x k ≡ false → bitAt x k ≡ false
+  bits-others e = ⊎-elim (λ h. row-ok n x k (ltb-true k n h) e .1) (λ h. bits-within e k (ltb-false k n h)) (cases (ltb k n))
+
+  -- a number is below a power of two
+  below : (y : ℕ) → y < 2 ^ y
+  below zero = omega arith
+  below (suc y) = omega (arith, below y, two-pow-succ y)
+
+  none-good : n ≤ k → x ≡ 0 → rowBad n x k ≡ false
+  unfolding rowBad
+  none-good l e = simp (le-ltb k n l, e)
+
+  bits-good : (n ≤ k → x ≡ 0) → ((b : ℕ) → n ≤ b → bitAt x b ≡ false) → bitAt x k ≡ false → rowBad n x k ≡ false
+  bits-good used within others =
+      ⊎-elim
+      (λ h. ok-row n x k (ltb-true k n h)
+      (no-bits x n x (lt-of-lt-of-le (below x) (pow-mono (omega arith))) (λ b l m q. true≢false (sym (eq-eqb _ _ q) ∙ within b l))) others)
+      (λ h. none-good (ltb-false k n h) (used (ltb-false k n h)))
+      (cases (ltb k n))
+
+module _ (s : Site) (r : ℕ) (some : 1 ≤ r) where
+  row-good : rowBad (s .cells) (rowOf s (r - 1)) (r - 1) ≡ false → RowGood s r
+  row-good e = record {
+    used = λ l. row-none (s .cells) (rowOf s (r - 1)) (r - 1) (omega arith) e;
+    within = λ b l q. eqb-false _ _ (bits-within (s .cells) (rowOf s (r - 1)) (r - 1) e (b - 1) (omega arith)) q;
+    others = λ q. eqb-false _ _ (bits-others (s .cells) (rowOf s (r - 1)) (r - 1) e) q;
+  }
+
+  good-row : RowGood s r → rowBad (s .cells) (rowOf s (r - 1)) (r - 1) ≡ false
+  good-row g =
+      bits-good (s .cells) (rowOf s (r - 1)) (r - 1) (λ l. g .used (omega arith))
+      (λ b l. ne-eqb _ _ (λ q. g .within (b + 1) (omega arith) (rw (back b) q)))
+      (ne-eqb _ _ (g .others))
+    where
+      back : (b : ℕ) → b + 1 - 1 ≡ b
+      back b = omega arith
+
+-- ---- the faults of a record
+
+module _ (s : Site) where
+  abbrev load-set : ℕ → Bool
+  load-set k = ltb 0 (loadAt s k)
+
+  abbrev row-bad : ℕ → Bool
+  row-bad k = rowBad (s .cells) (rowOf s k) k
+
+  back : (k : ℕ) → k + 1 - 1 ≡ k
+  back k = omega arith
+
+  -- no load is set beyond the cells before the one that the search finds
+  none-before : (k : ℕ) → k ≤ extraLoad s → LoadBeyond s k → ⊥
+  unfolding extraLoad
+  none-before k l (past, most, set) =
+      let none : loadAt s (k - 1) ≤ 0 = ltb-false 0 (loadAt s (k - 1)) (first-before load-set (s .cells) 32 (k - 1) (omega arith) (omega arith)) in
+      omega arith
+
+  found-load : s .cells ≤ 32 → extraLoad s < 32 → LoadBeyond s (extraLoad s + 1)
+  unfolding extraLoad
+  found-load most l =
+      let low : s .cells ≤ extraLoad s = first-least load-set (s .cells) 32 in
+      (omega arith, omega arith, rw (back (extraLoad s)) (ltb-true 0 (loadAt s (extraLoad s)) (first-passes load-set (s .cells) 32 most l)))
+
+  good-before : (k : ℕ) → 1 ≤ k → k ≤ badRow s → RowGood s k
+  unfolding badRow
+  good-before k some l = row-good s k some (first-before row-bad 0 32 (k - 1) (omega arith) (omega arith))
+
+  found-row : badRow s < 32 → RowGood s (badRow s + 1) → ⊥
+  unfolding badRow
+  found-row l g =
+      let bad : row-bad (badRow s) ≡ true = first-passes row-bad 0 32 (omega arith) l in
+      true≢false (sym bad ∙ (rw (back (badRow s)) at (good-row s (badRow s + 1) (omega arith) g)))
+
+  means-at : (t u v : Bool) → sizeOk (s .cells) (s .slots) (s .channels) ≡ t → ltb (extraLoad s) 32 ≡ u → ltb (badRow s) 32 ≡ v
+      → FaultMeans s (pick t (pick u (Load (extraLoad s + 1)) (pick v (Reach (badRow s + 1)) Fine)) Size)
+  means-at false u v p q r = λ z. true≢false (sym (sizes-is _ _ _ z) ∙ p)
+  means-at true true v p q r =
+      let z = sized s p in
+      (z, found-load (z .cells-most) (ltb-true _ _ q), λ k l. none-before k (omega arith))
+  means-at true false true p q r =
+      let l : 32 ≤ extraLoad s = ltb-false _ _ q in
+      let b : badRow s < 32 = ltb-true _ _ r in
+      (sized s p, (λ k h. none-before k (omega (arith, h .1)) h), (omega arith, omega arith), found-row b, λ k some m. good-before k some (omega arith))
+  means-at true false false p q r =
+      let l : 32 ≤ extraLoad s = ltb-false _ _ q in
+      let b : 32 ≤ badRow s = ltb-false _ _ r in
+      (sized s p, (λ k h. none-before k (omega (arith, h .1)) h), λ k u. good-before k (u .0) (omega (arith, u .1)))
+
+  -- the fault that a record has means what is the case ..
+  pub fault-means : FaultMeans s (faultOf s)
+  unfolding faultOf
+  fault-means = means-at (sizeOk (s .cells) (s .slots) (s .channels)) (ltb (extraLoad s) 32) (ltb (badRow s) 32) refl refl refl
+
+  no-load : Sized s → ((k : ℕ) → LoadBeyond s k → ⊥) → extraLoad s ≡ 32
+  unfolding extraLoad
+  no-load z none =
+      first-none load-set (s .cells) 32 (z .cells-most)
+      (λ j l h. le-ltb _ _ (at-least _ _ (λ q. none (j + 1) (omega arith, omega arith, rw (back j) q))))
+
+  good-at : (j : ℕ) → RowGood s (j + 1) → row-bad j ≡ false
+  good-at j g = rw (back j) at (good-row s (j + 1) (omega arith) g)
+
+  -- .. and the one that means what is the case is the one that it has
+  pub fault-only : (f : Fault) → FaultMeans s f → faultOf s ≡ f
+  unfolding faultOf extraLoad badRow
+  fault-only Size n = rw (refute (sizeOk (s .cells) (s .slots) (s .channels)) (λ e. n (sized s e)))
+  fault-only (Load c) (z, (past, most, set), low) =
+      let e : extraLoad s ≡ c - 1 = first-is load-set (s .cells) (c - 1) 32 (omega arith) (omega arith) (lt-ltb 0 (loadAt s (c - 1)) (omega arith))
+      (λ j l h. le-ltb _ _ (at-least _ _ (λ q. low (j + 1) (omega arith) (omega arith, omega arith, rw (back j) q)))) in
+      let n : c - 1 + 1 ≡ c = omega arith in
+      simp (sizes-is _ _ _ z, e, lt-ltb (c - 1) 32 (omega arith), n)
+  fault-only (Reach r) (z, none, (some, most), bad, low) =
+      let e : badRow s ≡ r - 1 = first-is row-bad 0 (r - 1) 32 (omega arith) (omega arith)
+      (not-false' _ (λ q. bad (row-good s r some q)))
+      (λ j l h. good-at j (low (j + 1) (omega arith) (omega arith))) in
+      let n : r - 1 + 1 ≡ r = omega arith in
+      simp (sizes-is _ _ _ z, no-load z none, e, lt-ltb (r - 1) 32 (omega arith), n)
+    where
+      not-false' : (b : Bool) → (b ≡ false → ⊥) → b ≡ true
+      not-false' true h = refl
+      not-false' false h = absurd (h refl)
+  fault-only Fine (z, none, good) =
+      let e : badRow s ≡ 32 = first-none row-bad 0 32 (omega arith) (λ j l h. good-at j (good (j + 1) (omega arith, omega arith))) in
+      simp (sizes-is _ _ _ z, no-load z none, e)
+
+-- ---- clash
+
+-- a fault is not Fine
+pub no-fine : (f : Fault) → (f ≡ Fine → ⊥) → isFine f ≡ false
+no-fine f n = refute (isFine f) (λ e. n (fine-is f e))
+
+one-of : (x y : Bool) → (x || y) ≡ true → (x ≡ true) ⊎ (y ≡ true)
+one-of true y e = inl refl
+one-of false y e = inr e
+
+is-one-of : (x y : Bool) → (x ≡ true) ⊎ (y ≡ true) → (x || y) ≡ true
+is-one-of x y (inl e) = rw e
+is-one-of x y (inr e) = rw e (or-true x)
+
+module _ (s : Site) (a b : ℕ) where
+  abbrev asked : Bool
+  asked = upTo (s .cells) a && (upTo (s .cells) b && clashOf s (a - 1) (b - 1))
+
+  is-clashing : asked ≡ true → Clashing s a b
+  unfolding clashIn reaches
+  is-clashing e =
+      let h = both _ _ e in
+      let g = both _ _ (h .1) in
+      let c = both _ _ (g .1) in
+      record {
+        first-in = up-to _ _ (h .0);
+        second-in = up-to _ _ (g .0);
+        two = λ q. eqb-false (a - 1) (b - 1) (not-true _ (c .0)) (ap (λ (n : ℕ). n - 1) q);
+        either = ⊎-elim (λ q. inl (eqb-true _ _ q)) (λ q. inr (eqb-true _ _ q)) (one-of (reaches (s .reach) (a - 1) (b - 1)) (reaches (s .reach) (b - 1) (a - 1)) (c .1));
+      }
+
+  clashing-is : Clashing s a b → asked ≡ true
+  unfolding clashIn reaches
+  clashing-is c =
+      let differ : eqb (a - 1) (b - 1) ≡ false = ne-eqb _ _ (λ (q : a - 1 ≡ b - 1). c .two (omega (arith, c .first-in, c .second-in))) in
+      simp (up-to-is _ _ (c .first-in), up-to-is _ _ (c .second-in), differ)
+      (is-one-of (reaches (s .reach) (a - 1) (b - 1)) (reaches (s .reach) (b - 1) (a - 1))
+      (⊎-elim (λ q. inl (eq-eqb _ _ q)) (λ q. inr (eq-eqb _ _ q)) (c .either)))
+
+  clash-at : (f : Fault) (t : Bool) → faultOf s ≡ f → asked ≡ t → ClashMeans s a b (pick (isFine f) (pick t Clash Clear) (Refused f))
+  clash-at Fine true p q = (p, is-clashing q)
+  clash-at Fine false p q = (p, λ c. true≢false (sym (clashing-is c) ∙ q))
+  clash-at Size t p q = (p, λ e. true≢false (sym (ap isFine e)))
+  clash-at (Load k) t p q = (p, λ e. true≢false (sym (ap isFine e)))
+  clash-at (Reach k) t p q = (p, λ e. true≢false (sym (ap isFine e)))
+
+  pub clash-means : ClashMeans s a b (clashAnswer s a b)
+  unfolding clashAnswer
+  clash-means = clash-at (faultOf s) asked refl refl
+
+  pub clash-only : (r : ClashAnswer) → ClashMeans s a b r → clashAnswer s a b ≡ r
+  unfolding clashAnswer
+  clash-only Clash (p, c) = simp (p, clashing-is c)
+  clash-only Clear (p, n) = simp (p, refute asked (λ e. n (is-clashing e)))
+  clash-only (Refused f) (p, n) = simp (p, no-fine f n)
+
+-- ---- edits
+
+edit-means : (s : Site) (Named : Type 0) (own : Fault) (t : Bool) → (Named → t ≡ true) → (t ≡ true → Named) → EditMeans s Named own (orElse (faultOf s) (pick t Fine own))
+unfolding orElse
+edit-means s Named own t does named = record {
+  faulty = λ n. rw (no-fine (faultOf s) n);
+  done = λ e h. simp (e, does h);
+  refused = λ e n. simp (e, refute t (λ q. n (named q)));
+}
+
+pub set-load-answer : (s : Site) (cell v : ℕ) → EditMeans s (UpTo (s .cells) cell) (Load cell) (setLoadOf s cell v .answer)
+unfolding setLoadOf answered loadEditFault
+set-load-answer s cell v = edit-means s (UpTo (s .cells) cell) (Load cell) (upTo (s .cells) cell) (up-to-is _ _) (up-to _ _)
+
+reach-means : (s : Site) (from to : ℕ) → EditMeans s (Two s from to) (Reach from) (reachEditFault s from to)
+unfolding reachEditFault
+reach-means s from to =
+    edit-means s (Two s from to) (Reach from) (upTo (s .cells) from && (upTo (s .cells) to && not (eqb from to)))
+    (λ h. simp (up-to-is _ _ (h .0), up-to-is _ _ (h .1), ne-eqb _ _ (h .2)))
+    (λ e. let h = both _ _ e in let g = both _ _ (h .1) in (up-to _ _ (h .0), up-to _ _ (g .0), eqb-false _ _ (not-true _ (g .1))))
+
+pub set-reach-answer : (s : Site) (from to : ℕ) → EditMeans s (Two s from to) (Reach from) (setReachOf s from to .answer)
+unfolding setReachOf answered
+set-reach-answer s from to = reach-means s from to
+
+pub clear-reach-answer : (s : Site) (from to : ℕ) → EditMeans s (Two s from to) (Reach from) (clearReachOf s from to .answer)
+unfolding clearReachOf answered
+clear-reach-answer s from to = reach-means s from to
