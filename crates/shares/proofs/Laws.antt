@@ -1,29 +1,44 @@
--- Rounding up is exact, the delay bound is never above T + p, document 01's worked shares, and what a fair flow's answer is. Rounding up is the least number of b's
--- that make a: enough of them by the division's remainder, and no more since one less is below a. Assumes nothing.
-use Prim.Native.Nat.{ℕ, zero, suc, _+_, _-_, _*_, _≤_, _<_}
+-- Rounding up is exact, the delay bound is never above T + p, and what a fair flow's answer is. Rounding up is the least number of b's that make a: enough of them by the
+-- division's remainder, and no more since one less is below a. Assumes nothing.
+use Prim.Native.Nat.{ℕ, zero, suc, _+_, _*_, _/_, _%_, _≤_, _<_}
+use mathlib.Core.Bool.{Bool, true, false}
+use mathlib.Core.Logic.{⊎-elim}
 use mathlib.Core.Path.{_≡_, refl}
-use mathlib.Core.List.{[], _∷_}
-use native.Mathlib.Nat.{div-lt-iff-lt-mul, lt-div-mul-add, mul-comm, mul-le-mul, add-mul, one-mul}
-use lib.Dec.{ltb}
-use borrow.Author.Tests.{le-ltb}
+use native.Mathlib.Nat.{div-add-mod', div-lt-iff-lt-mul, lt-div-mul-add, mul-comm, mul-le-mul, mul-mod-left, add-mul, zero-mul, one-mul, eq-or-lt-of-le}
+use lib.Dec.{leb, eqb}
+use borrow.Author.Tests.{le-leb, eqb-true, eqb-false}
 use native.Mathlib.Omega.{arith}
 use Rattle.laws.specs.Choice.{pick}
+use Rattle.site.specs.Means.{UpTo}
+use Rattle.site.proofs.Faults.{up-to-is}
 use Rattle.shares.specs.Share.{roundedUp, shareNeeded, queueBound, delayBound, shareOf}
 use Rattle.shares.specs.declared.Fragments.{Fragments}
 use Rattle.shares.specs.declared.Slots.{Slots}
-use Rattle.shares.specs.declared.ShareAnswer.the-variants.{Done, OutOfRange, ZeroFlow, BigShare}
+use Rattle.shares.specs.declared.ShareAnswer.the-variants.{Done, BigShare}
+
+module _ (a b : ℕ) (some : 0 < b) where
+  enough-at : (t : Bool) → eqb (a % b) 0 ≡ t → a ≤ (a / b + pick t 0 1) * b
+  enough-at true e = let z : a % b ≡ 0 = eqb-true _ _ e in omega (arith, div-add-mod' a b, add-mul (a / b) 0 b, zero-mul b)
+  enough-at false e = omega (arith, lt-div-mul-add {a = a} {b = b} some, add-mul (a / b) 1 b, one-mul b)
+
+  least-at : (m : ℕ) (t : Bool) → a ≤ m * b → eqb (a % b) 0 ≡ t → a / b + pick t 0 1 ≤ m
+  least-at m true h e =
+      let l : a < (m + 1) * b = omega (arith, add-mul m 1 b, one-mul b) in
+      omega (arith, div-lt-iff-lt-mul {k = b} {x = a} {y = m + 1} some .1 l)
+  least-at m false h e =
+      let n : a ≡ m * b → ⊥ = λ q. eqb-false (a % b) 0 e (rw q (mul-mod-left m b)) in
+      let l : a < m * b = ⊎-elim (λ q. absurd (n q)) (λ q. q) (eq-or-lt-of-le h) in
+      omega (arith, div-lt-iff-lt-mul {k = b} {x = a} {y = m} some .1 l)
 
 -- a / b rounded up is enough of b's to make a ..
 pub up-enough : (a b : ℕ) → 0 < b → a ≤ roundedUp a b * b
 unfolding roundedUp
-up-enough a b h = omega (arith, lt-div-mul-add {a = a + (b - 1)} {b = b} h)
+up-enough a b h = enough-at a b h (eqb (a % b) 0) refl
 
 -- .. and the least such number
 pub up-least : (a b m : ℕ) → 0 < b → a ≤ m * b → roundedUp a b ≤ m
 unfolding roundedUp
-up-least a b m h e =
-    let l : a + (b - 1) < (m + 1) * b = omega (arith, add-mul m 1 b, one-mul b) in
-    omega (arith, div-lt-iff-lt-mul {k = b} {x = a + (b - 1)} {y = m + 1} h .1 l)
+up-least a b m h e = least-at a b h m (eqb (a % b) 0) e refl
 
 pub up-pos : (a b : ℕ) → 0 < a → 0 < b → 0 < roundedUp a b
 up-pos a b ha hb = pos (roundedUp a b) (up-enough a b hb)
@@ -50,37 +65,27 @@ delay-most t c p ht hc hp =
       up-least (c * t) (shareNeeded t c p) p (up-pos (c * t) p (product t c ht hc) hp) (rw (mul-comm p (shareNeeded t c p)) (share-enough t c p hp)),
     )
 
--- "T=3: (3,4) gives share 3, queue 6, delay 6; (3,5) gives share 2, queue 5, delay 8", and one of each refusal
-pub worked : shareOf 3 3 4 ∷ shareOf 3 3 5 ∷ shareOf 0 0 0 ∷ shareOf 129 3 4 ∷ shareOf 3 0 4 ∷ shareOf 3 3 0 ∷ shareOf 128 65535 1 ∷ [] ≡
-    Done (record { 0 = 3 }) (record { 0 = 6 }) (record { 0 = 6 }) ∷ Done (record { 0 = 2 }) (record { 0 = 5 }) (record { 0 = 8 }) ∷ OutOfRange ∷ OutOfRange ∷ ZeroFlow ∷ ZeroFlow
-    ∷ BigShare ∷ []
-unfolding shareOf roundedUp
-worked = refl
-
 -- what passes the first two refusals
 pub record Fair (t c p : ℕ) : Type 0 where
-  pub t-least : 1 ≤ t
-  pub t-most : t ≤ 128
-  pub c-least : 1 ≤ c
-  pub c-most : c ≤ 65535
-  pub p-least : 1 ≤ p
-  pub p-most : p ≤ 65535
+  pub slots : UpTo 128 t
+  pub burst : UpTo 65535 c
+  pub period : UpTo 65535 p
 
 module _ (t c p : ℕ) (f : Fair t c p) where
   pub fair-product-most : c * t ≤ 8388480
-  fair-product-most = mul-le-mul (f .c-most) (f .t-most)
+  fair-product-most = mul-le-mul (f .burst .1) (f .slots .1)
 
   pub fair-pos : 0 < shareNeeded t c p
-  fair-pos = up-pos (c * t) p (product t c (f .t-least) (f .c-least)) (f .p-least)
+  fair-pos = up-pos (c * t) p (product t c (f .slots .0) (f .burst .0)) (f .period .0)
 
   pub fair-delay : roundedUp (c * t) (shareNeeded t c p) ≤ p
-  fair-delay = omega (arith, delay-most t c p (f .t-least) (f .c-least) (f .p-least))
+  fair-delay = omega (arith, delay-most t c p (f .slots .0) (f .burst .0) (f .period .0))
 
-  pub fair-share : shareOf t c p ≡ pick (ltb 65535 (shareNeeded t c p)) BigShare
-      (Done (record { 0 = shareNeeded t c p }) (record { 0 = queueBound t c p }) (record { 0 = delayBound t c p }))
+  pub fair-share : shareOf t c p ≡ pick (leb (shareNeeded t c p) 65535)
+      (Done (record { 0 = shareNeeded t c p }) (record { 0 = queueBound t c p }) (record { 0 = delayBound t c p })) BigShare
   unfolding shareOf
-  fair-share = simp (le-ltb t 1 (f .t-least), le-ltb 128 t (f .t-most), le-ltb c 1 (f .c-least), le-ltb p 1 (f .p-least))
+  fair-share = simp (up-to-is 128 t (f .slots), up-to-is 65535 c (f .burst), up-to-is 65535 p (f .period))
 
   pub fair-done : (s q : Fragments) (d : Slots) → shareNeeded t c p ≤ 65535 → s .0 ≡ shareNeeded t c p → q .0 ≡ queueBound t c p
       → d .0 ≡ delayBound t c p → Done s q d ≡ shareOf t c p
-  fair-done s q d h es eq ed = rw (fair-share, le-ltb 65535 (shareNeeded t c p) h) (λ i. Done (record { 0 = es i }) (record { 0 = eq i }) (record { 0 = ed i }))
+  fair-done s q d h es eq ed = rw (fair-share, le-leb (shareNeeded t c p) 65535 h) (λ i. Done (record { 0 = es i }) (record { 0 = eq i }) (record { 0 = ed i }))

@@ -2,10 +2,10 @@
 use mathlib.Core.List.{[], _∷_}
 use Rattle.site.specs.Given.{Given}
 use Rattle.shares.specs.declared.ShareAnswer.{ShareAnswer}
-use Rattle.shares.specs.declared.ShareAnswer.the-variants.{Done, OutOfRange, ZeroFlow, BigShare}
+use Rattle.shares.specs.declared.ShareAnswer.the-variants.{Done, OutOfRange, BadFlow, BigShare}
 
 abbrev pub shareGiven : ShareAnswer → Given
 shareGiven (Done share queue delay) = record { number = 0; values = share .0 ∷ queue .0 ∷ delay .0 ∷ [] }
 shareGiven OutOfRange = record { number = 1; values = [] }
-shareGiven ZeroFlow = record { number = 15; values = [] }
+shareGiven BadFlow = record { number = 15; values = [] }
 shareGiven BigShare = record { number = 16; values = [] }

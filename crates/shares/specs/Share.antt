@@ -1,14 +1,15 @@
 -- The share of a flow: T slots in a superframe, burst c in fragments, period p in slots.
-use Prim.Native.Nat.{ℕ, _+_, _-_, _*_, _/_}
-use mathlib.Core.Bool.{_||_}
-use lib.Dec.{ltb}
+use Prim.Native.Nat.{ℕ, _+_, _*_, _/_, _%_}
+use mathlib.Core.Bool.{_&&_}
+use lib.Dec.{leb, eqb}
 use Rattle.laws.specs.Choice.{pick}
+use Rattle.site.specs.Record.{upTo}
 use Rattle.shares.specs.declared.ShareAnswer.{ShareAnswer}
-use Rattle.shares.specs.declared.ShareAnswer.the-variants.{Done, OutOfRange, ZeroFlow, BigShare}
+use Rattle.shares.specs.declared.ShareAnswer.the-variants.{Done, OutOfRange, BadFlow, BigShare}
 
--- a / b "rounded up"
+-- a / b "rounded up": the quotient, and one more where something is left over
 unfoldable pub roundedUp : ℕ → ℕ → ℕ
-roundedUp a b = (a + (b - 1)) / b
+roundedUp a b = a / b + pick (eqb (a % b) 0) 0 1
 
 -- "Share = cT/p rounded up (000, inequality 5)."
 abbrev pub shareNeeded : ℕ → ℕ → ℕ → ℕ
@@ -22,10 +23,14 @@ queueBound t c p = c + shareNeeded t c p
 abbrev pub delayBound : ℕ → ℕ → ℕ → ℕ
 delayBound t c p = t + roundedUp (c * t) (shareNeeded t c p)
 
--- "Share: 1 (T out of range), 15, 16": T is 1 to 128; "burst or period is 0"; "share above 65,535"
+-- "slots T 1 to 128"; "Burst c in fragments, period p in slots, each 1 to 65,535"; "share above 65,535". "Share: 1 (T out of range), 15, 16."
+-- 15 is "burst or period is 0"; it is given for one above 65,535 too, for which the document has no other number.
 unfoldable pub shareOf : ℕ → ℕ → ℕ → ShareAnswer
 shareOf t c p =
-    pick (ltb t 1 || ltb 128 t) OutOfRange
-    (pick (ltb c 1 || ltb p 1) ZeroFlow
-    (pick (ltb 65535 (shareNeeded t c p)) BigShare
-    (Done (record { 0 = shareNeeded t c p }) (record { 0 = queueBound t c p }) (record { 0 = delayBound t c p }))))
+    pick (upTo 128 t)
+    (pick (upTo 65535 c && upTo 65535 p)
+    (pick (leb (shareNeeded t c p) 65535)
+    (Done (record { 0 = shareNeeded t c p }) (record { 0 = queueBound t c p }) (record { 0 = delayBound t c p }))
+    BigShare)
+    BadFlow)
+    OutOfRange

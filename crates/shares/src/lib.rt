@@ -1,4 +1,5 @@
 // The share of a flow (000, inequality 5), with the bounds on its queue and its delay. Slots and fragments are two units: no function here adds one to the other.
+use site::within;
 ghost use mathlib.Core.Path.{_≡_};
 ghost use Prim.Native.Nat.{_+_, _*_, _≤_, _<_};
 ghost use Rattle.shares.specs.Share.{roundedUp, shareOf};
@@ -9,25 +10,29 @@ pub struct Slots(pub u32);
 // A number of fragments.
 pub struct Fragments(pub u32);
 
-// The share, the bound on the queue and the bound on the delay; or T is out of range, the burst or the period is 0, the share is above 65,535.
+// The share, the bound on the queue and the bound on the delay; or T is out of range, the burst or the period is, the share is above 65,535.
 pub enum ShareAnswer {
     Done(Fragments, Fragments, Slots),
     OutOfRange,
-    ZeroFlow,
+    BadFlow,
     BigShare,
 }
 
-// a / b rounded up.
+// a / b rounded up: one more than the quotient where something is left over. Nothing is added to a, which may be fragments times slots.
 fn rounded_up(a: u32, b: u32) -> u32
-    requires { ⌜ (0 < b) × (a ≤ 8388480) × (b ≤ 65535) ⌝ }
+    requires { ⌜ (0 < b) × (a ≤ 8388480) ⌝ }
     ensures { λ r. ⌜ r ≡ roundedUp a b ⌝ }
 {
-    (a + (b - 1)) / b
+    let q = a / b;
+    if a % b == 0 {
+        return q;
+    }
+    q + 1
 }
 
 // What the bursts come to in a superframe.
 fn share_for(burst: Fragments, period: Slots, slots: Slots) -> Fragments
-    requires { ⌜ (0 < period .0) × (period .0 ≤ 65535) × (burst .0 * slots .0 ≤ 8388480) ⌝ }
+    requires { ⌜ (0 < period .0) × (burst .0 * slots .0 ≤ 8388480) ⌝ }
     ensures { λ r. ⌜ r .0 ≡ roundedUp (burst .0 * slots .0) (period .0) ⌝ }
 {
     Fragments(rounded_up(burst.0 * slots.0, period.0))
@@ -35,7 +40,7 @@ fn share_for(burst: Fragments, period: Slots, slots: Slots) -> Fragments
 
 // How long a burst takes at a share.
 fn time_for(burst: Fragments, share: Fragments, slots: Slots) -> Slots
-    requires { ⌜ (0 < share .0) × (share .0 ≤ 65535) × (burst .0 * slots .0 ≤ 8388480) ⌝ }
+    requires { ⌜ (0 < share .0) × (burst .0 * slots .0 ≤ 8388480) ⌝ }
     ensures { λ r. ⌜ r .0 ≡ roundedUp (burst .0 * slots .0) (share .0) ⌝ }
 {
     Slots(rounded_up(burst.0 * slots.0, share.0))
@@ -57,30 +62,24 @@ fn add_slots(a: Slots, b: Slots) -> Slots
     Slots(a.0 + b.0)
 }
 
-// The share of a flow with its bounds: T is `slots`, the burst in fragments, the period in slots.
-pub fn share(slots: u16, burst: u16, period: u16) -> ShareAnswer
-    ensures { λ r. ⌜ r ≡ shareOf slots burst period ⌝ }
+// The share of a flow with its bounds: T is `slots`.
+pub fn share(slots: Slots, burst: Fragments, period: Slots) -> ShareAnswer
+    ensures { λ r. ⌜ r ≡ shareOf (slots .0) (burst .0) (period .0) ⌝ }
 {
-    if slots < 1 {
+    if !within(slots.0 as usize, 128) {
         return ShareAnswer::OutOfRange;
     }
-    if 128 < slots {
-        return ShareAnswer::OutOfRange;
+    if !within(burst.0 as usize, 65535) {
+        return ShareAnswer::BadFlow;
     }
-    if burst < 1 {
-        return ShareAnswer::ZeroFlow;
+    if !within(period.0 as usize, 65535) {
+        return ShareAnswer::BadFlow;
     }
-    if period < 1 {
-        return ShareAnswer::ZeroFlow;
-    }
-    let t = Slots(slots as u32);
-    let c = Fragments(burst as u32);
-    let p = Slots(period as u32);
-    let s = share_for(c, p, t);
+    let s = share_for(burst, period, slots);
     if 65535 < s.0 {
         return ShareAnswer::BigShare;
     }
-    let queue = add_fragments(c, s);
-    let delay = add_slots(t, time_for(c, s, t));
+    let queue = add_fragments(burst, s);
+    let delay = add_slots(slots, time_for(burst, s, slots));
     ShareAnswer::Done(s, queue, delay)
 }

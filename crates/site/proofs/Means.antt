@@ -9,17 +9,16 @@ use native.Mathlib.Omega.{arith}
 use native.Mathlib.Nat.{two-pow-succ, lt-of-lt-of-le}
 use borrow.Author.Tests.{ltb-true, ltb-false, lt-ltb, le-ltb, eqb-true, eqb-false, eq-eqb, ne-eqb, not-true}
 use lib.Dec.{ltb, eqb}
-use lib.ListN.{getD}
 use lib.Pow.{pow-pos, pow-mono}
 use Rattle.laws.specs.Choice.{pick}
 use Rattle.laws.specs.Bits.{bitAt}
-use Rattle.laws.proofs.Choice.{cases, refute, both, both-is, at-least}
+use Rattle.laws.proofs.Choice.{cases, refute, both, at-least}
 use Rattle.laws.proofs.Search.{first-least, first-passes, first-before, first-none, first-is}
 use Rattle.laws.proofs.Bits.{bit-above, bit-past, no-bits}
 use Rattle.site.specs.Record.{zeroSite, loadAt, rowOf, upTo, sizeOk, rowBad, extraLoad, badRow, isFine, faultOf}
-use Rattle.site.specs.Reach.{reaches, clashIn, clashOf, clashAnswer}
+use Rattle.site.specs.Reach.{reaches, clashIn, clashNamed, clashAnswer}
 use Rattle.site.specs.Edit.{orElse, loadEditFault, reachEditFault, answered, setLoadOf, setReachOf, clearReachOf}
-use Rattle.site.specs.Means.{UpTo, Reaches, Sized, LoadBeyond, RowGood, FaultMeans, Clashing, ClashMeans, EditMeans, Two}
+use Rattle.site.specs.Means.{UpTo, Sized, LoadBeyond, RowGood, FaultMeans, Clashing, ClashMeans, EditMeans, Two}
 use Rattle.site.specs.declared.Site.{Site}
 use Rattle.site.specs.declared.Fault.{Fault}
 use Rattle.site.specs.declared.Fault.the-variants.{Fine, Size, Load, Reach}
@@ -185,23 +184,21 @@ is-one-of x y (inl e) = rw e
 is-one-of x y (inr e) = rw e (or-true x)
 
 module _ (s : Site) (a b : ℕ) where
-  abbrev asked : Bool
-  asked = upTo (s .cells) a && (upTo (s .cells) b && clashOf s (a - 1) (b - 1))
-
-  is-clashing : asked ≡ true → Clashing s a b
+  is-clashing : clashNamed s a b ≡ true → Clashing s a b
   unfolding clashIn reaches
   is-clashing e =
       let h = both _ _ e in
       let g = both _ _ (h .1) in
       let c = both _ _ (g .1) in
+      let differ : a - 1 ≡ b - 1 → ⊥ = eqb-false _ _ (not-true _ (c .0)) in
       record {
         first-in = up-to _ _ (h .0);
         second-in = up-to _ _ (g .0);
-        two = λ q. eqb-false (a - 1) (b - 1) (not-true _ (c .0)) (ap (λ (n : ℕ). n - 1) q);
+        two = λ q. differ (omega arith);
         either = ⊎-elim (λ q. inl (eqb-true _ _ q)) (λ q. inr (eqb-true _ _ q)) (one-of (reaches (s .reach) (a - 1) (b - 1)) (reaches (s .reach) (b - 1) (a - 1)) (c .1));
       }
 
-  clashing-is : Clashing s a b → asked ≡ true
+  clashing-is : Clashing s a b → clashNamed s a b ≡ true
   unfolding clashIn reaches
   clashing-is c =
       let differ : eqb (a - 1) (b - 1) ≡ false = ne-eqb _ _ (λ (q : a - 1 ≡ b - 1). c .two (omega (arith, c .first-in, c .second-in))) in
@@ -209,7 +206,7 @@ module _ (s : Site) (a b : ℕ) where
       (is-one-of (reaches (s .reach) (a - 1) (b - 1)) (reaches (s .reach) (b - 1) (a - 1))
       (⊎-elim (λ q. inl (eq-eqb _ _ q)) (λ q. inr (eq-eqb _ _ q)) (c .either)))
 
-  clash-at : (f : Fault) (t : Bool) → faultOf s ≡ f → asked ≡ t → ClashMeans s a b (pick (isFine f) (pick t Clash Clear) (Refused f))
+  clash-at : (f : Fault) (t : Bool) → faultOf s ≡ f → clashNamed s a b ≡ t → ClashMeans s a b (pick (isFine f) (pick t Clash Clear) (Refused f))
   clash-at Fine true p q = (p, is-clashing q)
   clash-at Fine false p q = (p, λ c. true≢false (sym (clashing-is c) ∙ q))
   clash-at Size t p q = (p, λ e. true≢false (sym (ap isFine e)))
@@ -218,12 +215,12 @@ module _ (s : Site) (a b : ℕ) where
 
   pub clash-means : ClashMeans s a b (clashAnswer s a b)
   unfolding clashAnswer
-  clash-means = clash-at (faultOf s) asked refl refl
+  clash-means = clash-at (faultOf s) (clashNamed s a b) refl refl
 
   pub clash-only : (r : ClashAnswer) → ClashMeans s a b r → clashAnswer s a b ≡ r
   unfolding clashAnswer
   clash-only Clash (p, c) = simp (p, clashing-is c)
-  clash-only Clear (p, n) = simp (p, refute asked (λ e. n (is-clashing e)))
+  clash-only Clear (p, n) = simp (p, refute (clashNamed s a b) (λ e. n (is-clashing e)))
   clash-only (Refused f) (p, n) = simp (p, no-fine f n)
 
 -- ---- edits
