@@ -6,7 +6,9 @@ use planfile::PlanRead;
 use planfile::PlanWritten;
 use planner::PlanAnswer;
 use records::ReadAnswer;
+use shares::Fragments;
 use shares::ShareAnswer;
+use shares::Slots;
 use site::ClashAnswer;
 use site::Edited;
 use site::Fault;
@@ -144,7 +146,7 @@ fn share_answer(answer: ShareAnswer) -> Answer
             delay.0 as u64,
         ),
         ShareAnswer::OutOfRange => give(1, 0, 0, 0),
-        ShareAnswer::ZeroFlow => give(15, 0, 0, 0),
+        ShareAnswer::BadFlow => give(15, 0, 0, 0),
         ShareAnswer::BigShare => give(16, 0, 0, 0),
     }
 }
@@ -282,7 +284,11 @@ pub extern "C" fn dugg_check(site: Site, table: &[u8]) -> Answer
 pub extern "C" fn dugg_share(slots: u16, burst: u16, period: u16) -> Answer
     ensures { λ r. ⌜ r ≡ told (shareGiven (shareOf slots burst period)) ⌝ }
 {
-    share_answer(shares::share(slots, burst, period))
+    share_answer(shares::share(
+        Slots(slots as u32),
+        Fragments(burst as u32),
+        Slots(period as u32),
+    ))
 }
 
 #[no_mangle]
