@@ -3,6 +3,7 @@
 
 use crate::answer::{refuse, Outcome};
 use crate::site::MOST_SLOTS;
+use std::ops::RangeInclusive;
 
 #[derive(Clone, Copy, Debug, PartialEq, Eq)]
 pub struct Slots(pub u64);
@@ -17,12 +18,15 @@ pub struct Share {
     pub delay: Slots,
 }
 
+/// "each 1 to 65,535": what a burst and a period may be.
+const FLOW: RangeInclusive<u64> = 1..=65_535;
+
 /// The share and the two bounds; refusals 1 (T out of range), 15, 16.
 pub fn share(superframe: Slots, burst: Fragments, period: Slots) -> Outcome<Share> {
     if superframe.0 < 1 || superframe.0 > MOST_SLOTS as u64 {
         return refuse(1, &[]);
     }
-    if burst.0 == 0 || period.0 == 0 {
+    if !FLOW.contains(&burst.0) || !FLOW.contains(&period.0) {
         return refuse(15, &[]);
     }
     let work = burst.0 * superframe.0;
@@ -56,6 +60,8 @@ mod tests {
         assert_eq!(of(129, 1, 1), refuse(1, &[]));
         assert_eq!(of(1, 0, 1), refuse(15, &[]));
         assert_eq!(of(1, 1, 0), refuse(15, &[]));
+        assert_eq!(of(1, 65_536, 65_536), refuse(15, &[]));
+        assert_eq!(of(1, 1, 65_536), refuse(15, &[]));
         assert_eq!(of(2, 32_768, 1), refuse(16, &[]));
         assert_eq!(of(1, 65_535, 1), Ok((65_535, 131_070, 2)));
     }

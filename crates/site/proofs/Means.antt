@@ -1,14 +1,15 @@
 -- The definitions say what specs/Means.antt says, and nothing else: the fault or answer that a definition gives means what is the case, and the one that means what is the case
 -- is the one that it gives. Each search of a definition finds the lowest, and each test of a row is the test of its bits. Assumes nothing.
-use Prim.Native.Nat.{ℕ, zero, suc, _+_, _-_, _^_, _≤_, _<_}
+use Prim.Native.Nat.{ℕ, zero, suc, _+_, _-_, _/_, _%_, _^_, _≤_, _<_}
 use mathlib.Core.Bool.{Bool, true, false, not, _||_, _&&_, or-true, true≢false}
-use mathlib.Core.List.{[], _∷_}
+use mathlib.Core.List.{List, [], _∷_}
 use mathlib.Core.Logic.{_⊎_, inl, inr, ⊎-elim}
 use mathlib.Core.Path.{_≡_, refl, sym, ap, _∙_}
 use native.Mathlib.Omega.{arith}
 use native.Mathlib.Nat.{two-pow-succ, lt-of-lt-of-le}
 use borrow.Author.Tests.{ltb-true, ltb-false, lt-ltb, le-ltb, eqb-true, eqb-false, eq-eqb, ne-eqb, not-true}
 use lib.Dec.{ltb, eqb}
+use lib.ListN.{getD}
 use lib.Pow.{pow-pos, pow-mono}
 use Rattle.laws.specs.Choice.{pick}
 use Rattle.laws.specs.Bits.{bitAt}
@@ -183,28 +184,30 @@ is-one-of : (x y : Bool) → (x ≡ true) ⊎ (y ≡ true) → (x || y) ≡ true
 is-one-of x y (inl e) = rw e
 is-one-of x y (inr e) = rw e (or-true x)
 
+-- what clashes by index: two, one of which has the other's bit
+clash-bits : (rows : List ℕ) (i j : ℕ) → clashIn rows i j ≡ true → (i ≡ j → ⊥) × ((getD rows i 0 / 2 ^ j % 2 ≡ 1) ⊎ (getD rows j 0 / 2 ^ i % 2 ≡ 1))
+unfolding clashIn reaches
+clash-bits rows i j e =
+    let h = both _ _ e in
+    (eqb-false i j (not-true _ (h .0)), ⊎-elim (λ q. inl (eqb-true _ _ q)) (λ q. inr (eqb-true _ _ q)) (one-of (reaches rows i j) (reaches rows j i) (h .1)))
+
+bits-clash : (rows : List ℕ) (i j : ℕ) → (i ≡ j → ⊥) → (getD rows i 0 / 2 ^ j % 2 ≡ 1) ⊎ (getD rows j 0 / 2 ^ i % 2 ≡ 1) → clashIn rows i j ≡ true
+unfolding clashIn reaches
+bits-clash rows i j n h =
+    simp (ne-eqb i j n) (is-one-of (reaches rows i j) (reaches rows j i) (⊎-elim (λ q. inl (eq-eqb _ _ q)) (λ q. inr (eq-eqb _ _ q)) h))
+
 module _ (s : Site) (a b : ℕ) where
   is-clashing : clashNamed s a b ≡ true → Clashing s a b
-  unfolding clashIn reaches
   is-clashing e =
       let h = both _ _ e in
       let g = both _ _ (h .1) in
-      let c = both _ _ (g .1) in
-      let differ : a - 1 ≡ b - 1 → ⊥ = eqb-false _ _ (not-true _ (c .0)) in
-      record {
-        first-in = up-to _ _ (h .0);
-        second-in = up-to _ _ (g .0);
-        two = λ q. differ (omega arith);
-        either = ⊎-elim (λ q. inl (eqb-true _ _ q)) (λ q. inr (eqb-true _ _ q)) (one-of (reaches (s .reach) (a - 1) (b - 1)) (reaches (s .reach) (b - 1) (a - 1)) (c .1));
-      }
+      let c = clash-bits (s .reach) _ _ (g .1) in
+      record { first-in = up-to _ _ (h .0); second-in = up-to _ _ (g .0); two = λ q. c .0 (omega arith); either = c .1 }
 
   clashing-is : Clashing s a b → clashNamed s a b ≡ true
-  unfolding clashIn reaches
   clashing-is c =
-      let differ : eqb (a - 1) (b - 1) ≡ false = ne-eqb _ _ (λ (q : a - 1 ≡ b - 1). c .two (omega (arith, c .first-in, c .second-in))) in
-      simp (up-to-is _ _ (c .first-in), up-to-is _ _ (c .second-in), differ)
-      (is-one-of (reaches (s .reach) (a - 1) (b - 1)) (reaches (s .reach) (b - 1) (a - 1))
-      (⊎-elim (λ q. inl (eq-eqb _ _ q)) (λ q. inr (eq-eqb _ _ q)) (c .either)))
+      simp (up-to-is _ _ (c .first-in), up-to-is _ _ (c .second-in))
+      (bits-clash (s .reach) _ _ (λ q. c .two (omega (arith, c .first-in, c .second-in))) (c .either))
 
   clash-at : (f : Fault) (t : Bool) → faultOf s ≡ f → clashNamed s a b ≡ t → ClashMeans s a b (pick (isFine f) (pick t Clash Clear) (Refused f))
   clash-at Fine true p q = (p, is-clashing q)

@@ -1,5 +1,5 @@
 //! The limits of a site: 32 and 33 cells, 128 and 129 slots, 16 and 17 channels, a table of 65,536 bytes and of one
-//! byte less, each with its neighbours and through every call; and flows at their limits.
+//! byte less, each with its neighbours and through every call; flows at their limits, and the two worked shares.
 
 use crate::case::{Call, Case};
 use crate::run::Run;
@@ -17,6 +17,9 @@ pub fn compare(run: &mut Run) {
                 every_call(run, cells, slots, channels);
             }
         }
+    }
+    for period in [4, 5] {
+        run.compare(&Case::of(Call::Share, Site::default()).numbers([3, 3, period]));
     }
     for slots in SLOTS {
         for burst in [0, 1, 2, 3, 511, 512, 513, 65_534, 65_535] {
