@@ -9,9 +9,9 @@ use lib.Dec.{leb, eqb}
 use borrow.Author.Tests.{le-leb, eqb-true, eqb-false}
 use native.Mathlib.Omega.{arith}
 use Rattle.laws.specs.Choice.{pick}
-use Rattle.site.specs.Means.{UpTo}
 use Rattle.site.proofs.Faults.{up-to-is}
 use Rattle.shares.specs.Share.{roundedUp, shareNeeded, queueBound, delayBound, shareOf}
+use Rattle.shares.specs.Means.{Fair, Least}
 use Rattle.shares.specs.declared.Fragments.{Fragments}
 use Rattle.shares.specs.declared.Slots.{Slots}
 use Rattle.shares.specs.declared.ShareAnswer.the-variants.{Done, BigShare}
@@ -40,6 +40,9 @@ pub up-least : (a b m : ℕ) → 0 < b → a ≤ m * b → roundedUp a b ≤ m
 unfolding roundedUp
 up-least a b m h e = least-at a b h m (eqb (a % b) 0) e refl
 
+pub up-is-least : (a b : ℕ) → 0 < b → Least a b (roundedUp a b)
+up-is-least a b h = record { enough = up-enough a b h; least = λ n. up-least a b n h }
+
 pub up-pos : (a b : ℕ) → 0 < a → 0 < b → 0 < roundedUp a b
 up-pos a b ha hb = pos (roundedUp a b) (up-enough a b hb)
   where
@@ -66,11 +69,6 @@ delay-most t c p ht hc hp =
     )
 
 -- what passes the first two refusals
-pub record Fair (t c p : ℕ) : Type 0 where
-  pub slots : UpTo 128 t
-  pub burst : UpTo 65535 c
-  pub period : UpTo 65535 p
-
 module _ (t c p : ℕ) (f : Fair t c p) where
   pub fair-product-most : c * t ≤ 8388480
   fair-product-most = mul-le-mul (f .burst .1) (f .slots .1)

@@ -1,3 +1,4 @@
 -- The laws of crate `shares`, module by module.
 pub mod Laws
+pub mod Means
 pub mod Given

@@ -1,3 +1,4 @@
 -- The definitions of crate `shares`, module by module.
 pub mod Share
+pub mod Means
 pub mod Given

@@ -8,7 +8,8 @@ use borrow.Author.Tests.{lt-leb, not-true, not-false}
 use Rattle.site.specs.Record.{upTo}
 use Rattle.site.proofs.Faults.{up-to}
 use Rattle.shares.specs.Share.{shareOf}
-use Rattle.shares.proofs.Laws.{Fair, fair-product-most, fair-pos, fair-delay, fair-share, fair-done}
+use Rattle.shares.specs.Means.{Fair}
+use Rattle.shares.proofs.Laws.{fair-product-most, fair-pos, fair-delay, fair-share, fair-done}
 use Rattle.shares.proofs.share.Statement.{statement}
 use Rattle.shares.proofs.share.Tie as tie
 
