@@ -38,6 +38,14 @@ zeros = (refl, refl, refl, refl, refl)
 
 -- ---- rows
 
+back : (k : ℕ) → k + 1 - 1 ≡ k
+back k = omega arith
+
+-- a number is below its power of two
+below : (y : ℕ) → y < 2 ^ y
+below zero = omega arith
+below (suc y) = omega (arith, below y, two-pow-succ y)
+
 module _ (n x k : ℕ) where
   -- a row that is no fault has no bit past the cells, and not its own
   bits-within : rowBad n x k ≡ false → (b : ℕ) → n ≤ b → bitAt x b ≡ false
@@ -48,11 +56,6 @@ module _ (n x k : ℕ) where
 
   bits-others : rowBad n x k ≡ false → bitAt x k ≡ false
   bits-others e = ⊎-elim (λ h. row-ok n x k (ltb-true k n h) e .1) (λ h. bits-within e k (ltb-false k n h)) (cases (ltb k n))
-
-  -- a number is below a power of two
-  below : (y : ℕ) → y < 2 ^ y
-  below zero = omega arith
-  below (suc y) = omega (arith, below y, two-pow-succ y)
 
   none-good : n ≤ k → x ≡ 0 → rowBad n x k ≡ false
   unfolding rowBad
@@ -79,9 +82,6 @@ module _ (s : Site) (r : ℕ) (some : 1 ≤ r) where
       bits-good (s .cells) (rowOf s (r - 1)) (r - 1) (λ l. g .used (omega arith))
       (λ b l. ne-eqb _ _ (λ q. g .within (b + 1) (omega arith) (rw (back b) q)))
       (ne-eqb _ _ (g .others))
-    where
-      back : (b : ℕ) → b + 1 - 1 ≡ b
-      back b = omega arith
 
 -- ---- the faults of a record
 
@@ -91,9 +91,6 @@ module _ (s : Site) where
 
   abbrev row-bad : ℕ → Bool
   row-bad k = rowBad (s .cells) (rowOf s k) k
-
-  back : (k : ℕ) → k + 1 - 1 ≡ k
-  back k = omega arith
 
   -- no load is set beyond the cells before the one that the search finds
   none-before : (k : ℕ) → k ≤ extraLoad s → LoadBeyond s k → ⊥
@@ -158,14 +155,14 @@ module _ (s : Site) where
       simp (sizes-is _ _ _ z, e, lt-ltb (c - 1) 32 (omega arith), n)
   fault-only (Reach r) (z, none, (some, most), bad, low) =
       let e : badRow s ≡ r - 1 = first-is row-bad 0 (r - 1) 32 (omega arith) (omega arith)
-      (not-false' _ (λ q. bad (row-good s r some q)))
+      (is-true _ (λ q. bad (row-good s r some q)))
       (λ j l h. good-at j (low (j + 1) (omega arith) (omega arith))) in
       let n : r - 1 + 1 ≡ r = omega arith in
       simp (sizes-is _ _ _ z, no-load z none, e, lt-ltb (r - 1) 32 (omega arith), n)
     where
-      not-false' : (b : Bool) → (b ≡ false → ⊥) → b ≡ true
-      not-false' true h = refl
-      not-false' false h = absurd (h refl)
+      is-true : (b : Bool) → (b ≡ false → ⊥) → b ≡ true
+      is-true true h = refl
+      is-true false h = absurd (h refl)
   fault-only Fine (z, none, good) =
       let e : badRow s ≡ 32 = first-none row-bad 0 32 (omega arith) (λ j l h. good-at j (good (j + 1) (omega arith, omega arith))) in
       simp (sizes-is _ _ _ z, no-load z none, e)
