@@ -16,7 +16,8 @@ use Rattle.laws.specs.Choice.{pick}
 use Rattle.theory.specs.Net as net
 use Rattle.theory.specs.Greedy.{reserved}
 use Rattle.theory.specs.Verdict.{TableVerdict, valid, clash, wrong, tableVerdict}
-use Rattle.theory.proofs.TableLaws.{FirstClash, FirstWrong, check-valid, valid-check, check-names-clash, check-names-wrong}
+use Rattle.theory.specs.Named.{FirstClash, FirstWrong}
+use Rattle.theory.proofs.TableLaws.{check-valid, valid-check, check-names-clash, check-names-wrong}
 use Rattle.site.specs.Record.{positions, size, faultOf, isFine}
 use Rattle.site.specs.Reach.{netOf}
 use Rattle.site.specs.declared.Site.{Site}

@@ -7,8 +7,9 @@ use native.Mathlib.Omega.{arith}
 use Rattle.laws.proofs.Choice.{went-first}
 use Rattle.theory.specs.Net.{LoadTest, Chained}
 use Rattle.theory.specs.Verdict.{LoadVerdict, holds, over, loadVerdict, ChainVerdict, chained, broken, chainVerdict}
-use Rattle.theory.proofs.LoadLaws.{load-holds, FirstOver, load-names}
-use Rattle.theory.proofs.ChainLaws.{chain-holds, FirstBreaks, chain-names}
+use Rattle.theory.specs.Named.{FirstOver, FirstBreaks}
+use Rattle.theory.proofs.LoadLaws.{load-holds, load-names}
+use Rattle.theory.proofs.ChainLaws.{chain-holds, chain-names}
 use Rattle.site.specs.Record.{isFine, faultOf}
 use Rattle.site.specs.Reach.{netOf}
 use Rattle.site.specs.declared.Site.{Site}

@@ -19,7 +19,8 @@ use Rattle.theory.specs.Net.{Valid, LoadTest, everyone}
 use Rattle.theory.specs.Greedy.{reserved, row, Outcome, planned, noRoom, greedy, Plans}
 use Rattle.theory.specs.Figure.{figureOne}
 use Rattle.theory.proofs.Row.{kept}
-use Rattle.theory.proofs.Run.{Fails, run-fails}
+use Rattle.theory.specs.Named.{Fails}
+use Rattle.theory.proofs.Run.{run-fails}
 use Rattle.theory.proofs.Exact.{planned-valid, planned-size, valid-agree, test-plans, covers-everyone}
 use Rattle.theory.proofs.Figure.{figure-greedy}
 use Rattle.site.specs.Record.{positions, faultOf, isFine, size}
