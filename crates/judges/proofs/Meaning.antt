@@ -4,7 +4,8 @@ use Prim.Native.Nat.{ℕ, _+_}
 use mathlib.Core.Logic.{_↔_}
 use mathlib.Core.Path.{_≡_, refl, sym, ap, _∙_}
 use native.Mathlib.Omega.{arith}
-use Rattle.laws.proofs.Choice.{went-first}
+use mathlib.Core.Bool.{false}
+use Rattle.laws.proofs.Choice.{went-first, was-second}
 use Rattle.theory.specs.Net.{LoadTest, Chained}
 use Rattle.theory.specs.Verdict.{LoadVerdict, holds, over, loadVerdict, ChainVerdict, chained, broken, chainVerdict}
 use Rattle.theory.specs.Named.{FirstOver, FirstBreaks}
@@ -13,6 +14,7 @@ use Rattle.theory.proofs.ChainLaws.{chain-holds, chain-names}
 use Rattle.site.specs.Record.{isFine, faultOf}
 use Rattle.site.specs.Reach.{netOf}
 use Rattle.site.specs.declared.Site.{Site}
+use Rattle.site.specs.declared.Fault.{Fault}
 use Rattle.site.specs.declared.Fault.the-variants.{Fine}
 use Rattle.site.proofs.Faults.{fine-is}
 use Rattle.judges.specs.Judges.{counted, loadOf, loadAnswer, chainOf, chainAnswer}
@@ -62,6 +64,37 @@ chain-fine s fine = rw fine
 pub chain-accepted : (s : Site) (a : ChainAnswer) → (chain.Refused (faultOf s) ≡ a → ⊥) → chainAnswer s ≡ a → faultOf s ≡ Fine
 unfolding chainAnswer
 chain-accepted s a n e = fine-is (faultOf s) (went-first (isFine (faultOf s)) _ _ n e)
+
+-- "they refuse only with 1 to 3": a refusal carries the record's own fault, and a record at fault is refused
+load-no-refusal : (v : LoadVerdict) (f : Fault) → loadOf v ≡ load.Refused f → ⊥
+load-no-refusal holds f e = let z : _≡_ {A = ℕ} 0 1 = cc in omega arith
+load-no-refusal (over i m) f e = let z : _≡_ {A = ℕ} 0 1 = cc in omega arith
+
+pub load-refused : (s : Site) (f : Fault) → loadAnswer s ≡ load.Refused f ↔ ((f ≡ faultOf s) × (isFine f ≡ false))
+unfolding loadAnswer
+load-refused s f = (
+  λ e.
+      let w = was-second (isFine (faultOf s)) _ _ (load-no-refusal (loadVerdict (netOf s) (counted s)) f) e in
+      let e′ : load.Refused (faultOf s) ≡ load.Refused f = w .1 in
+      let same : f ≡ faultOf s = cc in
+      (same, ap isFine same ∙ w .0),
+  λ h. rw (← h .0, h .1),
+)
+
+chain-no-refusal : (v : ChainVerdict) (f : Fault) → chainOf v ≡ chain.Refused f → ⊥
+chain-no-refusal chained f e = let z : _≡_ {A = ℕ} 0 1 = cc in omega arith
+chain-no-refusal (broken a b c) f e = let z : _≡_ {A = ℕ} 0 1 = cc in omega arith
+
+pub chain-refused : (s : Site) (f : Fault) → chainAnswer s ≡ chain.Refused f ↔ ((f ≡ faultOf s) × (isFine f ≡ false))
+unfolding chainAnswer
+chain-refused s f = (
+  λ e.
+      let w = was-second (isFine (faultOf s)) _ _ (chain-no-refusal (chainVerdict (netOf s) (counted s)) f) e in
+      let e′ : chain.Refused (faultOf s) ≡ chain.Refused f = w .1 in
+      let same : f ≡ faultOf s = cc in
+      (same, ap isFine same ∙ w .0),
+  λ h. rw (← h .0, h .1),
+)
 
 -- "The load test holds when, for each cell, its load plus the loads of its lower-numbered clashing cells is at most N"
 pub holds-means : (s : Site) → loadAnswer s ≡ load.Holds ↔ ((faultOf s ≡ Fine) × LoadTest (netOf s) (counted s))

@@ -1,26 +1,32 @@
 -- "Numbers given back": for each case of a verdict, document 01's number and the values that come with it. A verdict is done, 0.
-use mathlib.Core.Path.{_≡_}
+use mathlib.Core.Bool.{Bool, true, not}
 use mathlib.Core.List.{[], _∷_}
+use Rattle.site.specs.Record.{isFine}
 use Rattle.site.specs.Given.{Given, faultGiven}
-use Rattle.site.specs.declared.Fault.the-variants.{Fine}
 use Rattle.judges.specs.declared.LoadAnswer.{LoadAnswer}
 use Rattle.judges.specs.declared.LoadAnswer.the-variants as load
 use Rattle.judges.specs.declared.ChainAnswer.{ChainAnswer}
 use Rattle.judges.specs.declared.ChainAnswer.the-variants as chain
 
+-- the load test holds: nothing; or the cell that is over, and by how much; the record's 1 to 3
 abbrev pub loadGiven : LoadAnswer → Given
 loadGiven load.Holds = record { number = 0; values = [] }
 loadGiven (load.Over cell excess) = record { number = 0; values = cell ∷ excess ∷ [] }
 loadGiven (load.Refused f) = faultGiven f
 
+-- chained: nothing; or the triple a, b, c; the record's 1 to 3
 abbrev pub chainGiven : ChainAnswer → Given
 chainGiven chain.Chained = record { number = 0; values = [] }
 chainGiven (chain.Broken a b c) = record { number = 0; values = a ∷ b ∷ c ∷ [] }
 chainGiven (chain.Refused f) = faultGiven f
 
--- every answer but `Refused Fine`, which no call gives (proofs/Given.antt)
-abbrev pub ProperLoad : LoadAnswer → Type 0
-ProperLoad a = a ≡ load.Refused Fine → ⊥
+-- what a call can answer: it refuses a record only for a fault (proofs/Given.antt)
+abbrev pub loadProper : LoadAnswer → Bool
+loadProper load.Holds = true
+loadProper (load.Over cell excess) = true
+loadProper (load.Refused f) = not (isFine f)
 
-abbrev pub ProperChain : ChainAnswer → Type 0
-ProperChain a = a ≡ chain.Refused Fine → ⊥
+abbrev pub chainProper : ChainAnswer → Bool
+chainProper chain.Chained = true
+chainProper (chain.Broken a b c) = true
+chainProper (chain.Refused f) = not (isFine f)
