@@ -1,24 +1,21 @@
 -- The numbers given back tell the checker's answers apart, but for a refusal with no fault, and no call answers that. An answer is read back from its
 -- number and values. Assumes nothing.
 use mathlib.Core.Path.{_≡_, refl, sym, ap, _∙_}
-use mathlib.Core.Bool.{Bool, true, false, false≢true}
-use mathlib.Core.List.{List}
-use lib.Dec.{eqb, ltb}
-use lib.ListN.{length, getD}
+use mathlib.Core.Bool.{true, not, false≢true}
+use mathlib.Core.List.{List, [], _∷_, map}
 use Prim.Native.Nat.{ℕ}
+use lib.Dec.{eqb}
+use lib.ListN.{getD}
 use Rattle.laws.specs.Choice.{pick}
-use Rattle.theory.specs.Greedy.{reserved}
-use Rattle.theory.specs.Verdict.{TableVerdict, valid, clash, wrong, tableVerdict}
-use Rattle.site.specs.Record.{positions, size, faultOf, isFine}
-use Rattle.site.specs.Reach.{netOf}
 use Rattle.site.specs.Given.{Given}
 use Rattle.site.specs.declared.Site.{Site}
 use Rattle.site.specs.declared.Fault.{Fault}
 use Rattle.site.specs.declared.Fault.the-variants.{Fine, Size, Load, Reach}
-use Rattle.checker.specs.Check.{verdictOf, checkAnswer}
-use Rattle.checker.specs.Given.{checkGiven, proper}
+use Rattle.checker.specs.Check.{checkAnswer}
+use Rattle.checker.specs.Given.{checkGiven, checkProper}
 use Rattle.checker.specs.declared.CheckAnswer.{CheckAnswer}
 use Rattle.checker.specs.declared.CheckAnswer.the-variants.{Valid, TableShort, Clash, Count, Refused}
+use Rattle.checker.proofs.Meaning.{check-refused}
 
 -- the answer with this number and these values
 abbrev readBack : Given → CheckAnswer
@@ -31,44 +28,38 @@ readBack g =
     (pick (eqb (g .number) 6) (Clash (getD (g .values) 0 0) (getD (g .values) 1 0) (getD (g .values) 2 0))
     (Count (getD (g .values) 0 0) (getD (g .values) 1 0)))))))
 
-read-refusal : (f : Fault) → proper (Refused f) ≡ true → readBack (checkGiven (Refused f)) ≡ Refused f
+read-refusal : (f : Fault) → checkProper (Refused f) ≡ true → readBack (checkGiven (Refused f)) ≡ Refused f
 read-refusal Fine h = absurd (false≢true h)
 read-refusal Size h = refl
 read-refusal (Load k) h = refl
 read-refusal (Reach k) h = refl
 
-read-back : (a : CheckAnswer) → proper a ≡ true → readBack (checkGiven a) ≡ a
+read-back : (a : CheckAnswer) → checkProper a ≡ true → readBack (checkGiven a) ≡ a
 read-back Valid h = refl
 read-back TableShort h = refl
 read-back (Clash p a c) h = refl
 read-back (Count c n) h = refl
 read-back (Refused f) h = read-refusal f h
 
-pub tells-apart : (a b : CheckAnswer) → proper a ≡ true → proper b ≡ true → checkGiven a ≡ checkGiven b → a ≡ b
-tells-apart a b p q e = sym (read-back a p) ∙ ap readBack e ∙ read-back b q
-
-verdict-proper : (v : TableVerdict) → proper (verdictOf v) ≡ true
-unfolding verdictOf
-verdict-proper valid = refl
-verdict-proper (clash k a c) = refl
-verdict-proper (wrong i n) = refl
-
-either-proper : (short : Bool) (a : CheckAnswer) → proper a ≡ true → proper (pick short TableShort a) ≡ true
-either-proper true a h = refl
-either-proper false a h = h
-
-call-proper : (f : Fault) (a : CheckAnswer) → proper a ≡ true → proper (pick (isFine f) a (Refused f)) ≡ true
-call-proper Fine a h = h
-call-proper Size a h = refl
-call-proper (Load k) a h = refl
-call-proper (Reach k) a h = refl
+pub check-apart : (a b : CheckAnswer) → checkProper a ≡ true → checkProper b ≡ true → checkGiven a ≡ checkGiven b → a ≡ b
+check-apart a b p q e = sym (read-back a p) ∙ ap readBack e ∙ read-back b q
 
 -- no call answers a refusal with no fault
-pub answers-proper : (s : Site) (t : List ℕ) → proper (checkAnswer s t) ≡ true
-unfolding checkAnswer
-answers-proper s t =
-    call-proper (faultOf s) _
-    (either-proper (ltb (length t) (size s)) _ (verdict-proper (tableVerdict (netOf s) (reserved (positions s) t))))
+proper-at : (s : Site) (t : List ℕ) (a : CheckAnswer) → checkAnswer s t ≡ a → checkProper a ≡ true
+proper-at s t Valid e = refl
+proper-at s t TableShort e = refl
+proper-at s t (Clash p a c) e = refl
+proper-at s t (Count i n) e = refl
+proper-at s t (Refused f) e = ap not (check-refused s t f .0 e .1)
 
-pub never-refused-fine : (s : Site) (t : List ℕ) → checkAnswer s t ≡ Refused Fine → ⊥
-never-refused-fine s t e = false≢true (sym (ap proper e) ∙ answers-proper s t)
+pub check-proper : (s : Site) (t : List ℕ) → checkProper (checkAnswer s t) ≡ true
+check-proper s t = proper-at s t (checkAnswer s t) refl
+
+-- the numbers and the values, in their order, of an answer of each kind
+abbrev checks : (position a c cell n row : ℕ) → List CheckAnswer
+checks position a c cell n row = Valid ∷ TableShort ∷ Clash position a c ∷ Count cell n ∷ Refused Size ∷ Refused (Load cell) ∷ Refused (Reach row) ∷ []
+
+pub check-numbers : (position a c cell n row : ℕ)
+    → (map (λ (a : CheckAnswer). checkGiven a .number) (checks position a c cell n row) ≡ 0 ∷ 4 ∷ 6 ∷ 7 ∷ 1 ∷ 2 ∷ 3 ∷ [])
+    × (map (λ (a : CheckAnswer). checkGiven a .values) (checks position a c cell n row) ≡ [] ∷ [] ∷ (position ∷ a ∷ c ∷ []) ∷ (cell ∷ n ∷ []) ∷ [] ∷ (cell ∷ []) ∷ (row ∷ []) ∷ [])
+check-numbers position a c cell n row = (refl, refl)

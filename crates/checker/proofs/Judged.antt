@@ -1,6 +1,6 @@
 -- From what the searches find to the verdict. The searches for a clash do not look at loads, nor the search for a wrong count at reach, so each is
 -- stated over a problem without them; the two problems have the same answers. Assumes nothing.
-use mathlib.Core.Path.{_≡_, refl, sym, _∙_}
+use mathlib.Core.Path.{_≡_, refl, sym, ap, _∙_}
 use mathlib.Core.List.{List, []}
 use Prim.Native.Nat.{ℕ, _+_, _*_, _≤_, _<_, zero-le}
 use native.Mathlib.Omega.{arith}
@@ -10,7 +10,7 @@ use borrow.Author.Tests.{lt-ltb, le-ltb, ltb-true}
 use Rattle.laws.specs.Sum.{count}
 use Rattle.laws.proofs.Search.{first-passes, first-most}
 use Rattle.theory.specs.Greedy.{reserved}
-use Rattle.theory.specs.Verdict.{secondAt, clashesAt, firstAt, lowestClash, wrongIn, lowestWrong, tableVerdict}
+use Rattle.theory.specs.Verdict.{valid, clash, wrong, secondAt, clashesAt, firstAt, lowestClash, wrongIn, lowestWrong, tableVerdict}
 use Rattle.site.specs.Record.{positions, faultOf}
 use Rattle.site.specs.Reach.{netIn, netOf}
 use Rattle.site.specs.declared.Site.{Site}
@@ -57,17 +57,25 @@ module _ (cells n : ℕ) (loads reach t : List ℕ) where
         → Clash p (a + 1) (c + 1) ≡ verdictOf (tableVerdict (netIn cells n loads reach) (reserved n t))
     unfolding tableVerdict verdictOf
     is-clash {a} {c} h f g =
-        rw (sym (lowest ∙ same-clash), lt-ltb p n h, sym (f ∙ same-first p), sym (g ∙ same-second p a))
+        let e : clash p a c ≡ tableVerdict (netIn cells n loads reach) (reserved n t) =
+        rw (sym (lowest ∙ same-clash), lt-ltb p n h, sym (f ∙ same-first p), sym (g ∙ same-second p a)) in
+        ap verdictOf e
 
-    module _ (none : n ≤ p) {i : ℕ} (wrong : i ≡ lowestWrong (netIn cells n loads []) (reserved n t)) where
+    module _ (none : n ≤ p) {i : ℕ} (low : i ≡ lowestWrong (netIn cells n loads []) (reserved n t)) where
       pub is-count : {m : ℕ} → i < cells → m ≡ count (reserved n t i) n
           → Count (i + 1) m ≡ verdictOf (tableVerdict (netIn cells n loads reach) (reserved n t))
       unfolding tableVerdict verdictOf
-      is-count h e = rw (sym (lowest ∙ same-clash), le-ltb p n none, sym (wrong ∙ same-wrong), lt-ltb i cells h, sym e)
+      is-count {m} h e =
+          let v : wrong i m ≡ tableVerdict (netIn cells n loads reach) (reserved n t) =
+          rw (sym (lowest ∙ same-clash), le-ltb p n none, sym (low ∙ same-wrong), lt-ltb i cells h, sym e) in
+          ap verdictOf v
 
       pub is-valid : cells ≤ i → Valid ≡ verdictOf (tableVerdict (netIn cells n loads reach) (reserved n t))
       unfolding tableVerdict verdictOf
-      is-valid h = rw (sym (lowest ∙ same-clash), le-ltb p n none, sym (wrong ∙ same-wrong), le-ltb i cells h)
+      is-valid h =
+          let v : valid ≡ tableVerdict (netIn cells n loads reach) (reserved n t) =
+          rw (sym (lowest ∙ same-clash), le-ltb p n none, sym (low ∙ same-wrong), le-ltb i cells h) in
+          ap verdictOf v
 
 -- the check of a site with no fault and a table that is long enough
 pub check-judged : (s : Site) (t : List ℕ) → faultOf s ≡ Fine → s .cells * positions s ≤ length t

@@ -12,24 +12,25 @@ use Rattle.theory.specs.Greedy.{reserved}
 use Rattle.theory.specs.Verdict.{firstAt, lowestClash}
 use Rattle.site.specs.Reach.{netIn, clashIn}
 use Rattle.words.specs.Words.{wordAt}
-use Rattle.words.specs.Stored.{stored}
-use Rattle.words.proofs.Stored.{stored-at}
-use Rattle.checker.specs.Masks.{maskOf, meets}
-use Rattle.checker.proofs.Masks.{hit, mark, any-clash}
+use lib.Seq.{sets}
+use Rattle.laws.specs.Part.{listOf}
+use Rattle.laws.proofs.Stores.{sets-at}
+use Rattle.checker.specs.Masks.{maskOf, meets, markAt}
+use Rattle.checker.proofs.Masks.{hit, any-clash}
 
 marked : (t : Bool) → not (eqb (bit t) 0) ≡ t
 marked true = refl
 marked false = refl
 
 pub lowest : (cells n : ℕ) (reach t w words m marks : List ℕ) → n ≤ length w → n ≤ length m
-    → words ≡ stored (wordAt cells (reserved n t)) n w
-    → marks ≡ stored (mark (clashIn reach) cells n words cells) n m
+    → words ≡ sets w 0 (listOf (wordAt cells (reserved n t)) n)
+    → marks ≡ sets m 0 (listOf (markAt (clashIn reach) cells words cells) n)
     → first (λ k. not (eqb (getD marks k 0) 0)) 0 n ≡ lowestClash (netIn cells n [] reach) (reserved n t)
 unfolding lowestClash
 lowest cells n reach t w words m marks hw hm ew em =
     first-same (λ k. not (eqb (getD marks k 0) 0)) (λ k. ltb (firstAt (netIn cells n [] reach) (reserved n t) k) cells) 0 n zero-le (λ k _ l.
-    ap (λ x. not (eqb x 0)) (ap (λ x. getD x k 0) em ∙ stored-at (mark (clashIn reach) cells n words cells) n m k l hm)
+    ap (λ x. not (eqb x 0)) (ap (λ x. getD x k 0) em ∙ sets-at (markAt (clashIn reach) cells words cells) n m k l hm)
     ∙ marked (any (hit (clashIn reach) cells n words k) cells)
     ∙ ap (λ x. any (λ a. meets x (maskOf (clashIn reach) cells a) a) cells)
-    (ap (λ x. getD x k 0) ew ∙ stored-at (wordAt cells (reserved n t)) n w k l hw)
+    (ap (λ x. getD x k 0) ew ∙ sets-at (wordAt cells (reserved n t)) n w k l hw)
     ∙ any-clash (netIn cells n [] reach) (reserved n t) k)

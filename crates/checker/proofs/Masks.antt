@@ -21,10 +21,11 @@ use Rattle.laws.proofs.Any.{any-eq, any-first}
 use Rattle.theory.specs.Net.{Net, Reserved}
 use Rattle.theory.specs.Verdict.{secondAt, clashesAt, firstAt}
 use Rattle.words.specs.Words.{wordOf, wordAt}
-use Rattle.words.specs.Stored.{stored}
+use lib.Seq.{sets}
+use Rattle.laws.specs.Part.{listOf}
 use Rattle.words.proofs.Words.{word-bit, word-and, word-empty, word-more, none-word}
-use Rattle.words.proofs.Stored.{stored-next, stored-same}
-use Rattle.checker.specs.Masks.{maskOf, meets}
+use Rattle.laws.proofs.Stores.{sets-next, sets-same}
+use Rattle.checker.specs.Masks.{maskOf, meets, markedAt, markAt}
 
 module _ (clash : ℕ → ℕ → Bool) (a : ℕ) where
   abbrev pub above : ℕ → Bool
@@ -90,24 +91,21 @@ module _ (clash : ℕ → ℕ → Bool) (cells n : ℕ) (words : List ℕ) where
   abbrev pub hit : ℕ → ℕ → Bool
   hit k a = meets (getD words k 0) (maskOf clash cells a) a
 
-  -- the mark at k, by the cells below i
-  abbrev pub mark : ℕ → ℕ → ℕ
-  mark i k = bit (any (hit k) i)
-
-  pub mark-none : (k : ℕ) → mark 0 k ≡ 0
+  pub mark-none : (k : ℕ) → markAt clash cells words 0 k ≡ 0
   unfolding any
   mark-none k = refl
 
-  pub mark-more : (i : ℕ) (l w r : List ℕ) → n ≤ length l → w ≡ stored (mark i) n l
-      → r ≡ stored (λ k. bitOr (getD w k 0) (bit (hit k i))) n w → r ≡ stored (mark (i + 1)) n l
+  pub mark-more : (i : ℕ) (l w r : List ℕ) → n ≤ length l → w ≡ sets l 0 (listOf (markAt clash cells words i) n)
+      → r ≡ sets w 0 (listOf (markedAt w words (maskOf clash cells i) i) n) → r ≡ sets l 0 (listOf (markAt clash cells words (i + 1)) n)
   unfolding any
   mark-more i l w r h e d =
-      stored-next (mark i) (λ k. bitOr (getD w k 0) (bit (hit k i))) (mark (i + 1)) n l w r h e d (λ k m g.
+      sets-next (markAt clash cells words i) (markedAt w words (maskOf clash cells i) i) (markAt clash cells words (i + 1)) n l w r h e d (λ k m g.
       ap (λ x. bitOr x (bit (hit k i))) g ∙ digits-or (any (hit k) i) (hit k i) ∙ ap (λ x. bit (any (hit k) x)) (sym (add-one i)))
 
   -- a cell with an empty mask marks nothing
-  pub mark-kept : (a : ℕ) (w : List ℕ) → n ≤ length w → maskOf clash cells a ≡ 0 → w ≡ stored (λ k. bitOr (getD w k 0) (bit (hit k a))) n w
+  pub mark-kept : (a : ℕ) (w : List ℕ) → n ≤ length w → maskOf clash cells a ≡ 0
+      → w ≡ sets w 0 (listOf (markedAt w words (maskOf clash cells a) a) n)
   mark-kept a w h e =
-      stored-same (λ k. bitOr (getD w k 0) (bit (hit k a))) n w h (λ k m.
+      sets-same (markedAt w words (maskOf clash cells a) a) n w h (λ k m.
       sym (ap (λ b. bitOr (getD w k 0) (bit b)) (ap (λ x. meets (getD words k 0) x a) e ∙ none-met (getD words k 0) a)
       ∙ or-zero-r (getD w k 0)))

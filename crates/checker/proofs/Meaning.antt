@@ -1,4 +1,5 @@
 -- What the checker's answers mean, by the laws of the table verdict.
+--     check-refused     refused: the record's own fault, where it has one
 --     valid-means       valid, exactly where nothing is wrong with the record, the table is long enough and the table is valid for the site
 --     clash-means       a clash: the first one, by position, then first cell, then second
 --     count-means       a count: no clash anywhere, and the lowest cell that is not reserved as often as its load says, with its count
@@ -13,6 +14,7 @@ use lib.Dec.{ltb}
 use lib.ListN.{length}
 use borrow.Author.Tests.{ltb-false}
 use Rattle.laws.specs.Choice.{pick}
+use Rattle.laws.proofs.Choice.{was-second}
 use Rattle.theory.specs.Net as net
 use Rattle.theory.specs.Greedy.{reserved}
 use Rattle.theory.specs.Verdict.{TableVerdict, valid, clash, wrong, tableVerdict}
@@ -56,6 +58,25 @@ unfolding checkAnswer
 judged s t a h e =
     let z = judged-of (faultOf s) (ltb (length t) (size s)) (verdictOf (tableVerdict (netOf s) (reserved (positions s) t))) a h e in
     record { fine = z .0; long = ltb-false (length t) (size s) (z .1); answer = z .2 }
+
+-- "1, 2, 3, .. then 4": a refusal carries the record's own fault, and a record at fault is refused
+no-refusal : (short : Bool) (v : TableVerdict) (f : Fault) → pick short TableShort (verdictOf v) ≡ Refused f → ⊥
+unfolding verdictOf
+no-refusal true v f e = let z : _≡_ {A = ℕ} 0 1 = cc in omega arith
+no-refusal false valid f e = let z : _≡_ {A = ℕ} 0 1 = cc in omega arith
+no-refusal false (clash k a c) f e = let z : _≡_ {A = ℕ} 0 1 = cc in omega arith
+no-refusal false (wrong i n) f e = let z : _≡_ {A = ℕ} 0 1 = cc in omega arith
+
+pub check-refused : (s : Site) (t : List ℕ) (f : Fault) → checkAnswer s t ≡ Refused f ↔ ((f ≡ faultOf s) × (isFine f ≡ false))
+unfolding checkAnswer
+check-refused s t f = (
+  λ e.
+      let w = was-second (isFine (faultOf s)) _ _ (no-refusal (ltb (length t) (size s)) (tableVerdict (netOf s) (reserved (positions s) t)) f) e in
+      let e′ : Refused (faultOf s) ≡ Refused f = w .1 in
+      let same : f ≡ faultOf s = cc in
+      (same, ap isFine same ∙ w .0),
+  λ h. rw (← h .0, h .1),
+)
 
 was-valid : (v : TableVerdict) → verdictOf v ≡ Valid → v ≡ valid
 unfolding verdictOf

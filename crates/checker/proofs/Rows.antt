@@ -5,27 +5,27 @@ use mathlib.Core.List.{List, []}
 use Prim.Native.Nat.{ℕ, _+_, _-_, _*_, _≤_}
 use native.Mathlib.Nat.{sub-zero}
 use native.Mathlib.Omega.{arith}
-use lib.Dec.{eqb}
 use lib.ListN.{length, getD, take}
 use lib.Seq.{length-take-le, getD-take}
 use borrow.Author.Tests.{eq-eqb, ne-eqb}
 use Rattle.laws.specs.Sum.{bit, count}
 use Rattle.laws.proofs.Sums.{sum-eq}
-use Rattle.theory.specs.Greedy.{reserved, held}
+use Rattle.theory.specs.Greedy.{sends, reserved, held}
 use Rattle.theory.specs.Verdict.{wrongIn}
 use Rattle.site.specs.Reach.{netIn}
-use Rattle.words.specs.Stored.{stored}
-use Rattle.words.proofs.Stored.{length-stored, stored-at}
+use lib.Seq.{sets}
+use Rattle.laws.specs.Part.{listOf}
+use Rattle.laws.proofs.Stores.{sets-long, sets-at}
 
 -- w is a row with cell i's bytes copied to its start
-pub copied : (n i : ℕ) (t row w : List ℕ) → n ≤ length row → w ≡ stored (λ k. getD t (i * n + k) 0) n row
+pub copied : (n i : ℕ) (t row w : List ℕ) → n ≤ length row → w ≡ sets row 0 (listOf (λ k. getD t (i * n + k) 0) n)
     → held (length (take (n - 0) w)) (take (n - 0) w) ≡ count (reserved n t i) n
 copied n i t row w h e =
-    let long : n ≤ length w = omega (arith, ap length e, length-stored (λ k. getD t (i * n + k) 0) n row) in
+    let long : n ≤ length w = omega (arith, sets-long (λ k. getD t (i * n + k) 0) n row w e) in
     ap (λ m. held (length (take m w)) (take m w)) (sub-zero n)
     ∙ ap (λ m. held m (take n w)) (length-take-le n w long)
-    ∙ sum-eq (λ k. bit (eqb (getD (take n w) k 0) 1)) (λ k. bit (reserved n t i k)) n (λ k m.
-    ap (λ x. bit (eqb x 1)) (getD-take n w k 0 m ∙ ap (λ x. getD x k 0) e ∙ stored-at (λ k. getD t (i * n + k) 0) n row k m h))
+    ∙ sum-eq (λ k. bit (sends (getD (take n w) k 0))) (λ k. bit (reserved n t i k)) n (λ k m.
+    ap (λ x. bit (sends x)) (getD-take n w k 0 m ∙ ap (λ x. getD x k 0) e ∙ sets-at (λ k. getD t (i * n + k) 0) n row k m h))
 
 -- a count against a load
 module _ (cells n : ℕ) (loads t : List ℕ) (i : ℕ) {c : ℕ} (counted : c ≡ count (reserved n t i) n) where

@@ -15,9 +15,9 @@ checkGiven (Count cell n) = record { number = 7; values = cell ∷ n ∷ [] }
 checkGiven (Refused f) = faultGiven f
 
 -- what a call can answer: it refuses a record only for a fault
-abbrev pub proper : CheckAnswer → Bool
-proper Valid = true
-proper TableShort = true
-proper (Clash position a c) = true
-proper (Count cell n) = true
-proper (Refused f) = not (isFine f)
+abbrev pub checkProper : CheckAnswer → Bool
+checkProper Valid = true
+checkProper TableShort = true
+checkProper (Clash position a c) = true
+checkProper (Count cell n) = true
+checkProper (Refused f) = not (isFine f)

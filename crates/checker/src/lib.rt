@@ -8,18 +8,18 @@ ghost use mathlib.Core.Path.{_≡_};
 ghost use mathlib.Core.Bool.{_&&_, not};
 ghost use mathlib.Core.List.{[]};
 ghost use Prim.Native.Nat.{_+_, _*_, _≤_, _<_};
-ghost use lib.Bits.{bitOr};
 ghost use lib.Dec.{eqb};
 ghost use lib.ListN.{length, getD};
+ghost use lib.Seq.{sets};
 ghost use Rattle.laws.specs.Choice.{pick};
 ghost use Rattle.laws.specs.Bits.{setBit};
+ghost use Rattle.laws.specs.Part.{listOf};
 ghost use Rattle.laws.specs.Search.{first};
-ghost use Rattle.laws.specs.Sum.{bit, count, any};
-ghost use Rattle.theory.specs.Greedy.{reserved, held};
+ghost use Rattle.laws.specs.Sum.{bit, count};
+ghost use Rattle.theory.specs.Greedy.{sends, reserved, held};
 ghost use Rattle.theory.specs.Verdict.{secondAt, clashesAt, firstAt, lowestClash, lowestWrong, tableVerdict};
 ghost use Rattle.site.specs.Reach.{clashIn, netIn};
-ghost use Rattle.words.specs.Stored.{stored};
-ghost use Rattle.checker.specs.Masks.{maskOf, meets};
+ghost use Rattle.checker.specs.Masks.{maskOf, meets, markedAt, markAt};
 ghost use Rattle.checker.specs.Check.{verdictOf, checkAnswer};
 use site::Fault;
 use site::Site;
@@ -71,7 +71,7 @@ fn met(word: u32, mask: u32, a: usize) -> u32
 // Marks each position where cell a is in the word together with a cell of the mask.
 fn mark_row(marks: &mut [u32], words: &[u32], n: usize, mask: u32, a: usize)
     requires { ⌜ (a < 32) × (n ≤ length (now marks)) × (n ≤ length (now words)) ⌝ }
-    ensures { λ _. ⌜ now (marks .exit) ≡ stored (λ k. bitOr (getD (now (marks .entry)) k 0) (bit (meets (getD (now (words .entry)) k 0) mask a))) n (now (marks .entry)) ⌝ }
+    ensures { λ _. ⌜ now (marks .exit) ≡ sets (now (marks .entry)) 0 (listOf (markedAt (now (marks .entry)) (now (words .entry)) mask a) n) ⌝ }
 {
     for p in 0..n {
         marks[p] = marks[p] | met(words[p], mask, a);
@@ -81,7 +81,7 @@ fn mark_row(marks: &mut [u32], words: &[u32], n: usize, mask: u32, a: usize)
 // Marks each position where cell a clashes with a cell above it. Where there is no such cell nothing is looked at.
 fn mark_cell(marks: &mut [u32], words: &[u32], n: usize, reach: &[u32; 32], cells: usize, a: usize)
     requires { ⌜ (cells ≤ 32) × (a < cells) × (n ≤ length (now marks)) × (n ≤ length (now words)) ⌝ }
-    ensures { λ _. ⌜ now (marks .exit) ≡ stored (λ k. bitOr (getD (now (marks .entry)) k 0) (bit (meets (getD (now (words .entry)) k 0) (maskOf (clashIn (now (reach .entry))) cells a) a))) n (now (marks .entry)) ⌝ }
+    ensures { λ _. ⌜ now (marks .exit) ≡ sets (now (marks .entry)) 0 (listOf (markedAt (now (marks .entry)) (now (words .entry)) (maskOf (clashIn (now (reach .entry))) cells a) a) n) ⌝ }
 {
     let mask = mask_of(reach, cells, a);
     if mask == 0 {
@@ -93,7 +93,7 @@ fn mark_cell(marks: &mut [u32], words: &[u32], n: usize, reach: &[u32; 32], cell
 // Marks each position with a clash.
 fn mark_all(marks: &mut [u32], words: &[u32], n: usize, reach: &[u32; 32], cells: usize)
     requires { ⌜ (cells ≤ 32) × (n ≤ length (now marks)) × (n ≤ length (now words)) ⌝ }
-    ensures { λ _. ⌜ now (marks .exit) ≡ stored (λ k. bit (any (λ a. meets (getD (now (words .entry)) k 0) (maskOf (clashIn (now (reach .entry))) cells a) a) cells)) n (now (marks .entry)) ⌝ }
+    ensures { λ _. ⌜ now (marks .exit) ≡ sets (now (marks .entry)) 0 (listOf (markAt (clashIn (now (reach .entry))) cells (now (words .entry)) cells) n) ⌝ }
 {
     words::clear(marks, n);
     for a in 0..cells {
@@ -130,7 +130,7 @@ fn lowest_clash(table: &[u8], n: usize, reach: &[u32; 32], cells: usize) -> usiz
 
 // Whether a byte of cell c is a reservation and c clashes with a.
 fn against(byte: u8, reach: &[u32; 32], a: usize, c: usize) -> bool
-    ensures { λ r. ⌜ r ≡ (clashIn (now (reach .entry)) a c && eqb byte 1) ⌝ }
+    ensures { λ r. ⌜ r ≡ (clashIn (now (reach .entry)) a c && sends byte) ⌝ }
 {
     if byte != 1 {
         return false;
@@ -182,7 +182,7 @@ fn first_at(table: &[u8], n: usize, reach: &[u32; 32], cells: usize, p: usize) -
 // Copies the n bytes of a table from `from` on to the start of a row.
 fn copy_row(row: &mut [u8], table: &[u8], from: usize, n: usize)
     requires { ⌜ (n ≤ length (now row)) × (from + n ≤ length (now table)) ⌝ }
-    ensures { λ _. ⌜ now (row .exit) ≡ stored (λ k. getD (now (table .entry)) (from + k) 0) n (now (row .entry)) ⌝ }
+    ensures { λ _. ⌜ now (row .exit) ≡ sets (now (row .entry)) 0 (listOf (λ k. getD (now (table .entry)) (from + k) 0) n) ⌝ }
 {
     for p in 0..n {
         row[p] = table[from + p];
@@ -191,7 +191,7 @@ fn copy_row(row: &mut [u8], table: &[u8], from: usize, n: usize)
 
 // 1 for a reservation, else 0.
 fn one(byte: u8) -> u16
-    ensures { λ r. ⌜ r ≡ bit (eqb byte 1) ⌝ }
+    ensures { λ r. ⌜ r ≡ bit (sends byte) ⌝ }
 {
     if byte == 1 {
         return 1;

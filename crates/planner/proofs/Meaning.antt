@@ -1,4 +1,5 @@
 -- What the planner's answers mean, by the theorems on planning problems.
+--     plan-refused      refused: the record's own fault, where it has one
 --     done-means        done: nothing is wrong with the record, the table is long enough, and the greedy run plans
 --     done-valid        then the table is valid
 --     short-means       no room: the cell's shortage, counted from its row
@@ -15,6 +16,7 @@ use lib.Dec.{ltb}
 use lib.ListN.{length, drop}
 use borrow.Author.Tests.{ltb-false}
 use Rattle.laws.specs.Choice.{pick}
+use Rattle.laws.proofs.Choice.{was-second}
 use Rattle.theory.specs.Net.{Valid, LoadTest, everyone}
 use Rattle.theory.specs.Greedy.{reserved, row, Outcome, planned, noRoom, greedy, Plans}
 use Rattle.theory.specs.Figure.{figureOne}
@@ -31,7 +33,7 @@ use Rattle.site.specs.declared.Fault.the-variants.{Fine, Size, Load, Reach}
 use Rattle.planner.specs.Plan.{answerOf, tableOf, planAnswer, planTable}
 use Rattle.planner.specs.declared.PlanAnswer.{PlanAnswer}
 use Rattle.planner.specs.declared.PlanAnswer.the-variants.{Done, TableShort, NoRoom, Refused}
-use Rattle.planner.proofs.Answer.{run-answer, run-table}
+use Rattle.planner.proofs.Answer.{refused-answer, run-answer, run-table}
 
 -- a call that went on to the run
 pub record Ran (s : Site) (t : List ℕ) (a : PlanAnswer) : Type 0 where
@@ -60,6 +62,23 @@ unfolding planAnswer
 ran s t a h e =
     let z = ran-of (faultOf s) (ltb (length t) (size s)) (answerOf (greedy (netOf s))) a h e in
     record { fine = z .0; long = ltb-false (length t) (size s) (z .1); answer = z .2 }
+
+-- "1, 2, 3, .. then 4": a refusal carries the record's own fault, and a record at fault is refused
+no-refusal : (short : Bool) (o : Outcome) (f : Fault) → pick short TableShort (answerOf o) ≡ Refused f → ⊥
+no-refusal true o f e = let z : _≡_ {A = ℕ} 0 1 = cc in omega arith
+no-refusal false (planned t) f e = let z : _≡_ {A = ℕ} 0 1 = cc in omega arith
+no-refusal false (noRoom c m) f e = let z : _≡_ {A = ℕ} 0 1 = cc in omega arith
+
+pub plan-refused : (s : Site) (t : List ℕ) (f : Fault) → planAnswer s t ≡ Refused f ↔ ((f ≡ faultOf s) × (isFine f ≡ false))
+unfolding planAnswer
+plan-refused s t f = (
+  λ e.
+      let w = was-second (isFine (faultOf s)) _ _ (no-refusal (ltb (length t) (size s)) (greedy (netOf s)) f) e in
+      let e′ : Refused (faultOf s) ≡ Refused f = w .1 in
+      let same : f ≡ faultOf s = cc in
+      (same, ap isFine same ∙ w .0),
+  λ h. refused-answer s t f (sym (h .0)) (h .1),
+)
 
 done-planned : (o : Outcome) → answerOf o ≡ Done → (t : List ℕ) × (o ≡ planned t)
 done-planned (planned t) e = (t, refl)

@@ -14,8 +14,8 @@ planGiven (NoRoom cell short) = record { number = 5; values = cell ∷ short ∷
 planGiven (Refused f) = faultGiven f
 
 -- what a call can answer: it refuses a record only for a fault
-abbrev pub proper : PlanAnswer → Bool
-proper Done = true
-proper TableShort = true
-proper (NoRoom cell short) = true
-proper (Refused f) = not (isFine f)
+abbrev pub planProper : PlanAnswer → Bool
+planProper Done = true
+planProper TableShort = true
+planProper (NoRoom cell short) = true
+planProper (Refused f) = not (isFine f)

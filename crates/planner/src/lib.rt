@@ -3,13 +3,12 @@ use site::Fault;
 use site::Site;
 ghost use mathlib.Core.Path.{_≡_};
 ghost use mathlib.Core.Bool.{true};
-ghost use mathlib.Core.List.{[], _++_};
 ghost use Prim.Native.Nat.{_+_, _*_, _≤_, _<_};
-ghost use lib.ListN.{length, getD, take, drop, replicate};
+ghost use lib.ListN.{length, getD, replicate};
 ghost use Rattle.laws.specs.Part.{part, put};
-ghost use Rattle.theory.specs.Greedy.{marked, fill, unmet, row, run, planned, greedy};
+ghost use Rattle.theory.specs.Greedy.{unmet, greedy};
 ghost use Rattle.site.specs.Reach.{netIn};
-ghost use Rattle.planner.specs.Plan.{planAnswer, planTable, answerOf, tableOf};
+ghost use Rattle.planner.specs.Plan.{planAnswer, planTable, answerOf, leaves, marksIn, rowPlanned, PlannedTo};
 
 // What the planner answers: done; 4, the table is short; 5, a cell's number and how many of its fragments found no room; or what is wrong with the record.
 pub enum PlanAnswer {
@@ -23,7 +22,7 @@ pub enum PlanAnswer {
 fn mark_row(table: &mut [u8], n: usize, i: usize, reach: &[u32; 32])
     requires { ⌜ i * n + n ≤ length (now table) ⌝ }
     requires { ⌜ part (i * n) n (now table) ≡ replicate n 0 ⌝ }
-    ensures { λ _. ⌜ now (table .exit) ≡ put (i * n) n (marked (netIn 0 n [] (now (reach .entry))) (now (table .entry)) i i) (now (table .entry)) ⌝ }
+    ensures { λ _. ⌜ now (table .exit) ≡ put (i * n) n (marksIn n (now (reach .entry)) (now (table .entry)) i) (now (table .entry)) ⌝ }
 {
     for j in 0..i {
         if site::clashes(reach, j, i) {
@@ -42,8 +41,8 @@ fn plan_row(
     reach: &[u32; 32],
 ) -> usize
     requires { ⌜ i * (slots * channels) + slots * channels ≤ length (now table) ⌝ }
-    ensures row { λ _. ⌜ now (table .exit) ≡ put (i * (slots * channels)) (slots * channels) (fill (λ _. true) 0 load (marked (netIn 0 (slots * channels) [] (now (reach .entry))) (now (table .entry)) i i)) (now (table .entry)) ⌝ }
-    ensures short { λ r. ⌜ r ≡ unmet (λ _. true) 0 load (marked (netIn 0 (slots * channels) [] (now (reach .entry))) (now (table .entry)) i i) ⌝ }
+    ensures row { λ _. ⌜ now (table .exit) ≡ rowPlanned (slots * channels) (now (reach .entry)) i load (now (table .entry)) ⌝ }
+    ensures short { λ r. ⌜ r ≡ unmet (λ _. true) 0 load (marksIn (slots * channels) (now (reach .entry)) (now (table .entry)) i) ⌝ }
 {
     let n = slots * channels;
     let from = i * n;
@@ -74,9 +73,9 @@ fn plan_from(
 ) -> PlanAnswer
     requires { ⌜ (first ≤ cells) × (cells ≤ 32) ⌝ }
     requires { ⌜ cells * (slots * channels) ≤ length (now table) ⌝ }
-    requires { ⌜ run (netIn cells (slots * channels) (now loads) (now reach)) (row (netIn cells (slots * channels) (now loads) (now reach))) first ≡ planned (take (first * (slots * channels)) (now table)) ⌝ }
+    requires { ⌜ PlannedTo (netIn cells (slots * channels) (now loads) (now reach)) first (now table) ⌝ }
     ensures answer { λ r. ⌜ r ≡ answerOf (greedy (netIn cells (slots * channels) (now (loads .entry)) (now (reach .entry)))) ⌝ }
-    ensures table { λ _. ⌜ now (table .exit) ≡ tableOf (cells * (slots * channels)) (greedy (netIn cells (slots * channels) (now (loads .entry)) (now (reach .entry)))) ++ drop (cells * (slots * channels)) (now (table .entry)) ⌝ }
+    ensures table { λ _. ⌜ now (table .exit) ≡ leaves (cells * (slots * channels)) (greedy (netIn cells (slots * channels) (now (loads .entry)) (now (reach .entry)))) (now (table .entry)) ⌝ }
 {
     for i in first..cells {
         let load = load_of(loads, i) as usize;

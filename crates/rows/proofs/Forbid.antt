@@ -13,12 +13,12 @@ use Rattle.laws.specs.Choice.{pick}
 use Rattle.laws.specs.Part.{part, put}
 use Rattle.laws.proofs.Part.{length-part, getD-part, put-part, length-put, part-put-before, set-put, getD-put}
 use Rattle.laws.proofs.Grid.{row-before}
-use Rattle.theory.specs.Greedy.{forbid}
+use Rattle.theory.specs.Greedy.{sends, forbid}
 use Rattle.theory.proofs.Row.{forbid-length}
 
 -- one position more of the earlier row e
 pub forbid-more : (e b : List ℕ) (p : ℕ) → p < length e
-    → forbid (take (suc p) e) b ≡ set (forbid (take p e) b) p (pick (eqb (getD e p 0) 1) 2 (getD (forbid (take p e) b) p 0))
+    → forbid (take (suc p) e) b ≡ set (forbid (take p e) b) p (pick (sends (getD e p 0)) 2 (getD (forbid (take p e) b) p 0))
 unfolding forbid
 forbid-more [] b p h = absurd (not-suc-le-zero h)
 forbid-more (x ∷ e) [] zero h = refl
@@ -60,10 +60,10 @@ module _ (n j i : ℕ) (t : List ℕ) (before : j < i) (fits : i * n + n ≤ len
     own : getD s (i * n + p) 0 ≡ getD (forbid (take p (part (j * n) n t)) (part (i * n) n t)) p 0
     own = rw is (getD-put (i * n) n _ t (row-long p) fits p 0 below)
 
-    pub half-more : {v : ℕ} → v ≡ pick (eqb (getD s (j * n + p) 0) 1) 2 (getD s (i * n + p) 0) → set s (i * n + p) v ≡ half n j i (p + 1) t
+    pub half-more : {v : ℕ} → v ≡ pick (sends (getD s (j * n + p) 0)) 2 (getD s (i * n + p) 0) → set s (i * n + p) v ≡ half n j i (p + 1) t
     half-more {v} e =
         let h : p < length (part (j * n) n t) = omega (arith, earlier-long) in
         let row : List ℕ = forbid (take p (part (j * n) n t)) (part (i * n) n t) in
-        let w : ℕ = pick (eqb (getD (part (j * n) n t) p 0) 1) 2 (getD row p 0) in
-        let same : v ≡ w = e ∙ (λ x. pick (eqb (earlier x) 1) 2 (own x)) in
+        let w : ℕ = pick (sends (getD (part (j * n) n t) p 0)) 2 (getD row p 0) in
+        let same : v ≡ w = e ∙ (λ x. pick (sends (earlier x)) 2 (own x)) in
         rw (same, is, set-put (i * n) n row t (row-long p) fits p w below, add-one, forbid-more (part (j * n) n t) (part (i * n) n t) p h)

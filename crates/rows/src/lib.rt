@@ -7,7 +7,7 @@ ghost use lib.ListN.{length, replicate};
 ghost use Rattle.laws.specs.Choice.{pick};
 ghost use Rattle.laws.specs.Sum.{bit};
 ghost use Rattle.laws.specs.Part.{part, put};
-ghost use Rattle.theory.specs.Greedy.{forbid, fill, unmet};
+ghost use Rattle.theory.specs.Greedy.{sends, forbid, fill, unmet};
 
 // 1 for an idle byte, and 0 for any other.
 fn idle(byte: u8) -> u8
@@ -46,7 +46,7 @@ pub fn fill_row(row: &mut [u8], slots: usize, channels: usize, load: usize) -> u
 
 // A byte of a row, where an earlier clashing row holds `earlier`.
 fn mark(earlier: u8, byte: u8) -> u8
-    ensures { λ r. ⌜ r ≡ pick (eqb earlier 1) 2 byte ⌝ }
+    ensures { λ r. ⌜ r ≡ pick (sends earlier) 2 byte ⌝ }
 {
     if earlier == 1 { 2 } else { byte }
 }

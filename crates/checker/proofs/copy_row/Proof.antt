@@ -3,20 +3,21 @@ use mathlib.Core.Path.{_≡_, refl, _∙_}
 use Prim.Native.Nat.{_+_, _-_, _≤_}
 use native.Mathlib.Omega.{arith}
 use lib.ListN.{length, getD, length-set}
-use Rattle.words.specs.Stored.{stored}
-use Rattle.words.proofs.Stored.{stored-none, stored-more}
+use lib.Seq.{sets}
+use Rattle.laws.specs.Part.{listOf}
+use Rattle.laws.proofs.Stores.{sets-none, sets-more}
 use borrow.Author.Needs.{needs}
 use Rattle.checker.proofs.copy_row.Statement.{statement}
 use Rattle.checker.proofs.copy_row.Tie as tie
 
 abbrev Inv-loop : tie.InvT-loop
-Inv-loop row₀ table from n p₀ row p = (p ≤ n) × (length row ≡ length row₀) × (row ≡ stored (λ k. getD table (from + k) 0) p row₀)
+Inv-loop row₀ table from n p₀ row p = (p ≤ n) × (length row ≡ length row₀) × (row ≡ sets row₀ 0 (listOf (λ k. getD table (from + k) 0) p))
 
 abbrev μ-loop : tie.MeasureT-loop
 μ-loop row₀ table from n p₀ row p = n - p
 
 loop-holds : tie.Need-loop-holds Inv-loop μ-loop
-loop-holds c = (omega arith, refl, stored-none _ _)
+loop-holds c = (omega arith, refl, sets-none _ _)
 
 add-row : tie.Need-add-row Inv-loop μ-loop
 add-row c = search needs
@@ -36,7 +37,7 @@ loop-less c = search needs
 loop-again : tie.Need-loop-again Inv-loop μ-loop
 loop-again c =
     let p = c .before .before .loop in
-    (omega arith, length-set (p .row) (p .p) _ ∙ p .inv .1, stored-more _ (p .p) _ (p .row) _ refl (p .inv .2))
+    (omega arith, length-set (p .row) (p .p) _ ∙ p .inv .1, sets-more _ (p .p) _ (p .row) _ refl (p .inv .2))
 
 same-length : tie.Need-same-length Inv-loop μ-loop
 same-length c = search needs

@@ -3,10 +3,9 @@ use mathlib.Core.Path.{_≡_, refl, sym, ap₂, _∙_}
 use Prim.Native.Nat.{_+_, _-_, _≤_}
 use native.Mathlib.Omega.{arith}
 use lib.ListN.{length, getD}
-use lib.Dec.{eqb}
 use Rattle.laws.specs.Sum.{bit, sum, count}
 use Rattle.laws.proofs.Sums.{sum-more, count-most}
-use Rattle.theory.specs.Greedy.{held}
+use Rattle.theory.specs.Greedy.{sends, held}
 use borrow.Author.Needs.{needs}
 use Rattle.checker.proofs.count_row.Statement.{statement}
 use Rattle.checker.proofs.count_row.Tie as tie
@@ -31,7 +30,7 @@ add-count : tie.Need-add-count Inv-loop μ-loop
 add-count c =
     let p = c .before .before .before .loop in
     let row = c .before .before .before .before .before .args .row .now in
-    omega (arith, c .one .ensures, sum-more (λ k. bit (eqb (getD row k 0) 1)) (p .p), count-most (λ k. eqb (getD row k 0) 1) (p .p + 1))
+    omega (arith, c .one .ensures, sum-more (λ k. bit (sends (getD row k 0))) (p .p), count-most (λ k. sends (getD row k 0)) (p .p + 1))
 
 add-p : tie.Need-add-p Inv-loop μ-loop
 add-p c = search needs
@@ -43,12 +42,12 @@ loop-again : tie.Need-loop-again Inv-loop μ-loop
 loop-again c =
     let p = c .before .before .before .loop in
     let row = c .before .before .before .before .before .args .row .now in
-    (omega arith, ap₂ _+_ (p .inv .1) (c .one .ensures) ∙ sym (sum-more (λ k. bit (eqb (getD row k 0) 1)) (p .p)))
+    (omega arith, ap₂ _+_ (p .inv .1) (c .one .ensures) ∙ sym (sum-more (λ k. bit (sends (getD row k 0))) (p .p)))
 
 cast-result : tie.Need-cast-result Inv-loop μ-loop
 cast-result c =
     let row = c .before .before .before .args .row .now in
-    omega (arith, count-most (λ k. eqb (getD row k 0) 1) (c .before .loop .p))
+    omega (arith, count-most (λ k. sends (getD row k 0)) (c .before .loop .p))
 
 returns : tie.Need-returns Inv-loop μ-loop
 returns c =

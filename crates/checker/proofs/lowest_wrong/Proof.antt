@@ -43,7 +43,7 @@ returns c =
     let at = c .before .before .before in
     let a = at .before .before .args in
     found (wrongIn (netIn (a .cells) (a .n) (a .t3) []) (reserved (a .n) (a .table .now))) (at .loop .i) (a .cells) (at .loop .inv) (omega arith)
-    (is-wrong (a .cells) (a .n) (a .t3) (a .table .now) (at .loop .i) (c .before .row-count .ensures) (c .if1 .taken))
+    (is-wrong (a .cells) (a .n) (a .t3) (a .table .now) (at .loop .i) (c .before .row-count .ensures) (λ e. omega (arith, c .if1 .taken)))
 
 add-i : tie.Need-add-i Inv-loop μ-loop
 add-i c = search needs
@@ -56,7 +56,7 @@ loop-again c =
     let at = c .before .before .before in
     let a = at .before .before .args in
     missed (wrongIn (netIn (a .cells) (a .n) (a .t3) []) (reserved (a .n) (a .table .now))) (at .loop .i) (a .cells) (at .loop .inv) (omega arith)
-    (is-right (a .cells) (a .n) (a .t3) (a .table .now) (at .loop .i) (c .before .row-count .ensures) (c .if1 .left))
+    (is-right (a .cells) (a .n) (a .t3) (a .table .now) (at .loop .i) (c .before .row-count .ensures) (omega (arith, c .if1 .left)))
 
 returns-2 : tie.Need-returns-2 Inv-loop μ-loop
 returns-2 c =

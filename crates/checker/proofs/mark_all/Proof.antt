@@ -1,18 +1,20 @@
 -- `checker::mark_all` meets its contract: before cell a, the marks of the cells below a. Assumes nothing.
-use mathlib.Core.Path.{_≡_, refl, ap, _∙_}
+use mathlib.Core.Path.{_≡_, refl, _∙_}
 use Prim.Native.Nat.{ℕ, _-_, _≤_}
 use native.Mathlib.Omega.{arith}
 use lib.ListN.{length}
-use Rattle.words.specs.Stored.{stored}
-use Rattle.words.proofs.Stored.{length-stored, stored-first, stored-last}
+use lib.Seq.{sets}
+use Rattle.laws.specs.Part.{listOf}
+use Rattle.laws.proofs.Stores.{sets-long, sets-first, sets-last}
 use Rattle.site.specs.Reach.{clashIn}
-use Rattle.checker.proofs.Masks.{mark, mark-none, mark-more}
+use Rattle.checker.specs.Masks.{markAt}
+use Rattle.checker.proofs.Masks.{mark-none, mark-more}
 use borrow.Author.Needs.{needs}
 use Rattle.checker.proofs.mark_all.Statement.{statement}
 use Rattle.checker.proofs.mark_all.Tie as tie
 
 abbrev Inv-loop : tie.InvT-loop
-Inv-loop marks₀ words n reach cells a₀ marks a = (a ≤ cells) × (length marks ≡ length marks₀) × (marks ≡ stored (mark (clashIn reach) cells n words a) n marks₀)
+Inv-loop marks₀ words n reach cells a₀ marks a = (a ≤ cells) × (length marks ≡ length marks₀) × (marks ≡ sets marks₀ 0 (listOf (markAt (clashIn reach) cells words a) n))
 
 abbrev μ-loop : tie.MeasureT-loop
 μ-loop marks₀ words n reach cells a₀ marks a = cells - a
@@ -24,14 +26,14 @@ loop-holds : tie.Need-loop-holds Inv-loop μ-loop
 loop-holds c =
     let a = c .before .before .before .before .before .before .args in
     let k = c .before .before .clear in
-    let m : ℕ → ℕ → ℕ = mark (clashIn (a .reach .now)) (a .cells) (a .n) (a .words .now) in
-    (omega arith, refl, stored-first (m 0) (a .n) (a .marks .now) (k .last .0) (omega arith) (k .ensures) (mark-none (clashIn (a .reach .now)) (a .cells) (a .n) (a .words .now)))
+    let m : ℕ → ℕ → ℕ = markAt (clashIn (a .reach .now)) (a .cells) (a .words .now) in
+    (omega arith, refl, sets-first (m 0) (a .n) (a .marks .now) (k .last .0) (omega arith) (k .ensures) (mark-none (clashIn (a .reach .now)) (a .cells) (a .n) (a .words .now)))
 
 mark-cell-requires : tie.Need-mark-cell-requires Inv-loop μ-loop
 mark-cell-requires c κs =
     let a = c .before .before .before .before .before .before .before .before .before .args in
     let k = c .before .before .before .before .before .clear in
-    let e = ap length (k .ensures) ∙ length-stored (λ k. 0) (a .n) (a .marks .now) in
+    let e = sets-long (λ k. 0) (a .n) (a .marks .now) _ (k .ensures) in
     omega (arith, e)
 
 add-a : tie.Need-add-a Inv-loop μ-loop
@@ -46,9 +48,9 @@ loop-again c =
     let a = l .before .before .before .before .before .before .before .args in
     let k = l .before .before .before .clear in
     let r = c .before .before .mark-cell in
-    let e = ap length (k .ensures) ∙ length-stored (λ k. 0) (a .n) (a .marks .now) in (
+    let e = sets-long (λ k. 0) (a .n) (a .marks .now) _ (k .ensures) in (
       omega arith,
-      ap length (r .ensures) ∙ length-stored _ (a .n) (l .loop .marks) ∙ l .loop .inv .1,
+      sets-long _ (a .n) (l .loop .marks) _ (r .ensures) ∙ l .loop .inv .1,
       mark-more (clashIn (a .reach .now)) (a .cells) (a .n) (a .words .now) (l .loop .a) (k .last .0) (l .loop .marks) (r .last .0) (omega (arith, e)) (l .loop .inv .2) (r .ensures),
     )
 
@@ -60,9 +62,9 @@ returns c =
     let l = c .before .loop in
     let a = c .before .before .before .before .before .before .before .before .args in
     let k = c .before .before .before .before .clear in
-    let m : ℕ → ℕ → ℕ = mark (clashIn (a .reach .now)) (a .cells) (a .n) (a .words .now) in
+    let m : ℕ → ℕ → ℕ = markAt (clashIn (a .reach .now)) (a .cells) (a .words .now) in
     let e : l .a ≡ a .cells = omega arith in
-    stored-last (m (a .cells)) (a .n) (a .marks .now) (k .last .0) (l .marks) (omega arith) (k .ensures) (rw e at (l .inv .2))
+    sets-last (m (a .cells)) (a .n) (a .marks .now) (k .last .0) (l .marks) (omega arith) (k .ensures) (rw e at (l .inv .2))
 
 pub mark-all-spec : {M : Type 1} → statement M
 mark-all-spec =

@@ -1,11 +1,9 @@
 -- `checker::mark_cell` meets its contract: a cell with an empty mask marks nothing. Assumes nothing.
-use lib.Bits.{bitOr}
-use Rattle.laws.specs.Sum.{bit}
-use Rattle.checker.specs.Masks.{meets}
+use Rattle.checker.specs.Masks.{markedAt}
 use mathlib.Core.Path.{sym, ap, _∙_}
 use native.Mathlib.Omega.{arith}
-use lib.ListN.{getD}
-use Rattle.words.specs.Stored.{stored}
+use lib.Seq.{sets}
+use Rattle.laws.specs.Part.{listOf}
 use Rattle.site.specs.Reach.{clashIn}
 use Rattle.checker.proofs.Masks.{mark-kept}
 use borrow.Author.Needs.{needs}
@@ -31,7 +29,7 @@ returns-2 c =
     let m = c .before .before .before .before .before in
     let a = m .before .before .before .args in
     c .before .before .mark-row .ensures
-    ∙ ap (λ x. stored (λ k. bitOr (getD (a .marks .now) k 0) (bit (meets (getD (a .words .now) k 0) x (a .a)))) (a .n) (a .marks .now)) (m .mask-of .ensures)
+    ∙ ap (λ x. sets (a .marks .now) 0 (listOf (markedAt (a .marks .now) (a .words .now) x (a .a)) (a .n))) (m .mask-of .ensures)
 
 pub mark-cell-spec : {M : Type 1} → statement M
 mark-cell-spec =

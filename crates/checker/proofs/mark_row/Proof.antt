@@ -3,28 +3,24 @@ use mathlib.Core.Path.{_≡_, refl, ap, ap₂, _∙_}
 use Prim.Native.Nat.{ℕ, _-_, _≤_}
 use native.Mathlib.Omega.{arith}
 use lib.ListN.{length, getD, length-set}
-use Rattle.words.specs.Stored.{stored}
-use Rattle.words.proofs.Stored.{stored-none, stored-more, stored-past}
+use lib.Seq.{sets}
+use Rattle.laws.specs.Part.{listOf}
+use Rattle.laws.proofs.Stores.{sets-none, sets-more, sets-beyond}
 use native.Mathlib.Nat.{le-refl}
-use mathlib.Core.List.{List}
 use lib.Bits.{bitOr}
-use Rattle.laws.specs.Sum.{bit}
-use Rattle.checker.specs.Masks.{meets}
+use Rattle.checker.specs.Masks.{markedAt}
 use borrow.Author.Needs.{needs}
 use Rattle.checker.proofs.mark_row.Statement.{statement}
 use Rattle.checker.proofs.mark_row.Tie as tie
 
-abbrev joint : List ℕ → List ℕ → ℕ → ℕ → ℕ → ℕ
-joint marks words mask a k = bitOr (getD marks k 0) (bit (meets (getD words k 0) mask a))
-
 abbrev Inv-loop : tie.InvT-loop
-Inv-loop marks₀ words n mask a p₀ marks p = (p ≤ n) × (length marks ≡ length marks₀) × (marks ≡ stored (joint marks₀ words mask a) p marks₀)
+Inv-loop marks₀ words n mask a p₀ marks p = (p ≤ n) × (length marks ≡ length marks₀) × (marks ≡ sets marks₀ 0 (listOf (markedAt marks₀ words mask a) p))
 
 abbrev μ-loop : tie.MeasureT-loop
 μ-loop marks₀ words n mask a p₀ marks p = n - p
 
 loop-holds : tie.Need-loop-holds Inv-loop μ-loop
-loop-holds c = (omega arith, refl, stored-none _ _)
+loop-holds c = (omega arith, refl, sets-none _ _)
 
 mul-marks : tie.Need-mul-marks Inv-loop μ-loop
 mul-marks c = search needs
@@ -57,12 +53,12 @@ loop-again : tie.Need-loop-again Inv-loop μ-loop
 loop-again c =
     let p = c .before .before .before .before .loop in
     let a = c .before .before .before .before .before .before .before .args in
-    let f : ℕ → ℕ = joint (a .marks .now) (a .words .now) (a .mask) (a .a) in
+    let f : ℕ → ℕ = markedAt (a .marks .now) (a .words .now) (a .mask) (a .a) in
     let same : getD (p .marks) (p .p) 0 ≡ getD (a .marks .now) (p .p) 0
-    = ap (λ l. getD l (p .p) 0) (p .inv .2) ∙ stored-past f (p .p) (a .marks .now) (p .p) (le-refl (p .p)) in (
+    = ap (λ l. getD l (p .p) 0) (p .inv .2) ∙ sets-beyond f (p .p) (a .marks .now) (p .p) (le-refl (p .p)) in (
       omega arith,
       length-set (p .marks) (p .p) _ ∙ p .inv .1,
-      stored-more f (p .p) _ (p .marks) (a .marks .now) (ap₂ bitOr same (c .met .ensures)) (p .inv .2),
+      sets-more f (p .p) _ (p .marks) (a .marks .now) (ap₂ bitOr same (c .met .ensures)) (p .inv .2),
     )
 
 same-length : tie.Need-same-length Inv-loop μ-loop

@@ -1,16 +1,16 @@
 -- `rows::mark` meets its contract: the test is the definition's. Assumes nothing.
 use mathlib.Core.Path.{_≡_}
 use Prim.Native.Nat.{ℕ}
-use lib.Dec.{eqb}
+use Rattle.theory.specs.Greedy.{sends}
 use borrow.Author.Tests.{eq-eqb, ne-eqb}
 use Rattle.laws.specs.Choice.{pick}
 use Rattle.rows.proofs.mark.Statement.{statement}
 use Rattle.rows.proofs.mark.Tie as tie
 
-marked : (e b : ℕ) → e ≡ 1 → 2 ≡ pick (eqb e 1) 2 b
+marked : (e b : ℕ) → e ≡ 1 → 2 ≡ pick (sends e) 2 b
 marked e b h = rw (eq-eqb e 1 h)
 
-as-it-was : (e b : ℕ) → (e ≡ 1 → ⊥) → b ≡ pick (eqb e 1) 2 b
+as-it-was : (e b : ℕ) → (e ≡ 1 → ⊥) → b ≡ pick (sends e) 2 b
 as-it-was e b h = rw (ne-eqb e 1 h)
 
 returns : tie.Need-returns
