@@ -25,7 +25,7 @@ use Rattle.sitefile.specs.declared.SiteRead.{SiteRead}
 use Rattle.sitefile.proofs.Trip.{read-fine}
 use Rattle.listing.specs.Lines.{siteLine, refusedLine}
 use Rattle.listing.proofs.Writing.{begun, said, stored, ended}
-use Rattle.lister.specs.Listing.{chainLine, loadLine, planLine, siteHead}
+use Rattle.lister.specs.Listing.{chainLine, loadLine, planLine, headLines}
 use Rattle.lister.specs.Parts.{headOf, tableAfter, rowCount, siteRest, restOf}
 use Rattle.lister.specs.declared.Rest.{Rest}
 
@@ -37,16 +37,16 @@ pub four :
     o₂ ≡ sets o₁ a₁ (chainLine x) → a₂ ≡ a₁ + length (chainLine x) →
     o₃ ≡ sets o₂ a₂ (loadLine y) → a₃ ≡ a₂ + length (loadLine y) →
     o₄ ≡ sets o₃ a₃ (planLine z) → a₄ ≡ a₃ + length (planLine z) →
-    (o₄ ≡ sets out 0 (siteHead s)) × (a₄ ≡ length (siteHead s))
-unfolding siteHead
+    (o₄ ≡ sets out 0 (headLines s)) × (a₄ ≡ length (headLines s))
+unfolding headLines
 four s out {x = x} {y = y} {z = z} ex ey ez p₁ q₁ p₂ q₂ p₃ q₃ p₄ q₄ =
-    let e : siteHead s ≡ siteLine (s .cells) (s .slots) (s .channels) ++ (chainLine x ++ (loadLine y ++ (planLine z ++ []))) = rw (ex, ey, ez, append-nil) in
-    let w = said e (begun out 0 (siteHead s)) in
+    let e : headLines s ≡ siteLine (s .cells) (s .slots) (s .channels) ++ (chainLine x ++ (loadLine y ++ (planLine z ++ []))) = rw (ex, ey, ez, append-nil) in
+    let w = said e (begun out 0 (headLines s)) in
     let w₁ = stored (siteLine (s .cells) (s .slots) (s .channels)) (chainLine x ++ (loadLine y ++ (planLine z ++ []))) w p₁ q₁ in
     let w₂ = stored (chainLine x) (loadLine y ++ (planLine z ++ [])) w₁ p₂ q₂ in
     let w₃ = stored (loadLine y) (planLine z ++ []) w₂ p₃ q₃ in
     let d = ended (stored (planLine z) [] w₃ p₄ q₄) in
-    (d .0, d .1 ∙ zero-add (length (siteHead s)))
+    (d .0, d .1 ∙ zero-add (length (headLines s)))
 
 -- there are no more cell lines than cells
 pub no-more : (a : PlanAnswer) (cells : ℕ) → rowCount a cells ≤ cells
@@ -63,8 +63,8 @@ module _ (file : List ℕ) {r : SiteRead} (e : r ≡ readSite file) (d : r .answ
   pub accepted-fine : Bytes file → faultOf (r .site) ≡ Fine
   accepted-fine bytes = ap (λ (x : SiteRead). faultOf (x .site)) e ∙ read-fine file bytes answered
 
-  pub accepted-head : siteHead (r .site) ≡ headOf (readSite file .site) (readSite file .answer)
-  accepted-head = ap (λ (x : SiteRead). siteHead (x .site)) e ∙ ap (headOf (readSite file .site)) (sym answered)
+  pub accepted-head : headLines (r .site) ≡ headOf (readSite file .site) (readSite file .answer)
+  accepted-head = ap (λ (x : SiteRead). headLines (x .site)) e ∙ ap (headOf (readSite file .site)) (sym answered)
 
   pub accepted-table : (t : List ℕ) → planTable (r .site) t ≡ tableAfter (readSite file .site) (readSite file .answer) t
   accepted-table t =

@@ -1,4 +1,3 @@
 -- The laws of crate `lister`, module by module.
 pub mod Heading
 pub mod Printed
-pub mod Example

@@ -22,7 +22,7 @@ use Rattle.records.specs.Bytes.{Bytes}
 use Rattle.sitefile.specs.Read.{readSite}
 use Rattle.sitefile.proofs.Trip.{read-fine}
 use Rattle.listing.specs.Lines.{refusedLine, cellLine}
-use Rattle.lister.specs.Listing.{siteHead, cellLines, cellsOf, listingOf, listing}
+use Rattle.lister.specs.Listing.{headLines, cellLines, cellsOf, listingOf, listing}
 use Rattle.lister.specs.Parts.{headOf, tableAfter, rowCount, siteRest, restOf}
 
 -- rows that stand in the first part of a table
@@ -57,7 +57,7 @@ parts :
     (s : Site) (t : List ℕ) (a : ReadAnswer) → (a ≡ Done → faultOf s ≡ Fine) → 65536 ≤ length t →
     listingOf s a ≡ headOf s a ++ cellLines (restOf s a .channels) (restOf s a .width) (tableAfter s a t) 0 (restOf s a .rows)
 unfolding siteRest
-parts s t Done fine long = ap (λ (l : List ℕ). siteHead s ++ l) (cells-read s t (fine refl) long)
+parts s t Done fine long = ap (λ (l : List ℕ). headLines s ++ l) (cells-read s t (fine refl) long)
 parts s t (Refused number offset) fine long = unfold cellLines in sym (append-nil (refusedLine number offset))
 
 -- what the program writes, all together: `head` gives the first part, and `row_line` each line of the second

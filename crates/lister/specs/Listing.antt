@@ -39,8 +39,8 @@ planLine plan.TableShort = []
 planLine (plan.Refused f) = []
 
 -- "Fields: cells, slots, channels; verdicts"
-unfoldable pub siteHead : Site → List ℕ
-siteHead s =
+unfoldable pub headLines : Site → List ℕ
+headLines s =
     siteLine (s .cells) (s .slots) (s .channels)
     ++ (chainLine (chainAnswer s)
     ++ (loadLine (loadAnswer s)
@@ -58,7 +58,7 @@ cellsOf s (noRoom c m) = []
 
 -- "An unreadable file gives one line, refused number offset."
 abbrev pub listingOf : Site → ReadAnswer → List ℕ
-listingOf s Done = siteHead s ++ cellsOf s (greedy (netOf s))
+listingOf s Done = headLines s ++ cellsOf s (greedy (netOf s))
 listingOf s (Refused number offset) = refusedLine number offset
 
 unfoldable pub listing : List ℕ → List ℕ

@@ -12,11 +12,11 @@ use Rattle.planner.specs.declared.PlanAnswer.the-variants as plan
 use Rattle.records.specs.declared.ReadAnswer.{ReadAnswer}
 use Rattle.records.specs.declared.ReadAnswer.the-variants.{Done, Refused}
 use Rattle.listing.specs.Lines.{refusedLine}
-use Rattle.lister.specs.Listing.{siteHead}
+use Rattle.lister.specs.Listing.{headLines}
 use Rattle.lister.specs.declared.Rest.{Rest}
 
 abbrev pub headOf : Site → ReadAnswer → List ℕ
-headOf s Done = siteHead s
+headOf s Done = headLines s
 headOf s (Refused number offset) = refusedLine number offset
 
 -- the table that the cell lines are read from
@@ -35,7 +35,7 @@ rowCount (plan.Refused f) cells = 0
 unfoldable pub siteRest : Site → Rest
 siteRest s =
     record {
-      end = length (siteHead s);
+      end = length (headLines s);
       rows = rowCount (answerOf (greedy (netOf s))) (s .cells);
       width = positions s;
       channels = s .channels;

@@ -17,7 +17,7 @@ ghost use Rattle.site.specs.declared.Fault.the-variants.{Fine};
 ghost use Rattle.planner.specs.Plan.{planTable};
 ghost use Rattle.sitefile.specs.Read.{readSite};
 ghost use Rattle.listing.specs.Lines.{cellLine};
-ghost use Rattle.lister.specs.Listing.{chainLine, loadLine, planLine, siteHead};
+ghost use Rattle.lister.specs.Listing.{chainLine, loadLine, planLine, headLines};
 ghost use Rattle.lister.specs.Parts.{headOf, tableAfter, rowCount, siteRest, restOf, Fits};
 
 // What follows the head: where the head ends, how many cell lines there are, and the positions and channels of a row.
@@ -87,7 +87,7 @@ fn row_count(answer: PlanAnswer, cells: usize) -> usize
 fn site_head(out: &mut [u8], site: Site, table: &mut [u8]) -> Rest
     requires { ⌜ faultOf site ≡ Fine ⌝ }
     requires { ⌜ (320 ≤ length (now out)) × (65536 ≤ length (now table)) ⌝ }
-    ensures stored { λ r. ⌜ now (out .exit) ≡ sets (now (out .entry)) 0 (siteHead site) ⌝ }
+    ensures stored { λ r. ⌜ now (out .exit) ≡ sets (now (out .entry)) 0 (headLines site) ⌝ }
     ensures table { λ r. ⌜ now (table .exit) ≡ planTable site (now (table .entry)) ⌝ }
     ensures rest { λ r. ⌜ r ≡ siteRest site ⌝ }
     ensures fits { λ r. ⌜ Fits r ⌝ }

@@ -13,8 +13,8 @@ use lib.Pow.{shr-lt, shr-shr}
 use lib.Seq.{sets}
 use lib.Dec.{eqb}
 use borrow.Author.Tests.{eqb-true, eqb-false}
-use Rattle.laws.specs.Choice.{pick}
-use Rattle.laws.specs.Sum.{any}
+use Rattle.laws.specs.Sum.{bit, any}
+use Rattle.theory.specs.Greedy.{sends}
 use Rattle.laws.proofs.Choice.{cases}
 use Rattle.laws.proofs.Any.{any-none, none-any, any-eq}
 use Rattle.laws.proofs.Bits.{digit-zero, no-bits}
@@ -25,9 +25,9 @@ use Rattle.planfile.specs.Bits.{bytesFor, one, bitOf, bitsFrom, leftOver
 
 pub one-two : (x : ℕ) → one x < 2
 unfolding one
-one-two x = go (eqb x 1)
+one-two x = go (sends x)
   where
-    go : (b : Bool) → pick b 1 0 < 2
+    go : (b : Bool) → bit b < 2
     go true = omega arith
     go false = omega arith
 

@@ -5,4 +5,3 @@ pub mod WriteLaws
 pub mod Order
 pub mod Given
 pub mod Trip
-pub mod Desk

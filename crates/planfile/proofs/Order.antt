@@ -13,7 +13,7 @@ use Rattle.records.specs.declared.ReadAnswer.the-variants.{Done, Refused}
 use Rattle.site.specs.Record.{sizeOk}
 use Rattle.records.specs.Reasons.{Reason, reason, recordReasons}
 use Rattle.records.proofs.Reasons.{NoneApply, done-none, First, refused-first, Some, some-record, some-first}
-use Rattle.planfile.specs.Read.{planReasons, contentReasons, cellsIn, slotsIn, channelsIn, entriesIn, planAnswer, answered, readPlan, endIn}
+use Rattle.planfile.specs.Read.{planReasons, contentReasons, cellsIn, slotsIn, channelsIn, entriesIn, planReadAnswer, planReadOf, readPlan, endIn}
 
 -- the order, as numbers and offsets: head, its contents, plan, its contents, then 12, then 4
 pub numbers : (s t : List ℕ) → map (λ (r : Reason). r .number) (planReasons s t) ≡ 8 ∷ 9 ∷ 10 ∷ 8 ∷ 1 ∷ 8 ∷ 9 ∷ 10 ∷ 8 ∷ 14 ∷ 12 ∷ 4 ∷ []
@@ -22,22 +22,22 @@ numbers s t = refl
 pub offsets : (s t : List ℕ) → map (λ (r : Reason). r .offset) (planReasons s t) ≡ 0 ∷ 0 ∷ 0 ∷ 0 ∷ 0 ∷ 10 ∷ 10 ∷ 10 ∷ 10 ∷ 10 ∷ endIn s ∷ 0 ∷ []
 offsets s t = refl
 
-answer-at : (i a f : ℕ) (x : ReadAnswer) → answered i a f x .answer ≡ x
-unfolding answered
+answer-at : (i a f : ℕ) (x : ReadAnswer) → planReadOf i a f x .answer ≡ x
+unfolding planReadOf
 answer-at i a f Done = refl
 answer-at i a f (Refused n at) = refl
 
-pub answer-is : (s t : List ℕ) → readPlan s t .answer ≡ planAnswer s t
+pub answer-is : (s t : List ℕ) → readPlan s t .answer ≡ planReadAnswer s t
 unfolding readPlan
-answer-is s t = answer-at _ _ _ (planAnswer s t)
+answer-is s t = answer-at _ _ _ (planReadAnswer s t)
 
 -- the two ways of a read
 pub plan-refused : (s t : List ℕ) (n at : ℕ) → readPlan s t .answer ≡ Refused n at → First (planReasons s t) n at
-unfolding planAnswer
+unfolding planReadAnswer
 plan-refused s t n at e = refused-first (planReasons s t) n at (sym (answer-is s t) ∙ e)
 
 pub plan-done : (s t : List ℕ) → readPlan s t .answer ≡ Done → NoneApply (planReasons s t)
-unfolding planAnswer
+unfolding planReadAnswer
 plan-done s t e = done-none (planReasons s t) (sym (answer-is s t) ∙ e)
 
 -- no refusal has the number 0
@@ -50,5 +50,5 @@ some-plan s t =
     some-record s 0 1 (not (eqb (le16 s 0) 8)) (head ∷ plan) h
 
 pub refused-some : (s t : List ℕ) (n at : ℕ) → readPlan s t .answer ≡ Refused n at → 1 ≤ n
-unfolding planAnswer
+unfolding planReadAnswer
 refused-some s t n at e = some-first (planReasons s t) (some-plan s t) n at (sym (answer-is s t) ∙ e)

@@ -11,18 +11,18 @@ use lib.Seq.{sets, length-take-le}
 use lib.Dec.{ltb, eqb}
 use borrow.Author.Tests.{lt-ltb, le-ltb}
 use Rattle.laws.proofs.Stores.{sets-front}
-use Rattle.site.specs.Record.{sizeOk}
+use Rattle.site.specs.Record.{entries, sizeOk}
 use Rattle.records.specs.Bytes.{le16}
 use Rattle.records.specs.Opener.{openAt}
 use Rattle.records.specs.declared.Length.the-variants.{Exact}
 use Rattle.records.specs.declared.Opened.the-variants.{Body, Refused as NotOpened}
 use Rattle.records.specs.declared.ReadAnswer.the-variants.{Done, Refused}
 use Rattle.records.proofs.Laws.{opened, within, exact}
-use Rattle.planfile.specs.Bits.{entriesOf, bytesFor, bitsFrom, leftOver}
+use Rattle.planfile.specs.Bits.{bytesFor, bitsFrom, leftOver}
 use Rattle.records.specs.Reasons.{Reason, reason, firstReason, recordReasons}
 use Rattle.records.proofs.Reasons.{afterOpen, open-reasons, wrong-exact}
 use Rattle.site.proofs.Faults.{sizes, few-bytes}
-use Rattle.planfile.specs.Read.{contentReasons, planAnswer, entriesIn, endIn, bodyIn, cellsIn, slotsIn, channelsIn, refusedPlan, answered, readPlan, planTableRead, HeadRead}
+use Rattle.planfile.specs.Read.{contentReasons, planReadAnswer, entriesIn, endIn, bodyIn, cellsIn, slotsIn, channelsIn, refusedPlan, planReadOf, readPlan, planTableRead, HeadRead}
 use Rattle.planfile.proofs.Bits.{length-bits}
 
 -- the reasons past the head's record
@@ -33,16 +33,16 @@ afterHead s t =
 
 module _ (s t : List ℕ) where
   -- what a refusal gives back and leaves
-  pub refuse : (n at : ℕ) → planAnswer s t ≡ Refused n at → (refusedPlan n at ≡ readPlan s t) × (t ≡ planTableRead s t)
-  unfolding readPlan answered planTableRead
+  pub refuse : (n at : ℕ) → planReadAnswer s t ≡ Refused n at → (refusedPlan n at ≡ readPlan s t) × (t ≡ planTableRead s t)
+  unfolding readPlan planReadOf planTableRead
   refuse n at e = (rw e refl, rw e refl)
 
   -- the head's record, and what follows it
-  head-first : afterOpen (openAt s 0 1 (Exact 8)) (firstReason (afterHead s t)) ≡ planAnswer s t
-  unfolding planAnswer
+  head-first : afterOpen (openAt s 0 1 (Exact 8)) (firstReason (afterHead s t)) ≡ planReadAnswer s t
+  unfolding planReadAnswer
   head-first = open-reasons s 0 1 (Exact 8) _ (afterHead s t) (wrong-exact 8 (le16 s 0) (omega arith))
 
-  pub head-stop : (n at : ℕ) → openAt s 0 1 (Exact 8) ≡ NotOpened n at → planAnswer s t ≡ Refused n at
+  pub head-stop : (n at : ℕ) → openAt s 0 1 (Exact 8) ≡ NotOpened n at → planReadAnswer s t ≡ Refused n at
   unfolding afterOpen
   head-stop n at e = sym head-first ∙ rw e refl
 
@@ -52,16 +52,16 @@ module _ (s t : List ℕ) where
       let six : len ≡ 6 = omega (arith, o .size, exact 8 (le16 s 0) (o .fits)) in
       e ∙ (λ j. Body (o .starts j) (six j))
 
-  past-head : openAt s 0 1 (Exact 8) ≡ Body 4 6 → planAnswer s t ≡ firstReason (afterHead s t)
+  past-head : openAt s 0 1 (Exact 8) ≡ Body 4 6 → planReadAnswer s t ≡ firstReason (afterHead s t)
   unfolding afterOpen
   past-head e = sym head-first ∙ rw e refl
 
-  pub size-stop : openAt s 0 1 (Exact 8) ≡ Body 4 6 → sizeOk (cellsIn s) (slotsIn s) (channelsIn s) ≡ false → planAnswer s t ≡ Refused 1 0
+  pub size-stop : openAt s 0 1 (Exact 8) ≡ Body 4 6 → sizeOk (cellsIn s) (slotsIn s) (channelsIn s) ≡ false → planReadAnswer s t ≡ Refused 1 0
   unfolding firstReason
   size-stop h e = past-head h ∙ rw e refl
 
   module _ (i a f : ℕ) (head : HeadRead s i a f) where
-    pub entries-are : entriesOf i a f ≡ entriesIn s
+    pub entries-are : entries i a f ≡ entriesIn s
     entries-are = rw (head .cells-are, head .slots-are, head .channels-are)
 
     sized : sizeOk (cellsIn s) (slotsIn s) (channelsIn s) ≡ true
@@ -71,13 +71,13 @@ module _ (s t : List ℕ) where
     few = few-bytes (sizes (cellsIn s) (slotsIn s) (channelsIn s) sized)
 
     -- past the head the plan record decides, and what follows it
-    body-first : afterOpen (openAt s 10 4 (Exact (2 + bytesFor (entriesIn s)))) (firstReason (contentReasons s t)) ≡ planAnswer s t
+    body-first : afterOpen (openAt s 10 4 (Exact (2 + bytesFor (entriesIn s)))) (firstReason (contentReasons s t)) ≡ planReadAnswer s t
     unfolding firstReason
     body-first =
         open-reasons s 10 4 (Exact (2 + bytesFor (entriesIn s))) _ (contentReasons s t) (wrong-exact (2 + bytesFor (entriesIn s)) (le16 s 10) (omega arith))
         ∙ sym (past-head (head .read) ∙ rw sized refl)
 
-    pub body-stop : (n at : ℕ) → openAt s 10 4 (Exact (2 + bytesFor (entriesIn s))) ≡ NotOpened n at → planAnswer s t ≡ Refused n at
+    pub body-stop : (n at : ℕ) → openAt s 10 4 (Exact (2 + bytesFor (entriesIn s))) ≡ NotOpened n at → planReadAnswer s t ≡ Refused n at
     unfolding afterOpen
     body-stop n at e = sym body-first ∙ rw e refl
 
@@ -102,16 +102,16 @@ module _ (s t : List ℕ) where
           rw (add-sub-cancel-left start len)
           (length-take-le len (drop start s) (rw (length-drop start s) (omega (arith, ends))) ∙ long)
 
-      tail-first : planAnswer s t ≡ firstReason (contentReasons s t)
+      tail-first : planReadAnswer s t ≡ firstReason (contentReasons s t)
       unfolding afterOpen
       tail-first = sym body-first ∙ rw found refl
 
-      pub left-stop : leftOver (bodyIn s) (entriesIn s) ≡ true → planAnswer s t ≡ Refused 14 10
+      pub left-stop : leftOver (bodyIn s) (entriesIn s) ≡ true → planReadAnswer s t ≡ Refused 14 10
       unfolding firstReason
       left-stop e = tail-first ∙ rw e refl
 
       module _ (none : leftOver (bodyIn s) (entriesIn s) ≡ false) where
-        pub more-stop : start + len < length s → planAnswer s t ≡ Refused 12 (start + len)
+        pub more-stop : start + len < length s → planReadAnswer s t ≡ Refused 12 (start + len)
         unfolding firstReason
         more-stop h =
             let e : start + len ≡ endIn s = omega (arith, starts, long) in
@@ -121,20 +121,20 @@ module _ (s t : List ℕ) where
           no-more : ltb (endIn s) (length s) ≡ false
           no-more = le-ltb (endIn s) (length s) (omega (arith, starts, long))
 
-          pub short-stop : length t < entriesIn s → planAnswer s t ≡ Refused 4 0
+          pub short-stop : length t < entriesIn s → planReadAnswer s t ≡ Refused 4 0
           unfolding firstReason
           short-stop h = tail-first ∙ rw (none, no-more, lt-ltb (length t) (entriesIn s) h) refl
 
-          pub read-done : entriesIn s ≤ length t → planAnswer s t ≡ Done
+          pub read-done : entriesIn s ≤ length t → planReadAnswer s t ≡ Done
           unfolding firstReason
           read-done h = tail-first ∙ rw (none, no-more, le-ltb (length t) (entriesIn s) h) refl
 
 -- what a done read gives back and leaves
 pub accept :
-    (s t : List ℕ) → planAnswer s t ≡ Done → entriesIn s ≤ length t →
+    (s t : List ℕ) → planReadAnswer s t ≡ Done → entriesIn s ≤ length t →
     (record { cells = cellsIn s; slots = slotsIn s; channels = channelsIn s; answer = Done } ≡ readPlan s t)
     × (sets t 0 (bitsFrom (bodyIn s) 0 (entriesIn s)) ≡ planTableRead s t)
-unfolding readPlan answered planTableRead
+unfolding readPlan planReadOf planTableRead
 accept s t e h =
     let l = length-bits (bodyIn s) (entriesIn s) 0 in (
       rw e refl,

@@ -15,7 +15,7 @@ use Rattle.laws.specs.Choice.{pick}
 use Rattle.laws.proofs.Choice.{cases}
 use Rattle.laws.proofs.Any.{any-none, none-any}
 use Rattle.laws.proofs.Bits.{digit-zero}
-use Rattle.site.specs.Record.{sizeOk, isFine, faultOf}
+use Rattle.site.specs.Record.{entries, size, sizeOk, isFine, faultOf}
 use Rattle.site.specs.declared.Site.{Site}
 use Rattle.site.specs.declared.Fault.the-variants.{Fine, Size}
 use Rattle.site.proofs.Faults.{fine-is, took-first}
@@ -23,8 +23,8 @@ use Rattle.records.specs.Bytes.{Bytes, le16, words}
 use Rattle.records.specs.declared.ReadAnswer.the-variants.{Done}
 use Rattle.records.proofs.Bytes.{bytes-drop, wordsAt, words-at}
 use Rattle.records.proofs.Reasons.{NoneApply, none-done}
-use Rattle.planfile.specs.Bits.{entriesOf, bytesFor, one, bitOf, bitsFrom, leftOver, ones, packed, packedFrom}
-use Rattle.planfile.specs.Read.{planReasons, planAnswer, cellsIn, slotsIn, channelsIn, entriesIn, bodyIn, endIn, answered, readPlan, planTableRead}
+use Rattle.planfile.specs.Bits.{bytesFor, one, bitOf, bitsFrom, leftOver, ones, packed, packedFrom}
+use Rattle.planfile.specs.Read.{planReasons, planReadAnswer, cellsIn, slotsIn, channelsIn, entriesIn, bodyIn, endIn, planReadOf, readPlan, planTableRead}
 use Rattle.planfile.specs.Write.{planHead, planBytes, planFile, planWritten, planOut}
 use Rattle.planfile.specs.declared.PlanWritten.the-variants.{Done as Written, TableShort, OutShort, Refused as Faulty}
 use Rattle.planfile.proofs.Bits.{one-bit, ones-bit, bits-ones, bits-at, bit-in, length-bits, length-packed, packed-at}
@@ -125,10 +125,10 @@ module _ (i a f : ℕ) (t : List ℕ) where
   unfolding planBytes
   channels-back = omega arith
 
-  entries-back : entriesIn (planBytes i a f t) ≡ entriesOf i a f
-  entries-back = λ j. entriesOf (cells-back j) (slots-back j) (channels-back j)
+  entries-back : entriesIn (planBytes i a f t) ≡ entries i a f
+  entries-back = λ j. entries (cells-back j) (slots-back j) (channels-back j)
 
-  plan-length-back : le16 (planBytes i a f t) 10 ≡ 2 + bytesFor (entriesOf i a f)
+  plan-length-back : le16 (planBytes i a f t) 10 ≡ 2 + bytesFor (entries i a f)
   unfolding planBytes
   plan-length-back = omega arith
 
@@ -139,13 +139,13 @@ module _ (i a f : ℕ) (t : List ℕ) where
   unfolding planBytes
   head-length-back = refl
 
-  past-head : take (bytesFor (entriesOf i a f)) (drop 14 (planBytes i a f t)) ≡ packed t (entriesOf i a f)
+  past-head : take (bytesFor (entries i a f)) (drop 14 (planBytes i a f t)) ≡ packed t (entries i a f)
   unfolding planBytes
   past-head =
-      take-all (bytesFor (entriesOf i a f)) (packed t (entriesOf i a f))
-      (omega (arith, length-packed (take (entriesOf i a f) t) (bytesFor (entriesOf i a f)) 0))
+      take-all (bytesFor (entries i a f)) (packed t (entries i a f))
+      (omega (arith, length-packed (take (entries i a f) t) (bytesFor (entries i a f)) 0))
 
-  body-back : bodyIn (planBytes i a f t) ≡ packed t (entriesOf i a f)
+  body-back : bodyIn (planBytes i a f t) ≡ packed t (entries i a f)
   body-back = ap (λ (n : ℕ). take (bytesFor n) (drop 14 (planBytes i a f t))) entries-back ∙ past-head
 
   kinds-back :
@@ -153,20 +153,20 @@ module _ (i a f : ℕ) (t : List ℕ) where
   unfolding planBytes
   kinds-back = (refl, refl, refl)
 
-  module _ (ok : sizeOk i a f ≡ true) (enough : entriesOf i a f ≤ length t) where
+  module _ (ok : sizeOk i a f ≡ true) (enough : entries i a f ≤ length t) where
     long-back : length (planBytes i a f t) ≡ 14 + bytesFor (entriesIn (planBytes i a f t))
     long-back = file-length i a f t ∙ ap (λ (n : ℕ). 14 + bytesFor n) (sym entries-back)
 
     left-back : leftOver (bodyIn (planBytes i a f t)) (entriesIn (planBytes i a f t)) ≡ false
     left-back =
         (λ j. leftOver (body-back j) (entries-back j))
-        ∙ packed-left (take (entriesOf i a f) t) (entriesOf i a f) (length-take-le (entriesOf i a f) t enough)
+        ∙ packed-left (take (entries i a f) t) (entries i a f) (length-take-le (entries i a f) t enough)
 
     -- no record ends past the file
     past : (k : ℕ) → k ≤ 14 + bytesFor (entriesIn (planBytes i a f t)) → ltb (length (planBytes i a f t)) k ≡ false
     past k h = le-ltb (length (planBytes i a f t)) k (rw long-back h)
 
-    no-reason : (u : List ℕ) → entriesOf i a f ≤ length u → NoneApply (planReasons (planBytes i a f t) u)
+    no-reason : (u : List ℕ) → entries i a f ≤ length u → NoneApply (planReasons (planBytes i a f t) u)
     no-reason u h = (
       past 4 (omega arith),
       (
@@ -205,21 +205,21 @@ module _ (i a f : ℕ) (t : List ℕ) where
       ),
     )
 
-    done-back : (u : List ℕ) → entriesOf i a f ≤ length u → planAnswer (planBytes i a f t) u ≡ Done
-    unfolding planAnswer
+    done-back : (u : List ℕ) → entries i a f ≤ length u → planReadAnswer (planBytes i a f t) u ≡ Done
+    unfolding planReadAnswer
     done-back u h = none-done (planReasons (planBytes i a f t) u) (no-reason u h)
 
     -- the file of a table gives back I, T and F, and 1 for each byte that was 1, 0 for each other
     pub written-read :
-        (u : List ℕ) → entriesOf i a f ≤ length u →
+        (u : List ℕ) → entries i a f ≤ length u →
         (readPlan (planBytes i a f t) u ≡ record { cells = i; slots = a; channels = f; answer = Done })
-        × (planTableRead (planBytes i a f t) u ≡ map one (take (entriesOf i a f) t) ++ drop (entriesOf i a f) u)
-    unfolding readPlan answered planTableRead
+        × (planTableRead (planBytes i a f t) u ≡ map one (take (entries i a f) t) ++ drop (entries i a f) u)
+    unfolding readPlan planReadOf planTableRead
     written-read u h = (
       rw (done-back u h) (λ j. record { cells = cells-back j; slots = slots-back j; channels = channels-back j; answer = Done }),
       rw (done-back u h)
           ((λ j. bitsFrom (body-back j) 0 (entries-back j) ++ drop (entries-back j) u)
-          ∙ ap (λ (l : List ℕ). l ++ drop (entriesOf i a f) u) (packed-bits (take (entriesOf i a f) t) (entriesOf i a f) (length-take-le (entriesOf i a f) t enough))),
+          ∙ ap (λ (l : List ℕ). l ++ drop (entries i a f) u) (packed-bits (take (entries i a f) t) (entries i a f) (length-take-le (entries i a f) t enough))),
     )
 
 -- ---- read, then written
@@ -297,7 +297,7 @@ module _ (s t : List ℕ) (done : readPlan s t .answer ≡ Done) (bytes : Bytes 
 -- what a done writer tells
 pub record WrittenDone (s : Site) (t out : List ℕ) (m : ℕ) : Type 0 where
   pub fine : faultOf s ≡ Fine
-  pub enough : entriesOf (s .cells) (s .slots) (s .channels) ≤ length t
+  pub enough : size s ≤ length t
   pub fits : length (planFile s t) ≤ length out
   pub count : m ≡ length (planFile s t)
 
@@ -306,7 +306,7 @@ unfolding planWritten
 written-tells s t out m e = go _ _ _ refl refl refl e
   where
     n : ℕ
-    n = entriesOf (s .cells) (s .slots) (s .channels)
+    n = size s
 
     go :
         (x y z : Bool) → isFine (faultOf s) ≡ x → ltb (length t) n ≡ y → ltb (length out) (length (planFile s t)) ≡ z →
@@ -320,10 +320,10 @@ written-tells s t out m e = go _ _ _ refl refl refl e
 
 -- what `write_plan` wrote, `read_plan` reads: the site's I, T and F, and its table's reservations
 pub calls-written-read :
-    (s : Site) (t out u : List ℕ) (m : ℕ) → planWritten s t out ≡ Written m → entriesOf (s .cells) (s .slots) (s .channels) ≤ length u →
+    (s : Site) (t out u : List ℕ) (m : ℕ) → planWritten s t out ≡ Written m → size s ≤ length u →
     (readPlan (take m (planOut s t out)) u ≡ record { cells = s .cells; slots = s .slots; channels = s .channels; answer = Done })
     × (planTableRead (take m (planOut s t out)) u
-    ≡ map one (take (entriesOf (s .cells) (s .slots) (s .channels)) t) ++ drop (entriesOf (s .cells) (s .slots) (s .channels)) u)
+    ≡ map one (take (size s) t) ++ drop (size s) u)
 unfolding faultOf
 calls-written-read s t out u m e h =
     let w = written-tells s t out m e in
@@ -338,15 +338,15 @@ pub calls-read-written :
     (x : Site) → faultOf x ≡ Fine → x .cells ≡ readPlan s t .cells → x .slots ≡ readPlan s t .slots → x .channels ≡ readPlan s t .channels →
     (out : List ℕ) → length s ≤ length out →
     (planWritten x (planTableRead s t) out ≡ Written (length s)) × (planOut x (planTableRead s t) out ≡ s ++ drop (length s) out)
-unfolding readPlan answered planWritten
+unfolding readPlan planReadOf planWritten
 calls-read-written s t done bytes x fine i a f out h =
-    let p : planAnswer s t ≡ Done = sym (answer-is s t) ∙ done in
+    let p : planReadAnswer s t ≡ Done = sym (answer-is s t) ∙ done in
     let ci : x .cells ≡ cellsIn s = rw p at i in
     let ca : x .slots ≡ slotsIn s = rw p at a in
     let cf : x .channels ≡ channelsIn s = rw p at f in
-    let n : entriesOf (x .cells) (x .slots) (x .channels) ≡ entriesIn s = (λ j. entriesOf (ci j) (ca j) (cf j)) in
+    let n : size x ≡ entriesIn s = (λ j. entries (ci j) (ca j) (cf j)) in
     let file : planFile x (planTableRead s t) ≡ s = (λ j. planBytes (ci j) (ca j) (cf j) (planTableRead s t)) ∙ read-written s t done bytes in
-    let enough : entriesOf (x .cells) (x .slots) (x .channels) ≤ length (planTableRead s t) = rw n (table-long s t done bytes) in
-    let room = le-ltb (length (planTableRead s t)) (entriesOf (x .cells) (x .slots) (x .channels)) enough in
+    let enough : size x ≤ length (planTableRead s t) = rw n (table-long s t done bytes) in
+    let room = le-ltb (length (planTableRead s t)) (size x) enough in
     let fits = le-ltb (length out) (length s) h in
     (rw (fine, room, file, fits) refl, out-done x (planTableRead s t) out fine enough (rw file h) ∙ ap (λ (l : List ℕ). l ++ drop (length l) out) file)

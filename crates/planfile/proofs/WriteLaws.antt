@@ -9,22 +9,22 @@ use lib.Seq.{sets}
 use lib.Dec.{ltb}
 use borrow.Author.Tests.{lt-ltb, le-ltb, le-leb}
 use Rattle.laws.proofs.Stores.{sets-append, sets-front}
-use Rattle.site.specs.Record.{isFine, faultOf}
+use Rattle.site.specs.Record.{entries, size, isFine, faultOf}
 use Rattle.site.specs.declared.Site.{Site}
 use Rattle.site.specs.declared.Fault.the-variants.{Fine}
 use Rattle.records.specs.Bytes.{words}
-use Rattle.records.specs.Write.{over}
-use Rattle.records.proofs.Write.{over-short}
-use Rattle.planfile.specs.Bits.{entriesOf, bytesFor, packed}
+use Rattle.records.specs.Write.{laidOver}
+use Rattle.records.proofs.Write.{laid-short}
+use Rattle.planfile.specs.Bits.{bytesFor, packed}
 use Rattle.planfile.specs.Write.{planHead, planBytes, planFile, planWritten, planOut}
 use Rattle.planfile.specs.declared.PlanWritten.the-variants.{Done, TableShort, OutShort, Refused}
 use Rattle.planfile.proofs.Bits.{length-packed}
 
-pub file-length : (i a f : ℕ) (t : List ℕ) → length (planBytes i a f t) ≡ 14 + bytesFor (entriesOf i a f)
+pub file-length : (i a f : ℕ) (t : List ℕ) → length (planBytes i a f t) ≡ 14 + bytesFor (entries i a f)
 unfolding planBytes
 file-length i a f t =
-    length-append (words (planHead i a f)) (packed t (entriesOf i a f))
-    ∙ ap (λ (k : ℕ). 14 + k) (length-packed (take (entriesOf i a f) t) (bytesFor (entriesOf i a f)) 0)
+    length-append (words (planHead i a f)) (packed t (entries i a f))
+    ∙ ap (λ (k : ℕ). 14 + k) (length-packed (take (entries i a f) t) (bytesFor (entries i a f)) 0)
 
 module _ (s : Site) (t out : List ℕ) where
   pub faulty : isFine (faultOf s) ≡ false → (Refused (faultOf s) ≡ planWritten s t out) × (out ≡ planOut s t out)
@@ -32,33 +32,33 @@ module _ (s : Site) (t out : List ℕ) where
   faulty e = (rw e refl, rw e refl)
 
   module _ (fine : faultOf s ≡ Fine) where
-    pub table-short : length t < entriesOf (s .cells) (s .slots) (s .channels) → (TableShort ≡ planWritten s t out) × (out ≡ planOut s t out)
+    pub table-short : length t < size s → (TableShort ≡ planWritten s t out) × (out ≡ planOut s t out)
     unfolding planWritten planOut
     table-short h =
-        let e = lt-ltb (length t) (entriesOf (s .cells) (s .slots) (s .channels)) h in
+        let e = lt-ltb (length t) (size s) h in
         (rw (fine, e) refl, rw (fine, e) refl)
 
-    module _ (enough : entriesOf (s .cells) (s .slots) (s .channels) ≤ length t) where
-      test : ltb (length t) (entriesOf (s .cells) (s .slots) (s .channels)) ≡ false
-      test = le-ltb (length t) (entriesOf (s .cells) (s .slots) (s .channels)) enough
+    module _ (enough : size s ≤ length t) where
+      test : ltb (length t) (size s) ≡ false
+      test = le-ltb (length t) (size s) enough
 
       pub out-short :
-          (need : ℕ) → need ≡ 14 + bytesFor (entriesOf (s .cells) (s .slots) (s .channels)) → length out < need →
+          (need : ℕ) → need ≡ 14 + bytesFor (size s) → length out < need →
           (OutShort need ≡ planWritten s t out) × (out ≡ planOut s t out)
       unfolding planWritten planOut
       out-short need q h =
           let l : length (planFile s t) ≡ need = file-length (s .cells) (s .slots) (s .channels) t ∙ sym q in
           let e = lt-ltb (length out) need h in
-          (rw (fine, test, l, e) refl, over-short (planFile s t) out (rw l h) ∙ sym (rw (fine, test) refl))
+          (rw (fine, test, l, e) refl, laid-short (planFile s t) out (rw l h) ∙ sym (rw (fine, test) refl))
 
       pub out-done : length (planFile s t) ≤ length out → planOut s t out ≡ planFile s t ++ drop (length (planFile s t)) out
-      unfolding planOut over
+      unfolding planOut laidOver
       out-done h = rw (fine, test, le-leb (length (planFile s t)) (length out) h) refl
 
       pub all-done :
-          (need : ℕ) → need ≡ 14 + bytesFor (entriesOf (s .cells) (s .slots) (s .channels)) → need ≤ length out →
+          (need : ℕ) → need ≡ 14 + bytesFor (size s) → need ≤ length out →
           (Done need ≡ planWritten s t out)
-          × (sets (sets out 0 (words (planHead (s .cells) (s .slots) (s .channels)))) 14 (packed t (entriesOf (s .cells) (s .slots) (s .channels))) ≡ planOut s t out)
+          × (sets (sets out 0 (words (planHead (s .cells) (s .slots) (s .channels)))) 14 (packed t (size s)) ≡ planOut s t out)
       unfolding planWritten
       all-done need q h =
           let l : length (planFile s t) ≡ need = file-length (s .cells) (s .slots) (s .channels) t ∙ sym q in
@@ -68,5 +68,5 @@ module _ (s : Site) (t out : List ℕ) where
           )
         where
           parts :
-              sets (sets out 0 (words (planHead (s .cells) (s .slots) (s .channels)))) 14 (packed t (entriesOf (s .cells) (s .slots) (s .channels))) ≡ sets out 0 (planFile s t)
-          parts = unfold planBytes in sym (sets-append out 0 (words (planHead (s .cells) (s .slots) (s .channels))) (packed t (entriesOf (s .cells) (s .slots) (s .channels))))
+              sets (sets out 0 (words (planHead (s .cells) (s .slots) (s .channels)))) 14 (packed t (size s)) ≡ sets out 0 (planFile s t)
+          parts = unfold planBytes in sym (sets-append out 0 (words (planHead (s .cells) (s .slots) (s .channels))) (packed t (size s)))

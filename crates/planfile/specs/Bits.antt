@@ -4,20 +4,16 @@ use mathlib.Core.List.{List, [], _∷_}
 use mathlib.Core.Bool.{Bool}
 use lib.ListN.{length, getD, take}
 use lib.Dec.{eqb}
-use Rattle.laws.specs.Choice.{pick}
-use Rattle.laws.specs.Sum.{any}
-
--- how many table bytes a plan speaks of: I times N, where "N = F times T"
-abbrev pub entriesOf : ℕ → ℕ → ℕ → ℕ
-entriesOf cells slots channels = cells * (slots * channels)
+use Rattle.laws.specs.Sum.{bit, any}
+use Rattle.theory.specs.Greedy.{sends}
 
 -- n "/8 rounded up"
 abbrev pub bytesFor : ℕ → ℕ
 bytesFor n = (n + 7) / 8
 
--- "Only 1 means transmit": the bit of a table byte
+-- the bit of a table byte: "1 for reserved"
 unfoldable pub one : ℕ → ℕ
-one x = pick (eqb x 1) 1 0
+one x = bit (sends x)
 
 -- the bit of table index k, in the body s
 abbrev pub bitOf : List ℕ → ℕ → ℕ

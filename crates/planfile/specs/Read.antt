@@ -6,7 +6,7 @@ use mathlib.Core.Bool.{Bool, true, false, not}
 use lib.ListN.{length, take, drop}
 use lib.Dec.{ltb, eqb}
 use Rattle.laws.specs.Choice.{pick}
-use Rattle.site.specs.Record.{sizeOk}
+use Rattle.site.specs.Record.{entries, sizeOk}
 use Rattle.records.specs.Bytes.{le16}
 use Rattle.records.specs.Opener.{openAt}
 use Rattle.records.specs.Reasons.{Reason, reason, firstReason, recordReasons}
@@ -15,7 +15,7 @@ use Rattle.records.specs.declared.Opened.{Opened}
 use Rattle.records.specs.declared.Opened.the-variants.{Body, Refused as NotOpened}
 use Rattle.records.specs.declared.ReadAnswer.{ReadAnswer}
 use Rattle.records.specs.declared.ReadAnswer.the-variants.{Done, Refused}
-use Rattle.planfile.specs.Bits.{entriesOf, bytesFor, bitsFrom, leftOver}
+use Rattle.planfile.specs.Bits.{bytesFor, bitsFrom, leftOver}
 use Rattle.planfile.specs.declared.PlanRead.{PlanRead}
 
 -- "1 head: cells, slots, channels, two bytes each"
@@ -29,7 +29,7 @@ abbrev pub channelsIn : List ℕ → ℕ
 channelsIn s = le16 s 8
 
 abbrev pub entriesIn : List ℕ → ℕ
-entriesIn s = entriesOf (cellsIn s) (slotsIn s) (channelsIn s)
+entriesIn s = entries (cellsIn s) (slotsIn s) (channelsIn s)
 
 -- "4 plan: one bit per cell and position": the body of IN/8 bytes, rounded up, after a head of 10 bytes and the record's own four
 abbrev pub bodyIn : List ℕ → List ℕ
@@ -53,8 +53,8 @@ planReasons s table =
     ++ (reason (not (sizeOk (cellsIn s) (slotsIn s) (channelsIn s))) 1 0
     ∷ (recordReasons s 10 4 (not (eqb (le16 s 10) (2 + bytesFor (entriesIn s)))) ++ contentReasons s table))
 
-unfoldable pub planAnswer : List ℕ → List ℕ → ReadAnswer
-planAnswer s table = firstReason (planReasons s table)
+unfoldable pub planReadAnswer : List ℕ → List ℕ → ReadAnswer
+planReadAnswer s table = firstReason (planReasons s table)
 
 abbrev pub isDone : ReadAnswer → Bool
 isDone Done = true
@@ -64,17 +64,17 @@ isDone (Refused number at) = false
 abbrev pub refusedPlan : ℕ → ℕ → PlanRead
 refusedPlan number at = record { cells = 0; slots = 0; channels = 0; answer = Refused number at }
 
-unfoldable pub answered : ℕ → ℕ → ℕ → ReadAnswer → PlanRead
-answered cells slots channels Done = record { cells = cells; slots = slots; channels = channels; answer = Done }
-answered cells slots channels (Refused number at) = refusedPlan number at
+unfoldable pub planReadOf : ℕ → ℕ → ℕ → ReadAnswer → PlanRead
+planReadOf cells slots channels Done = record { cells = cells; slots = slots; channels = channels; answer = Done }
+planReadOf cells slots channels (Refused number at) = refusedPlan number at
 
 unfoldable pub readPlan : List ℕ → List ℕ → PlanRead
-readPlan s table = answered (cellsIn s) (slotsIn s) (channelsIn s) (planAnswer s table)
+readPlan s table = planReadOf (cellsIn s) (slotsIn s) (channelsIn s) (planReadAnswer s table)
 
 -- the table afterwards: the bits, and "Table bytes past IN .. are never written"; refused, as it was
 unfoldable pub planTableRead : List ℕ → List ℕ → List ℕ
 planTableRead s table =
-    pick (isDone (planAnswer s table)) (bitsFrom (bodyIn s) 0 (entriesIn s) ++ drop (entriesIn s) table) table
+    pick (isDone (planReadAnswer s table)) (bitsFrom (bodyIn s) 0 (entriesIn s) ++ drop (entriesIn s) table) table
 
 -- what a record that does not open gives back
 unfoldable pub refusedBy : Opened → PlanRead

@@ -5,20 +5,20 @@ use lib.ListN.{length}
 use lib.Dec.{ltb}
 use Rattle.laws.specs.Choice.{pick}
 use Rattle.records.specs.Bytes.{words}
-use Rattle.records.specs.Write.{headWords, over}
-use Rattle.site.specs.Record.{isFine, faultOf}
+use Rattle.records.specs.Write.{headWords, laidOver}
+use Rattle.site.specs.Record.{entries, size, isFine, faultOf}
 use Rattle.site.specs.declared.Site.{Site}
-use Rattle.planfile.specs.Bits.{entriesOf, bytesFor, packed}
+use Rattle.planfile.specs.Bits.{bytesFor, packed}
 use Rattle.planfile.specs.declared.PlanWritten.{PlanWritten}
 use Rattle.planfile.specs.declared.PlanWritten.the-variants.{Done, TableShort, OutShort, Refused}
 
 -- the head, and the plan's length and kind
 abbrev pub planHead : ℕ → ℕ → ℕ → List ℕ
-planHead cells slots channels = headWords cells slots channels (2 + bytesFor (entriesOf cells slots channels)) 4
+planHead cells slots channels = headWords cells slots channels (2 + bytesFor (entries cells slots channels)) 4
 
 -- "A plan file is kinds 1, 4."
 unfoldable pub planBytes : (cells slots channels : ℕ) → List ℕ → List ℕ
-planBytes cells slots channels table = words (planHead cells slots channels) ++ packed table (entriesOf cells slots channels)
+planBytes cells slots channels table = words (planHead cells slots channels) ++ packed table (entries cells slots channels)
 
 -- "The plan writer is given the site and its table."
 abbrev pub planFile : Site → List ℕ → List ℕ
@@ -28,7 +28,7 @@ planFile s table = planBytes (s .cells) (s .slots) (s .channels) table
 unfoldable pub planWritten : Site → List ℕ → List ℕ → PlanWritten
 planWritten s table out =
     pick (isFine (faultOf s))
-    (pick (ltb (length table) (entriesOf (s .cells) (s .slots) (s .channels))) TableShort
+    (pick (ltb (length table) (size s)) TableShort
     (pick (ltb (length out) (length (planFile s table))) (OutShort (length (planFile s table))) (Done (length (planFile s table)))))
     (Refused (faultOf s))
 
@@ -36,5 +36,5 @@ planWritten s table out =
 unfoldable pub planOut : Site → List ℕ → List ℕ → List ℕ
 planOut s table out =
     pick (isFine (faultOf s))
-    (pick (ltb (length table) (entriesOf (s .cells) (s .slots) (s .channels))) out (over (planFile s table) out))
+    (pick (ltb (length table) (size s)) out (laidOver (planFile s table) out))
     out

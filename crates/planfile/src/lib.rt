@@ -13,7 +13,8 @@ ghost use mathlib.Core.List.{[], _∷_};
 ghost use Prim.Native.Nat.{_+_, _-_, _*_, _≤_, _<_};
 ghost use lib.ListN.{length};
 ghost use lib.Seq.{sets};
-ghost use Rattle.planfile.specs.Bits.{entriesOf, bytesFor, one, bitsFrom, leftOver, ones, packedFrom};
+ghost use Rattle.site.specs.Record.{entries};
+ghost use Rattle.planfile.specs.Bits.{bytesFor, one, bitsFrom, leftOver, ones, packedFrom};
 ghost use Rattle.planfile.specs.Read.{HeadRead, refusedPlan, refusedBy, readPlan, planTableRead};
 ghost use Rattle.planfile.specs.Write.{planWritten, planOut};
 
@@ -35,7 +36,7 @@ pub enum PlanWritten {
 
 // How many table bytes a plan speaks of.
 fn entries(cells: u16, slots: u16, channels: u16) -> usize
-    ensures { λ r. ⌜ r ≡ entriesOf cells slots channels ⌝ }
+    ensures { λ r. ⌜ r ≡ entries cells slots channels ⌝ }
 {
     cells as usize * (slots as usize * channels as usize)
 }

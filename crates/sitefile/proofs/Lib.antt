@@ -10,5 +10,4 @@ pub mod Good
 pub mod Trip
 pub mod Reasons
 pub mod Given
-pub mod Desk
 pub mod Zeros

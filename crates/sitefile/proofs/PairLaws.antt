@@ -1,17 +1,19 @@
 -- The pairs of a kind 3 body: what a passed pair test tells; that no bit stands at or above the next place, which each mark keeps; and a turn of the reader's loop.
 -- Assumes nothing.
-use Prim.Native.Nat.{ℕ, suc, _+_, _*_, _/_, _%_, _^_, _≤_, _<_}
+use Prim.Native.Nat.{ℕ, _+_, _*_, _/_, _%_, _^_, _≤_, _<_}
 use mathlib.Core.Path.{_≡_, refl}
 use mathlib.Core.Bool.{true, false, not, _&&_}
 use mathlib.Core.List.{List, [], _∷_}
-use native.Mathlib.Nat.{two-pow-succ}
+use native.Mathlib.Nat.{lt-of-lt-of-le}
 use native.Mathlib.Decide.{ℕ-discrete}
 use native.Mathlib.Omega.{arith}
 use lib.ListN.{length, getD, drop, replicate, getD-replicate, length-drop}
 use lib.Seq.{getD-set-same, getD-set-other}
-use lib.Pow.{pow-pos, pow-mono}
+use lib.Pow.{pow-pos, pow-mono, pow-lt}
+use lib.Bits.{or-lt}
 use lib.Dec.{eqb}
 use borrow.Author.Tests.{eqb-false, ne-eqb, lt-leb, le-leb, not-true}
+use Rattle.laws.specs.Bits.{setBit}
 use Rattle.site.specs.Record.{upTo}
 use Rattle.site.proofs.Faults.{UpTo, up-to, up-to-is}
 use Rattle.sitefile.specs.Pairs.{pairOk, place, mark, badPairs, readPairs}
@@ -41,18 +43,19 @@ High next rows = (q : ℕ) → next ≤ q → q < 1024 → getD rows (q / 32) 0 
 pub high-none : High 0 (replicate 32 0)
 high-none q h l = rw (getD-replicate {A = ℕ} 32 (q / 32) 0 0 (omega arith)) (pow-pos (q % 32))
 
+pub set-lt : (k x t : ℕ) → x < 2 ^ k → t < k → setBit x t < 2 ^ k
+unfolding setBit
+set-lt k x t h l = or-lt k x (2 ^ t) h (pow-lt l)
+
 pub high-mark : (next q : ℕ) (rows : List ℕ) → length rows ≡ 32 → next ≤ q → q < 1024 → High next rows → High (q + 1) (mark rows q)
 high-mark next q rows len h l high p hp lp = go (ℕ-discrete (p / 32) (q / 32))
   where
-    at : ℕ
-    at = getD rows (q / 32) 0 + 2 ^ (q % 32)
-
     go : Dec (p / 32 ≡ q / 32) → getD (mark rows q) (p / 32) 0 < 2 ^ (p % 32)
     go (yes e) =
-        rw (e, getD-set-same rows (q / 32) (getD rows (q / 32) 0 + 2 ^ (q % 32)) 0 (omega arith))
-        (omega (arith, two-pow-succ (q % 32), high q h l, pow-mono {i = suc (q % 32)} {j = p % 32} (omega arith)))
+        rw (e, getD-set-same rows (q / 32) (setBit (getD rows (q / 32) 0) (q % 32)) 0 (omega arith))
+        (set-lt (p % 32) (getD rows (q / 32) 0) (q % 32) (lt-of-lt-of-le (high q h l) (pow-mono (omega arith))) (omega arith))
     go (no n) =
-        rw (getD-set-other rows (q / 32) (p / 32) (getD rows (q / 32) 0 + 2 ^ (q % 32)) 0 n)
+        rw (getD-set-other rows (q / 32) (p / 32) (setBit (getD rows (q / 32) 0) (q % 32)) 0 n)
         (high p (omega arith) lp)
 
 -- a turn of the pairs' loop, its refusals and its end

@@ -80,14 +80,13 @@ module _ (cells : ℕ) (rows : List ℕ) (whole : Rows rows) (named : Named cell
           Dec (bitIn rows q ≡ 1) → readPairs cells next part (pairsFrom rows q (suc n)) ≡ rowsRead rows
       go ih (yes b) =
           let ep : place (q / 32 + 1) (q % 32 + 1) ≡ q = omega arith in
-          let fit = s .none q (omega arith) below in
           let s′ : Part rows (mark part q) (q + 1) = record {
-            whole = mark-rows part q (s .whole .size) below fit (s .whole);
+            whole = mark-rows part q (s .whole .size) below (s .whole);
             none = high-mark q q part (s .whole .size) (omega arith) below (s .none);
             low =
                 one-more (λ p. bitIn (mark part q) p ≡ bitIn rows p) q
-                (λ p l. mark-other part q (s .whole .size) below fit p (omega arith) ∙ s .low p l)
-                (mark-same part q (s .whole .size) below fit ∙ sym b);
+                (λ p l. mark-other part q (s .whole .size) below p (omega arith) ∙ s .low p l)
+                (mark-same part q (s .whole .size) below ∙ sym b);
           } in
           rw (set-bytes rows q b)
           (simp (named q below b, ep, le-leb next q h) (ih (mark part q) s′ (q + 1) (omega arith)))
@@ -149,10 +148,9 @@ module _ (cells : ℕ) (most : cells ≤ 32) (rows : List ℕ) where
       let below : q < 1024 = omega arith in
       let ef : q / 32 + 1 ≡ f = omega arith in
       let et : q % 32 + 1 ≡ t = omega arith in
-      let fit : getD part (q / 32) 0 < 2 ^ (q % 32) = high q h below in
-      let bit : bitIn rows q ≡ 1 = trip .agree q (omega arith) ∙ mark-same part q (whole .size) below fit in
+      let bit : bitIn rows q ≡ 1 = trip .agree q (omega arith) ∙ mark-same part q (whole .size) below in
       let under : (p : ℕ) → p < q → bitIn rows p ≡ bitIn part p =
-      λ p l. trip .agree p (omega arith) ∙ mark-other part q (whole .size) below fit p (omega arith) in
+      λ p l. trip .agree p (omega arith) ∙ mark-other part q (whole .size) below p (omega arith) in
       let zeros : (p : ℕ) → next ≤ p → p < q → bitIn rows p ≡ 0 = λ p a l. under p l ∙ high-zero next part high p a (omega arith) in
       let count : 1024 - next ≡ q - next + suc (1024 - (q + 1)) = omega arith in
       let there : next + (q - next) ≡ q = omega arith in
@@ -187,7 +185,7 @@ module _ (cells : ℕ) (most : cells ≤ 32) (rows : List ℕ) where
           let below : place f t < 1024 = omega arith in
           written-step f t (place f t) r next part refl p h high whole
           (ih (place f t + 1) (mark part (place f t)) (omega arith) (high-mark next (place f t) part (whole .size) h below high)
-          (mark-rows part (place f t) (whole .size) below (high (place f t) h below) whole)
+          (mark-rows part (place f t) (whole .size) below whole)
           e′)
       go ih true false p m e′ =
           let z : _≡_ {A = ℕ} 11 0 = ap (λ (x : PairsRead). x .number) e′ in absurd (omega arith)

@@ -1,44 +1,39 @@
 -- Bits of the reach rows: a mark sets its own bit and no other, and rows with the same bits are the same rows. Assumes nothing.
-use Prim.Native.Nat.{ℕ, zero, suc, _+_, _-_, _*_, _/_, _%_, _^_, _≤_, _<_}
-use mathlib.Core.Path.{_≡_, sym, ap, _∙_}
+use Prim.Native.Nat.{ℕ, zero, suc, _+_, _*_, _/_, _%_, _^_, _≤_, _<_}
+use mathlib.Core.Path.{_≡_, refl, sym, _∙_}
+use mathlib.Core.Bool.{true, false}
 use mathlib.Core.List.{List}
-use native.Mathlib.Nat.{two-pow-succ, div-eq-of-lt, mod-eq-of-lt, add-mul-div-right}
+use mathlib.Core.Logic.{⊎-elim}
+use native.Mathlib.Nat.{div-eq-of-lt, mod-eq-of-lt}
 use native.Mathlib.Numerals.{one-add}
-use native.Mathlib.Decide.{ℕ-discrete, decLt}
+use native.Mathlib.Decide.{ℕ-discrete}
 use native.Mathlib.Omega.{arith}
 use lib.ListN.{length, getD, length-set}
 use lib.Seq.{getD-set-same, getD-set-other, ext-getD}
-use lib.Pow.{pow-pos, pow-mono, pow-add, high, mod-pow-add}
+use lib.Pow.{mod-pow-add}
+use lib.Dec.{eqb}
+use borrow.Author.Tests.{eqb-true, eq-eqb, ne-eqb}
+use Rattle.laws.specs.Bits.{setBit}
+use Rattle.laws.proofs.Bits.{bit-set, digit-zero}
+use Rattle.laws.proofs.Choice.{cases}
 use Rattle.sitefile.specs.Pairs.{mark}
-use Rattle.sitefile.proofs.PairLaws.{High}
+use Rattle.sitefile.proofs.PairLaws.{High, set-lt}
 
-bit-above : (x t : ℕ) → x < 2 ^ t → x / 2 ^ t % 2 ≡ 0
-bit-above x t h = rw (div-eq-of-lt h)
-
-bit-new : (x t : ℕ) → x < 2 ^ t → (x + 2 ^ t) / 2 ^ t % 2 ≡ 1
-bit-new x t h =
-    let e : x + 2 ^ t ≡ 1 * 2 ^ t + x = omega arith in
-    rw (e, high 1 t h)
-
-bit-under : (x t u : ℕ) → u < t → (x + 2 ^ t) / 2 ^ u % 2 ≡ x / 2 ^ u % 2
-bit-under x t u h =
-    let e : t ≡ suc (t - suc u) + u = omega arith in
-    let p : 2 ^ t ≡ 2 ^ suc (t - suc u) * 2 ^ u = ap (λ (k : ℕ). 2 ^ k) e ∙ pow-add 2 (suc (t - suc u)) u in
-    rw (p, add-mul-div-right x (2 ^ suc (t - suc u)) (pow-pos u)) (omega (arith, two-pow-succ (t - suc u)))
-
-bit-over : (x t u : ℕ) → x < 2 ^ t → t < u → (x + 2 ^ t) / 2 ^ u % 2 ≡ x / 2 ^ u % 2
-bit-over x t u h l =
-    let p : 2 ^ suc t ≤ 2 ^ u = pow-mono l in
-    let a : x + 2 ^ t < 2 ^ u = omega (arith, two-pow-succ t) in
-    let b : x < 2 ^ u = omega (arith, two-pow-succ t) in
-    bit-above (x + 2 ^ t) u a ∙ sym (bit-above x u b)
-
-bit-other : (x t u : ℕ) → x < 2 ^ t → (u ≡ t → ⊥) → (x + 2 ^ t) / 2 ^ u % 2 ≡ x / 2 ^ u % 2
-bit-other x t u h n = go (decLt u t)
+-- two digits that pass the same test
+same-digit : (u v : ℕ) → u < 2 → v < 2 → eqb u 1 ≡ eqb v 1 → u ≡ v
+same-digit u v a b e = ⊎-elim one none (cases (eqb v 1))
   where
-    go : Dec (u < t) → (x + 2 ^ t) / 2 ^ u % 2 ≡ x / 2 ^ u % 2
-    go (yes l) = bit-under x t u l
-    go (no l) = bit-over x t u h (omega arith)
+    one : eqb v 1 ≡ true → u ≡ v
+    one t = eqb-true u 1 (e ∙ t) ∙ sym (eqb-true v 1 t)
+
+    none : eqb v 1 ≡ false → u ≡ v
+    none t = digit-zero u a (e ∙ t) ∙ sym (digit-zero v b t)
+
+bit-new : (x t : ℕ) → setBit x t / 2 ^ t % 2 ≡ 1
+bit-new x t = eqb-true (setBit x t / 2 ^ t % 2) 1 (bit-set x t t ∙ rw (eq-eqb t t refl))
+
+bit-other : (x t u : ℕ) → (u ≡ t → ⊥) → setBit x t / 2 ^ u % 2 ≡ x / 2 ^ u % 2
+bit-other x t u n = same-digit _ _ (omega arith) (omega arith) (bit-set x t u ∙ rw (ne-eqb u t n))
 
 -- numbers with the same bits
 same-low : (x y k : ℕ) → ((t : ℕ) → t < k → x / 2 ^ t % 2 ≡ y / 2 ^ t % 2) → x % 2 ^ k ≡ y % 2 ^ k
@@ -69,12 +64,12 @@ rows-ext a b ra rb h = ext-getD 0 a b (ra .size ∙ sym (rb .size)) (λ k l. row
     row k l = sym (mod-eq-of-lt (ra .fits k l)) ∙ same-low (getD a k 0) (getD b k 0) 32 (bits k l) ∙ mod-eq-of-lt (rb .fits k l)
 
 -- a mark sets its own bit and no other
-module _ (rows : List ℕ) (q : ℕ) (size : length rows ≡ 32) (l : q < 1024) (h : getD rows (q / 32) 0 < 2 ^ (q % 32)) where
+module _ (rows : List ℕ) (q : ℕ) (size : length rows ≡ 32) (l : q < 1024) where
   pub mark-same : bitIn (mark rows q) q ≡ 1
   unfolding bitIn
   mark-same =
-      rw (getD-set-same rows (q / 32) (getD rows (q / 32) 0 + 2 ^ (q % 32)) 0 (omega arith))
-      (bit-new (getD rows (q / 32) 0) (q % 32) h)
+      rw (getD-set-same rows (q / 32) (setBit (getD rows (q / 32) 0) (q % 32)) 0 (omega arith))
+      (bit-new (getD rows (q / 32) 0) (q % 32))
 
   pub mark-other : (p : ℕ) → (p ≡ q → ⊥) → bitIn (mark rows q) p ≡ bitIn rows p
   unfolding bitIn
@@ -82,9 +77,9 @@ module _ (rows : List ℕ) (q : ℕ) (size : length rows ≡ 32) (l : q < 1024) 
     where
       go : Dec (p / 32 ≡ q / 32) → bitIn (mark rows q) p ≡ bitIn rows p
       go (yes e) =
-          rw (e, getD-set-same rows (q / 32) (getD rows (q / 32) 0 + 2 ^ (q % 32)) 0 (omega arith))
-          (bit-other (getD rows (q / 32) 0) (q % 32) (p % 32) h (λ f. n (omega arith)))
-      go (no f) = rw (getD-set-other rows (q / 32) (p / 32) (getD rows (q / 32) 0 + 2 ^ (q % 32)) 0 f)
+          rw (e, getD-set-same rows (q / 32) (setBit (getD rows (q / 32) 0) (q % 32)) 0 (omega arith))
+          (bit-other (getD rows (q / 32) 0) (q % 32) (p % 32) (λ f. n (omega arith)))
+      go (no f) = rw (getD-set-other rows (q / 32) (p / 32) (setBit (getD rows (q / 32) 0) (q % 32)) 0 f)
 
   pub mark-rows : Rows rows → Rows (mark rows q)
   mark-rows r = record { size = length-set rows (q / 32) _ ∙ size; fits = fit }
@@ -94,11 +89,11 @@ module _ (rows : List ℕ) (q : ℕ) (size : length rows ≡ 32) (l : q < 1024) 
         where
           go : Dec (k ≡ q / 32) → getD (mark rows q) k 0 < 2 ^ 32
           go (yes e) =
-              rw (e, getD-set-same rows (q / 32) (getD rows (q / 32) 0 + 2 ^ (q % 32)) 0 (omega arith))
-              (omega (arith, two-pow-succ (q % 32), pow-mono {i = suc (q % 32)} {j = 32} (omega arith)))
-          go (no f) = rw (getD-set-other rows (q / 32) k (getD rows (q / 32) 0 + 2 ^ (q % 32)) 0 f) (r .fits k m)
+              rw (e, getD-set-same rows (q / 32) (setBit (getD rows (q / 32) 0) (q % 32)) 0 (omega arith))
+              (set-lt 32 (getD rows (q / 32) 0) (q % 32) (r .fits (q / 32) (omega arith)) (omega arith))
+          go (no f) = rw (getD-set-other rows (q / 32) k (setBit (getD rows (q / 32) 0) (q % 32)) 0 f) (r .fits k m)
 
 -- no bit at next or above it
 pub high-zero : (next : ℕ) (rows : List ℕ) → High next rows → (q : ℕ) → next ≤ q → q < 1024 → bitIn rows q ≡ 0
 unfolding bitIn
-high-zero next rows h q n l = bit-above (getD rows (q / 32) 0) (q % 32) (h q n l)
+high-zero next rows h q n l = rw (div-eq-of-lt (h q n l))

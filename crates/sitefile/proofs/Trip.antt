@@ -9,7 +9,7 @@ use Rattle.site.specs.Record.{faultOf}
 use Rattle.site.specs.declared.Site.{Site}
 use Rattle.site.specs.declared.Fault.the-variants.{Fine}
 use Rattle.records.specs.Bytes.{Bytes}
-use Rattle.records.specs.Write.{over}
+use Rattle.records.specs.Write.{laidOver}
 use Rattle.sitefile.specs.Held.{Held}
 use Rattle.sitefile.specs.Read.{siteDone, readSite}
 use Rattle.sitefile.specs.Write.{siteBytes, written, siteWritten, siteOut}
@@ -36,6 +36,6 @@ module _ (file : List ℕ) (bytes : Bytes file) (accepted : readSite file .answe
   read-fine = good-fine (readSite file .site) good
 
   -- so the writer, given what was read, answers the file's length and leaves the file
-  pub written-again : (out : List ℕ) → (siteWritten (readSite file .site) out ≡ written file out) × (siteOut (readSite file .site) out ≡ over file out)
+  pub written-again : (out : List ℕ) → (siteWritten (readSite file .site) out ≡ written file out) × (siteOut (readSite file .site) out ≡ laidOver file out)
   unfolding siteWritten siteOut
   written-again out = (simp (read-fine, read-then-written), simp (read-fine, read-then-written))

@@ -1,12 +1,12 @@
 -- The pairs of a kind 3 body, and the reach rows that they set: "pairs from, to, a byte each, strictly rising by from, then to".
 -- A place q is the pair of the cells q / 32 + 1 and q % 32 + 1, so that places rise by from, then to. It is the bit q % 32 of the row q / 32.
-use Prim.Native.Nat.{ℕ, zero, suc, _+_, _-_, _*_, _/_, _%_, _^_}
+use Prim.Native.Nat.{ℕ, zero, suc, _+_, _-_, _*_, _/_, _%_}
 use mathlib.Core.List.{List, [], _∷_, _++_}
 use mathlib.Core.Bool.{Bool, not, _&&_}
 use lib.ListN.{getD, set, replicate}
 use lib.Dec.{leb, eqb}
 use Rattle.laws.specs.Choice.{pick}
-use Rattle.laws.specs.Bits.{bitAt}
+use Rattle.laws.specs.Bits.{bitAt, setBit}
 use Rattle.site.specs.Record.{upTo}
 use Rattle.sitefile.specs.declared.PairsRead.{PairsRead}
 
@@ -17,9 +17,9 @@ pairOk cells from to = upTo cells from && (upTo cells to && not (eqb from to))
 abbrev pub place : ℕ → ℕ → ℕ
 place from to = (from - 1) * 32 + (to - 1)
 
--- the rows with the bit at q set, which was clear
+-- the rows with the bit at q set
 abbrev pub mark : List ℕ → ℕ → List ℕ
-mark rows q = set rows (q / 32) (getD rows (q / 32) 0 + 2 ^ (q % 32))
+mark rows q = set rows (q / 32) (setBit (getD rows (q / 32) 0) (q % 32))
 
 abbrev pub badPairs : ℕ → PairsRead
 badPairs n = record { reach = replicate 32 0; number = n }

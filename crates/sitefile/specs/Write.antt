@@ -5,7 +5,7 @@ use lib.ListN.{length, take}
 use lib.Dec.{leb}
 use Rattle.laws.specs.Choice.{pick}
 use Rattle.records.specs.Bytes.{words}
-use Rattle.records.specs.Write.{headWords, over}
+use Rattle.records.specs.Write.{headWords, laidOver}
 use Rattle.site.specs.Record.{faultOf, isFine}
 use Rattle.site.specs.declared.Site.{Site}
 use Rattle.sitefile.specs.Pairs.{pairsFrom}
@@ -38,4 +38,4 @@ siteWritten s out = pick (isFine (faultOf s)) (written (siteBytes s) out) (Refus
 
 -- "no other refusal writes"
 unfoldable pub siteOut : Site → List ℕ → List ℕ
-siteOut s out = pick (isFine (faultOf s)) (over (siteBytes s) out) out
+siteOut s out = pick (isFine (faultOf s)) (laidOver (siteBytes s) out) out

@@ -15,8 +15,9 @@ ghost use mathlib.Core.Path.{_≡_};
 ghost use Prim.Native.Nat.{_+_, _*_, _/_, _%_, _^_, _≤_, _<_};
 ghost use lib.ListN.{length, take, replicate};
 ghost use lib.Seq.{sets};
+ghost use Rattle.laws.specs.Bits.{setBit};
 ghost use Rattle.records.specs.Bytes.{wordsOf, words};
-ghost use Rattle.records.specs.Write.{over};
+ghost use Rattle.records.specs.Write.{laidOver};
 ghost use Rattle.sitefile.specs.Pairs.{pairOk, place, readPairs, pairOf, rowFrom};
 ghost use Rattle.sitefile.specs.Read.{refusedSite, refusedBy, readReach, readLoads, readSite};
 ghost use Rattle.sitefile.specs.Write.{siteBytes, pairBytes, written, siteWritten, siteOut};
@@ -78,12 +79,12 @@ fn place_of(f: u8, t: u8) -> usize
     (f as usize - 1) * 32 + (t as usize - 1)
 }
 
-// A row with bit b set above all its bits.
+// A row with bit b set.
 fn raised(row: u32, b: usize) -> u32
-    requires { ⌜ (b < 32) × (row < 2 ^ b) ⌝ }
-    ensures { λ r. ⌜ r ≡ row + 2 ^ b ⌝ }
+    requires { ⌜ b < 32 ⌝ }
+    ensures { λ r. ⌜ r ≡ setBit row b ⌝ }
 {
-    row + (1u32 << b)
+    row | (1 << b)
 }
 
 // The reach rows of a kind 3 body: each pair 3, then 11.
@@ -290,7 +291,7 @@ fn put_pairs(out: &mut [u8], at: usize, reach: [u32; 32])
 fn put_site(s: Site, out: &mut [u8]) -> SiteWritten
     requires { ⌜ s .cells ≤ 32 ⌝ }
     ensures { λ r. ⌜ r ≡ written (siteBytes s) (now (out .entry)) ⌝ }
-    ensures { λ _. ⌜ now (out .exit) ≡ over (siteBytes s) (now (out .entry)) ⌝ }
+    ensures { λ _. ⌜ now (out .exit) ≡ laidOver (siteBytes s) (now (out .entry)) ⌝ }
 {
     let loads = s.loads;
     let reach = s.reach;

@@ -96,9 +96,7 @@ array-read-raised : tie.Need-array-read-raised Inv-loop μ-loop
 array-read-raised c = omega (arith, below (c .before))
 
 raised-requires : tie.Need-raised-requires Inv-loop μ-loop
-raised-requires c κs =
-    let l = At (c .before .before) .loop in
-    (omega arith, l .inv .high (c .before .place-of .result) (c .if2 .left) (below (c .before)))
+raised-requires c κs = omega arith
 
 mul-reach : tie.Need-mul-reach Inv-loop μ-loop
 mul-reach c = omega arith

@@ -5,7 +5,7 @@ use native.Mathlib.Omega.{arith}
 use lib.ListN.{length}
 use denote.Ref.{now}
 use Rattle.sitefile.specs.Write.{siteBytes}
-use Rattle.records.proofs.Write.{over-done, over-short}
+use Rattle.records.proofs.Write.{laid-done, laid-short}
 use Rattle.sitefile.proofs.WriteLaws.{pair-bytes-most, site-length, site-put, written-done, written-short}
 use borrow.Author.Needs.{needs}
 use Rattle.sitefile.proofs.put_site.Statement.{statement}
@@ -42,7 +42,7 @@ add-need-2 c = omega (arith, few c)
 
 returns : tie.Need-returns
 returns c =
-    (written-short _ _ _ (need (c .before)) (c .if1 .taken), over-short _ _ (omega (arith, need (c .before))))
+    (written-short _ _ _ (need (c .before)) (c .if1 .taken), laid-short _ _ (omega (arith, need (c .before))))
 
 mul-put-head : tie.Need-mul-put-head
 mul-put-head c = search needs
@@ -91,7 +91,7 @@ returns-2 c =
     let a = e .before .before .before .before .before in (
       written-done _ _ _ (need (e .before)) (e .if1 .left),
       rw (p .put-pairs .ensures, w .put-word2 .ensures, v .put-word .ensures, l .put-loads .ensures, h .put-head .ensures, e .before .pairs-len .ensures)
-          (site-put (a .args .s) (a .pre) (size a) (now (a .args .out)) ∙ over-done _ _ (omega (arith, need (e .before)))),
+          (site-put (a .args .s) (a .pre) (size a) (now (a .args .out)) ∙ laid-done _ _ (omega (arith, need (e .before)))),
     )
 
 pub put-site-spec : {M : Type 1} → statement M
