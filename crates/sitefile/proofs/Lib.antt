@@ -1,5 +1,6 @@
 -- The laws of crate `sitefile`, module by module.
 pub mod PairLaws
+pub mod PairReasons
 pub mod ReadLaws
 pub mod RowLaws
 pub mod WriteLaws

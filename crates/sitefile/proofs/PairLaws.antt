@@ -7,16 +7,20 @@ use mathlib.Core.List.{List, [], _∷_}
 use native.Mathlib.Nat.{lt-of-lt-of-le}
 use native.Mathlib.Decide.{ℕ-discrete}
 use native.Mathlib.Omega.{arith}
-use lib.ListN.{length, getD, drop, replicate, getD-replicate, length-drop}
+use lib.ListN.{length, getD, drop, getD-replicate, length-drop}
 use lib.Seq.{getD-set-same, getD-set-other}
 use lib.Pow.{pow-pos, pow-mono, pow-lt}
 use lib.Bits.{or-lt}
-use lib.Dec.{eqb}
+use lib.Dec.{leb, eqb}
 use borrow.Author.Tests.{eqb-false, ne-eqb, lt-leb, le-leb, not-true}
 use Rattle.laws.specs.Bits.{setBit}
+use Rattle.laws.specs.Choice.{pick}
 use Rattle.site.specs.Record.{upTo}
 use Rattle.site.proofs.Faults.{UpTo, up-to, up-to-is}
-use Rattle.sitefile.specs.Pairs.{pairOk, place, mark, badPairs, readPairs}
+use Rattle.sitefile.specs.Pairs.{pairOk, place, mark}
+use Rattle.sitefile.specs.Read.{none, noRows}
+use Rattle.sitefile.specs.declared.PairsRead.{PairsRead}
+use Rattle.records.specs.declared.ReadAnswer.the-variants.{Done, Refused}
 use Rattle.records.proofs.Laws.{drop-two}
 use Rattle.laws.proofs.Choice.{both}
 
@@ -40,7 +44,7 @@ pair-is cells f t p = simp (up-to-is cells f (p .from), up-to-is cells t (p .to)
 abbrev pub High : ℕ → List ℕ → Type 0
 High next rows = (q : ℕ) → next ≤ q → q < 1024 → getD rows (q / 32) 0 < 2 ^ (q % 32)
 
-pub high-none : High 0 (replicate 32 0)
+pub high-none : High 0 none
 high-none q h l = rw (getD-replicate {A = ℕ} 32 (q / 32) 0 0 (omega arith)) (pow-pos (q % 32))
 
 pub set-lt : (k x t : ℕ) → x < 2 ^ k → t < k → setBit x t < 2 ^ k
@@ -58,14 +62,23 @@ high-mark next q rows len h l high p hp lp = go (ℕ-discrete (p / 32) (q / 32))
         rw (getD-set-other rows (q / 32) (p / 32) (setBit (getD rows (q / 32) 0) (q % 32)) 0 n)
         (high p (omega arith) lp)
 
+-- the loop's way: to read the pairs that are left onto the rows so far, where next is the least place that still rises
+unfoldable pub readPairs : ℕ → ℕ → ℕ → List ℕ → List ℕ → PairsRead
+readPairs cells at next rows [] = record { reach = rows; answer = Done }
+readPairs cells at next rows (f ∷ []) = record { reach = rows; answer = Done }
+readPairs cells at next rows (f ∷ t ∷ r) =
+    pick (pairOk cells f t)
+    (pick (leb next (place f t)) (readPairs cells at (place f t + 1) (mark rows (place f t)) r) (noRows (Refused 11 at)))
+    (noRows (Refused 3 at))
+
 -- a turn of the pairs' loop, its refusals and its end
-module _ (cells next i : ℕ) (rows body : List ℕ) where
+module _ (cells at next i : ℕ) (rows body : List ℕ) where
   pub pairs-done :
-      length body ≤ 2 * i + 1 → readPairs cells next rows (drop (2 * i) body) ≡ record { reach = rows; number = 0 }
+      length body ≤ 2 * i + 1 → readPairs cells at next rows (drop (2 * i) body) ≡ record { reach = rows; answer = Done }
   unfolding readPairs
   pairs-done h = go (drop (2 * i) body) (simp length-drop (omega arith))
     where
-      go : (l : List ℕ) → length l ≤ 1 → readPairs cells next rows l ≡ record { reach = rows; number = 0 }
+      go : (l : List ℕ) → length l ≤ 1 → readPairs cells at next rows l ≡ record { reach = rows; answer = Done }
       go [] h = refl
       go (a ∷ []) h = refl
       go (a ∷ b ∷ r) h = absurd (omega arith)
@@ -77,19 +90,19 @@ module _ (cells next i : ℕ) (rows body : List ℕ) where
     abbrev T : ℕ
     T = getD body (2 * i + 1) 0
 
-    pub pairs-named : pairOk cells F T ≡ false → badPairs 3 ≡ readPairs cells next rows (drop (2 * i) body)
+    pub pairs-named : pairOk cells F T ≡ false → noRows (Refused 3 at) ≡ readPairs cells at next rows (drop (2 * i) body)
     unfolding readPairs
     pairs-named h = rw (drop-two body (2 * i)) (simp h)
 
     module _ (ok : pairOk cells F T ≡ true) where
-      pub pairs-rise : place F T < next → badPairs 11 ≡ readPairs cells next rows (drop (2 * i) body)
+      pub pairs-rise : place F T < next → noRows (Refused 11 at) ≡ readPairs cells at next rows (drop (2 * i) body)
       unfolding readPairs
       pairs-rise h = rw (drop-two body (2 * i)) (simp (ok, lt-leb next (place F T) h))
 
       pub pairs-step :
           next ≤ place F T →
-          readPairs cells (place F T + 1) (mark rows (place F T)) (drop (2 * (i + 1)) body)
-          ≡ readPairs cells next rows (drop (2 * i) body)
+          readPairs cells at (place F T + 1) (mark rows (place F T)) (drop (2 * (i + 1)) body)
+          ≡ readPairs cells at next rows (drop (2 * i) body)
       unfolding readPairs
       pairs-step h =
           let e : 2 * (i + 1) ≡ 2 * i + 2 = omega arith in

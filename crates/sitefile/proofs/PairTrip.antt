@@ -6,20 +6,23 @@ use mathlib.Core.List.{List, [], _∷_}
 use native.Mathlib.Nat.{add-zero, zero-add, suc-add}
 use native.Mathlib.Decide.{ℕ-discrete, decLt}
 use native.Mathlib.Omega.{arith}
-use lib.ListN.{length, getD, replicate, getD-replicate}
+use lib.ListN.{length, getD, getD-replicate}
 use lib.Dec.{leb}
 use lib.Pow.{pow-pos}
 use borrow.Author.Tests.{eq-eqb, ne-eqb, le-leb, leb-true}
 use Rattle.laws.specs.Choice.{pick}
-use Rattle.sitefile.specs.Pairs.{pairOk, place, mark, badPairs, readPairs, pairOf, pairsFrom}
+use Rattle.sitefile.specs.Pairs.{pairOk, place, mark, pairOf, pairsFrom}
+use Rattle.sitefile.specs.Read.{none, noRows}
+use Rattle.records.specs.declared.ReadAnswer.{ReadAnswer}
+use Rattle.records.specs.declared.ReadAnswer.the-variants.{Done, Refused}
 use Rattle.sitefile.specs.Write.{pairBytes}
 use Rattle.sitefile.specs.declared.PairsRead.{PairsRead}
-use Rattle.sitefile.proofs.PairLaws.{High, high-none, high-mark, pair-ok, PairOk}
+use Rattle.sitefile.proofs.PairLaws.{High, high-none, high-mark, pair-ok, PairOk, readPairs}
 use Rattle.sitefile.proofs.RowLaws.{pair-set, pair-clear}
 use Rattle.sitefile.proofs.Rows.{bitIn, Rows, rows-ext, mark-same, mark-other, mark-rows, high-zero}
 
-abbrev rowsRead : List ℕ → PairsRead
-rowsRead rows = record { reach = rows; number = 0 }
+abbrev pub rowsRead : List ℕ → PairsRead
+rowsRead rows = record { reach = rows; answer = Done }
 
 -- the bytes of a place
 set-bytes : (rows : List ℕ) (q : ℕ) → bitIn rows q ≡ 1 → pairOf (getD rows (q / 32) 0) q ≡ (q / 32 + 1) ∷ (q % 32 + 1) ∷ []
@@ -59,13 +62,13 @@ bit-two : (rows : List ℕ) (q : ℕ) → bitIn rows q < 2
 unfolding bitIn
 bit-two rows q = omega arith
 
-pub no-rows : Rows (replicate 32 0)
+pub no-rows : Rows none
 no-rows = record { size = refl; fits = λ k l. rw (getD-replicate {A = ℕ} 32 k 0 0 l) (pow-pos 32) }
 
-module _ (cells : ℕ) (rows : List ℕ) (whole : Rows rows) (named : Named cells rows) where
+module _ (cells at : ℕ) (rows : List ℕ) (whole : Rows rows) (named : Named cells rows) where
   read-from :
       (n q : ℕ) → q + n ≡ 1024 → (part : List ℕ) → Part rows part q → (next : ℕ) → next ≤ q →
-      readPairs cells next part (pairsFrom rows q n) ≡ rowsRead rows
+      readPairs cells at next part (pairsFrom rows q n) ≡ rowsRead rows
   unfolding readPairs pairsFrom Named
   read-from zero q e part s next h =
       ap rowsRead (rows-ext part rows (s .whole) whole (λ p l. s .low p (omega arith)))
@@ -76,8 +79,8 @@ module _ (cells : ℕ) (rows : List ℕ) (whole : Rows rows) (named : Named cell
       below = omega arith
 
       go :
-          ((part′ : List ℕ) → Part rows part′ (q + 1) → (next′ : ℕ) → next′ ≤ q + 1 → readPairs cells next′ part′ (pairsFrom rows (q + 1) n) ≡ rowsRead rows) →
-          Dec (bitIn rows q ≡ 1) → readPairs cells next part (pairsFrom rows q (suc n)) ≡ rowsRead rows
+          ((part′ : List ℕ) → Part rows part′ (q + 1) → (next′ : ℕ) → next′ ≤ q + 1 → readPairs cells at next′ part′ (pairsFrom rows (q + 1) n) ≡ rowsRead rows) →
+          Dec (bitIn rows q ≡ 1) → readPairs cells at next part (pairsFrom rows q (suc n)) ≡ rowsRead rows
       go ih (yes b) =
           let ep : place (q / 32 + 1) (q % 32 + 1) ≡ q = omega arith in
           let s′ : Part rows (mark part q) (q + 1) = record {
@@ -100,9 +103,9 @@ module _ (cells : ℕ) (rows : List ℕ) (whole : Rows rows) (named : Named cell
           } in
           rw (clear-bytes rows q b) (ih part s′ next (omega arith))
 
-  pub pairs-read : readPairs cells 0 (replicate 32 0) (pairBytes rows) ≡ rowsRead rows
+  pub pairs-read : readPairs cells at 0 none (pairBytes rows) ≡ rowsRead rows
   unfolding pairBytes
-  pairs-read = read-from 1024 0 refl (replicate 32 0) (record { whole = no-rows; none = high-none; low = λ p l. absurd (omega arith) }) 0 (omega arith)
+  pairs-read = read-from 1024 0 refl none (record { whole = no-rows; none = high-none; low = λ p l. absurd (omega arith) }) 0 (omega arith)
 
 -- places with no bit have no bytes
 skip :
@@ -123,7 +126,7 @@ pub record Trip (cells next : ℕ) (part rows body : List ℕ) : Type 0 where
   pub named : (p : ℕ) → next ≤ p → p < 1024 → bitIn rows p ≡ 1 → pairOk cells (p / 32 + 1) (p % 32 + 1) ≡ true
   pub whole : Rows rows
 
-module _ (cells : ℕ) (most : cells ≤ 32) (rows : List ℕ) where
+module _ (cells at : ℕ) (most : cells ≤ 32) (rows : List ℕ) where
   written-end :
       (next : ℕ) (part : List ℕ) → next ≤ 1024 → High next part → Rows part → rowsRead part ≡ rowsRead rows →
       Trip cells next part rows []
@@ -143,7 +146,7 @@ module _ (cells : ℕ) (most : cells ≤ 32) (rows : List ℕ) where
       (f t q : ℕ) (r : List ℕ) (next : ℕ) (part : List ℕ) → q ≡ place f t → pairOk cells f t ≡ true → next ≤ q → High next part → Rows part →
       Trip cells (q + 1) (mark part q) rows r → Trip cells next part rows (f ∷ t ∷ r)
   unfolding pairsFrom
-  written-step f t q r next part at ok h high whole trip =
+  written-step f t q r next part placed ok h high whole trip =
       let g : PairOk cells f t = pair-ok cells f t ok in
       let below : q < 1024 = omega arith in
       let ef : q / 32 + 1 ≡ f = omega arith in
@@ -167,7 +170,7 @@ module _ (cells : ℕ) (most : cells ≤ 32) (rows : List ℕ) where
 
   written-from :
       (body : List ℕ) → length body % 2 ≡ 0 → (next : ℕ) (part : List ℕ) → next ≤ 1024 → High next part → Rows part →
-      readPairs cells next part body ≡ rowsRead rows → Trip cells next part rows body
+      readPairs cells at next part body ≡ rowsRead rows → Trip cells next part rows body
   unfolding readPairs
   written-from [] even next part l high whole e = written-end next part l high whole e
   written-from (f ∷ []) even next part l high whole e = absurd (omega arith)
@@ -175,9 +178,9 @@ module _ (cells : ℕ) (most : cells ≤ 32) (rows : List ℕ) where
       go (written-from r (omega arith)) (pairOk cells f t) (leb next (place f t)) refl refl e
     where
       go :
-          ((next′ : ℕ) (part′ : List ℕ) → next′ ≤ 1024 → High next′ part′ → Rows part′ → readPairs cells next′ part′ r ≡ rowsRead rows → Trip cells next′ part′ rows r) →
+          ((next′ : ℕ) (part′ : List ℕ) → next′ ≤ 1024 → High next′ part′ → Rows part′ → readPairs cells at next′ part′ r ≡ rowsRead rows → Trip cells next′ part′ rows r) →
           (a b : Bool) → pairOk cells f t ≡ a → leb next (place f t) ≡ b →
-          pick a (pick b (readPairs cells (place f t + 1) (mark part (place f t)) r) (badPairs 11)) (badPairs 3) ≡ rowsRead rows →
+          pick a (pick b (readPairs cells at (place f t + 1) (mark part (place f t)) r) (noRows (Refused 11 at))) (noRows (Refused 3 at)) ≡ rowsRead rows →
           Trip cells next part rows (f ∷ t ∷ r)
       go ih true true p m e′ =
           let h : next ≤ place f t = leb-true next (place f t) m in
@@ -188,15 +191,19 @@ module _ (cells : ℕ) (most : cells ≤ 32) (rows : List ℕ) where
           (mark-rows part (place f t) (whole .size) below whole)
           e′)
       go ih true false p m e′ =
-          let z : _≡_ {A = ℕ} 11 0 = ap (λ (x : PairsRead). x .number) e′ in absurd (omega arith)
+          let y : _≡_ {A = ReadAnswer} (Refused 11 at) Done = ap (λ (x : PairsRead). x .answer) e′ in
+          let z : _≡_ {A = ℕ} 0 1 = cc in
+          absurd (omega arith)
       go ih false b p m e′ =
-          let z : _≡_ {A = ℕ} 3 0 = ap (λ (x : PairsRead). x .number) e′ in absurd (omega arith)
+          let y : _≡_ {A = ReadAnswer} (Refused 3 at) Done = ap (λ (x : PairsRead). x .answer) e′ in
+          let z : _≡_ {A = ℕ} 0 1 = cc in
+          absurd (omega arith)
 
   -- a body of whole pairs that is read is the bytes of its rows
   pub pairs-written :
-      (body : List ℕ) → length body % 2 ≡ 0 → readPairs cells 0 (replicate 32 0) body ≡ rowsRead rows →
+      (body : List ℕ) → length body % 2 ≡ 0 → readPairs cells at 0 none body ≡ rowsRead rows →
       (pairBytes rows ≡ body) × Rows rows × Named cells rows
   unfolding pairBytes Named
   pairs-written body even e =
-      let trip = written-from body even 0 (replicate 32 0) (omega arith) high-none no-rows e in
+      let trip = written-from body even 0 none (omega arith) high-none no-rows e in
       (trip .bytes, trip .whole, λ q l b. trip .named q (omega arith) l b)

@@ -1,73 +1,105 @@
--- The site reader's definitions, record by record: what the opener's answer and each test make of them. Assumes nothing.
-use Prim.Native.Nat.{ℕ, _+_, _-_, _*_, _≤_, _<_}
-use mathlib.Core.Path.{_≡_}
-use mathlib.Core.Bool.{true, false}
-use mathlib.Core.List.{List}
-use native.Mathlib.Nat.{add-sub-cancel-left}
-use lib.ListN.{length, take, drop, replicate}
-use lib.Seq.{sets}
-use borrow.Author.Tests.{eq-eqb, ne-eqb, lt-ltb, le-ltb}
-use Rattle.laws.specs.Choice.{pick}
-use Rattle.records.specs.Bytes.{le16, wordsOf}
-use Rattle.records.specs.Opener.{openAt}
-use Rattle.sitefile.specs.Pairs.{readPairs}
-use Rattle.sitefile.specs.Read.{refusedSite, refusedBy, siteDone, siteOr, reachFrom, readReach, loadsFrom, readLoads, headFrom, readSite}
+-- The reader's answers, by what its tests say: the records' answers one after the other, and then what follows the last. Assumes nothing.
+use Prim.Native.Nat.{ℕ, _≤_, _<_}
+use mathlib.Core.Path.{_≡_, refl, sym, ap, _∙_}
+use mathlib.Core.List.{List, [], _∷_}
+use borrow.Author.Tests.{lt-ltb, le-ltb}
+use lib.ListN.{length}
+use Rattle.records.specs.Layout.{bodyAt, recordEnd}
+use Rattle.records.specs.Reasons.{firstReason, recordReasons, endReason}
+use Rattle.records.specs.Head.{cellsIn, headAnswer}
+use Rattle.records.specs.declared.Length.the-variants.{Pairs}
+use Rattle.records.specs.declared.ReadAnswer.{ReadAnswer}
+use Rattle.records.specs.declared.ReadAnswer.the-variants.{Done, Refused}
+use Rattle.records.proofs.Reasons.{andThen}
+use Rattle.sitefile.specs.Reasons.{loadsAt, reachAt, loadsReasons, pairReasons}
+use Rattle.sitefile.specs.Read.{reachIn, siteAnswer, noRows, pairsReadOf, pairsRead, reachRead}
 use Rattle.sitefile.specs.declared.PairsRead.{PairsRead}
-use Rattle.records.specs.declared.Length.the-variants.{Exact, Pairs}
-use Rattle.records.specs.declared.Opened.{Opened}
-use Rattle.records.specs.declared.Opened.the-variants.{Body, Refused as NotOpened}
-use Rattle.site.specs.Record.{siteOf, sizeOk}
+use Rattle.sitefile.proofs.Reasons.{lastReasons, last-parts, site-parts}
 
--- kind 3
-module _ (s : List ℕ) (at cells slots channels : ℕ) (loads : List ℕ) (o : Opened) (found : o ≡ openAt s at 3 Pairs) where
-  pub reach-refused : (n a : ℕ) → o ≡ NotOpened n a → refusedBy o ≡ readReach s at cells slots channels loads
-  unfolding readReach reachFrom refusedBy
-  reach-refused n a e = rw (← found, e)
+pairs-answer : (rows : List ℕ) (a : ReadAnswer) → pairsReadOf rows a .answer ≡ a
+unfolding pairsReadOf
+pairs-answer rows Done = refl
+pairs-answer rows (Refused n at) = refl
 
-  module _ (start len : ℕ) (body : o ≡ Body start len) (p : PairsRead) (pairs : p ≡ readPairs cells 0 (replicate 32 0) (take (start + len - start) (drop start s))) where
-    reach-body : siteOr at (start + len) (length s) cells slots channels loads p ≡ readReach s at cells slots channels loads
-    unfolding readReach reachFrom
-    reach-body = rw (← found, body, pairs, add-sub-cancel-left start len)
+pairs-rows : (rows : List ℕ) (a : ReadAnswer) → a ≡ Done → pairsReadOf rows a .reach ≡ rows
+unfolding pairsReadOf
+pairs-rows rows a e = rw e refl
 
-    pub reach-bad : (p .number ≡ 0 → ⊥) → refusedSite (p .number) at ≡ readReach s at cells slots channels loads
-    unfolding siteOr
-    reach-bad h = rw (← reach-body) (simp (ne-eqb (p .number) 0 h))
+-- kind 3, and what may follow it
+module _ (s : List ℕ) (at cells : ℕ) where
+  abbrev R : List ℕ
+  R = reachIn (bodyAt s at)
 
-    pub reach-more : p .number ≡ 0 → start + len < length s → refusedSite 12 (start + len) ≡ readReach s at cells slots channels loads
-    unfolding siteOr
-    reach-more h l = rw (← reach-body) (simp (eq-eqb (p .number) 0 h, lt-ltb (start + len) (length s) l))
+  abbrev A : ReadAnswer
+  A = firstReason (pairReasons cells at 0 0 (bodyAt s at))
 
-    pub reach-done :
-        p .number ≡ 0 → length s ≤ start + len →
-        siteDone (siteOf cells slots channels loads (p .reach)) ≡ readReach s at cells slots channels loads
-    unfolding siteOr
-    reach-done h l = rw (← reach-body) (simp (eq-eqb (p .number) 0 h, le-ltb (start + len) (length s) l))
+  abbrev E : ReadAnswer
+  E = firstReason (endReason s (recordEnd s at) ∷ [])
 
--- kind 2
-module _ (s : List ℕ) (cells slots channels : ℕ) (o : Opened) (found : o ≡ openAt s 10 2 (Exact (2 + 2 * cells))) where
-  pub loads-refused : (n a : ℕ) → o ≡ NotOpened n a → refusedBy o ≡ readLoads s cells slots channels
-  unfolding readLoads loadsFrom refusedBy
-  loads-refused n a e = rw (← found, e)
+  reach-is : (a b : ReadAnswer) → firstReason (recordReasons s at 3 Pairs) ≡ a → andThen a (andThen A E) ≡ b → pairsReadOf R b ≡ reachRead s at cells
+  unfolding reachRead
+  reach-is a b e f = ap (pairsReadOf R) (sym (last-parts s at cells ∙ ap (λ (x : ReadAnswer). andThen x (andThen A E)) e ∙ f))
 
-  pub loads-body :
-      (start len : ℕ) → o ≡ Body start len → (loads : List ℕ) → loads ≡ sets (replicate 32 0) 0 (wordsOf (take (start + len - start) (drop start s))) →
-      readReach s (start + len) cells slots channels loads ≡ readLoads s cells slots channels
-  unfolding readLoads loadsFrom
-  loads-body start len e loads l = rw (← found, e, l, add-sub-cancel-left start len)
+  pub reach-stop : (n k : ℕ) → firstReason (recordReasons s at 3 Pairs) ≡ Refused n k → noRows (Refused n k) ≡ reachRead s at cells
+  unfolding pairsReadOf
+  reach-stop n k e = reach-is (Refused n k) (Refused n k) e refl
 
--- kind 1
-module _ (s : List ℕ) (o : Opened) (found : o ≡ openAt s 0 1 (Exact 8)) where
-  pub head-refused : (n a : ℕ) → o ≡ NotOpened n a → refusedBy o ≡ readSite s
-  unfolding readSite headFrom refusedBy
-  head-refused n a e = rw (← found, e)
+  module _ (opens : firstReason (recordReasons s at 3 Pairs) ≡ Done) (p : PairsRead) (pairs : p ≡ pairsRead cells at (bodyAt s at)) where
+    is : p ≡ pairsReadOf R A
+    unfolding pairsRead
+    is = pairs
 
-  module _ (start len : ℕ) (body : o ≡ Body start len) (i t f : ℕ) (ei : i ≡ le16 s 4) (et : t ≡ le16 s 6) (ef : f ≡ le16 s 8) where
-    head-body : pick (sizeOk i t f) (readLoads s i t f) (refusedSite 1 0) ≡ readSite s
-    unfolding readSite headFrom
-    head-body = rw (← found, body, ei, et, ef)
+    told : p .answer ≡ A
+    told = ap (λ (x : PairsRead). x .answer) is ∙ pairs-answer R A
 
-    pub head-good : sizeOk i t f ≡ true → readLoads s i t f ≡ readSite s
-    head-good h = rw (← head-body, h)
+    pub reach-bad : (n k : ℕ) → p .answer ≡ Refused n k → p ≡ reachRead s at cells
+    reach-bad n k e =
+        let a : A ≡ Refused n k = sym told ∙ e in
+        is ∙ ap (pairsReadOf R) a ∙ reach-is Done (Refused n k) opens (ap (λ (x : ReadAnswer). andThen x E) a)
 
-    pub head-bad : sizeOk i t f ≡ false → refusedSite 1 0 ≡ readSite s
-    head-bad h = rw (← head-body, h)
+    module _ (done : p .answer ≡ Done) where
+      good : A ≡ Done
+      good = sym told ∙ done
+
+      pub reach-more : recordEnd s at < length s → noRows (Refused 12 (recordEnd s at)) ≡ reachRead s at cells
+      unfolding pairsReadOf firstReason
+      reach-more h =
+          reach-is Done (Refused 12 (recordEnd s at)) opens (ap (λ (x : ReadAnswer). andThen x E) good ∙ rw (lt-ltb (recordEnd s at) (length s) h) refl)
+
+      pub reach-done : length s ≤ recordEnd s at → p ≡ reachRead s at cells
+      unfolding firstReason
+      reach-done h =
+          is ∙ ap (pairsReadOf R) good ∙ reach-is Done Done opens (ap (λ (x : ReadAnswer). andThen x E) good ∙ rw (le-ltb (recordEnd s at) (length s) h) refl)
+
+-- the whole file
+module _ (s : List ℕ) where
+  abbrev L : ReadAnswer
+  L = firstReason (loadsReasons s (loadsAt s) (cellsIn s))
+
+  abbrev Z : ReadAnswer
+  Z = firstReason (lastReasons s (reachAt s) (cellsIn s))
+
+  pub head-stop : (n k : ℕ) → headAnswer s ≡ Refused n k → siteAnswer s ≡ Refused n k
+  head-stop n k e = site-parts s ∙ ap (λ (x : ReadAnswer). andThen x (andThen L Z)) e
+
+  module _ (head : headAnswer s ≡ Done) where
+    past-head : siteAnswer s ≡ andThen L Z
+    past-head = site-parts s ∙ ap (λ (x : ReadAnswer). andThen x (andThen L Z)) head
+
+    pub loads-stop : (n k : ℕ) → L ≡ Refused n k → siteAnswer s ≡ Refused n k
+    loads-stop n k e = past-head ∙ ap (λ (x : ReadAnswer). andThen x Z) e
+
+    -- past the loads, what the last record gives decides
+    module _ (loads : L ≡ Done) (p : PairsRead) (reach : p ≡ reachRead s (reachAt s) (cellsIn s)) where
+      pub site-is : siteAnswer s ≡ p .answer
+      unfolding reachRead
+      site-is =
+          past-head
+          ∙ ap (λ (x : ReadAnswer). andThen x Z) loads
+          ∙ sym (ap (λ (x : PairsRead). x .answer) reach ∙ pairs-answer (reachIn (bodyAt s (reachAt s))) Z)
+
+      pub rows-are : p .answer ≡ Done → p .reach ≡ reachIn (bodyAt s (reachAt s))
+      unfolding reachRead
+      rows-are done =
+          ap (λ (x : PairsRead). x .reach) reach
+          ∙ pairs-rows (reachIn (bodyAt s (reachAt s))) Z (sym (pairs-answer (reachIn (bodyAt s (reachAt s))) Z) ∙ ap (λ (x : PairsRead). x .answer) (sym reach) ∙ done)

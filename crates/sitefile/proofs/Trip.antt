@@ -1,39 +1,42 @@
 -- The round trips of the site file: a site with no fault, written and read, is the same site; an accepted file, read and written, is the same bytes.
 -- Both are the trips of `FileTrip` with `Good` put before or after them. Assumes nothing.
 use Prim.Native.Nat.{ℕ}
-use mathlib.Core.Path.{_≡_, sym, ap}
+use mathlib.Core.Path.{_≡_, sym, ap, _∙_}
 use mathlib.Core.List.{List}
-use Rattle.records.specs.declared.ReadAnswer.{ReadAnswer}
+use Rattle.records.specs.Bytes.{Bytes}
+use Rattle.records.specs.Write.{laidOver}
 use Rattle.records.specs.declared.ReadAnswer.the-variants.{Done}
 use Rattle.site.specs.Record.{faultOf}
 use Rattle.site.specs.declared.Site.{Site}
 use Rattle.site.specs.declared.Fault.the-variants.{Fine}
-use Rattle.records.specs.Bytes.{Bytes}
-use Rattle.records.specs.Write.{laidOver}
 use Rattle.sitefile.specs.Held.{Held}
-use Rattle.sitefile.specs.Read.{siteDone, readSite}
+use Rattle.sitefile.specs.Read.{siteIn, siteAnswer, siteDone, readSite}
 use Rattle.sitefile.specs.Write.{siteBytes, written, siteWritten, siteOut}
-use Rattle.sitefile.proofs.FileTrip.{GoodSite, read-written, written-read, read-good}
+use Rattle.sitefile.specs.declared.SiteRead.{SiteRead}
+use Rattle.sitefile.proofs.FileTrip.{written-accepted, written-stated, read-written, read-good}
 use Rattle.sitefile.proofs.Good.{fine-good, good-fine}
+use Rattle.sitefile.proofs.Reasons.{first-refused, accept}
 
 -- written and read back: the same site
 pub written-then-read : (s : Site) → Held s → faultOf s ≡ Fine → readSite (siteBytes s) ≡ siteDone s
-written-then-read s held fine = sym (read-written s (fine-good s held fine))
+written-then-read s held fine =
+    let good = fine-good s held fine in
+    sym (accept (siteBytes s) (written-accepted s good)) ∙ ap siteDone (written-stated s good)
 
 module _ (file : List ℕ) (bytes : Bytes file) (accepted : readSite file .answer ≡ Done) where
-  whole : readSite file ≡ siteDone (readSite file .site)
-  whole = ap (λ (a : ReadAnswer). record { site = readSite file .site; answer = a }) accepted
+  done : siteAnswer file ≡ Done
+  done = sym (first-refused file) ∙ accepted
 
-  good : GoodSite (readSite file .site)
-  good = read-good file bytes (readSite file .site) whole
+  stated : readSite file .site ≡ siteIn file
+  stated = ap (λ (r : SiteRead). r .site) (sym (accept file done))
 
   -- read and written again: the same bytes
   pub read-then-written : siteBytes (readSite file .site) ≡ file
-  read-then-written = written-read file bytes (readSite file .site) whole
+  read-then-written = ap siteBytes stated ∙ read-written file bytes done
 
   -- what is read has no fault
   pub read-fine : faultOf (readSite file .site) ≡ Fine
-  read-fine = good-fine (readSite file .site) good
+  read-fine = ap faultOf stated ∙ good-fine (siteIn file) (read-good file bytes done)
 
   -- so the writer, given what was read, answers the file's length and leaves the file
   pub written-again : (out : List ℕ) → (siteWritten (readSite file .site) out ≡ written file out) × (siteOut (readSite file .site) out ≡ laidOver file out)

@@ -1,17 +1,20 @@
 -- The writer's definitions: a turn of the loads' loop, the file's length, its parts stored one after the other, and the answer.
 -- Assumes nothing.
 use Prim.Native.Nat.{ℕ, suc, _+_, _*_, _%_, _≤_, _<_}
-use mathlib.Core.Path.{_≡_, sym, ap, _∙_, subst}
+use mathlib.Core.Path.{_≡_, refl, sym, ap, _∙_, subst}
 use mathlib.Core.List.{List, [], _∷_, _++_}
-use native.Mathlib.Numerals.{add-one, add-two, add-four}
+use native.Mathlib.Numerals.{add-one}
 use native.Mathlib.Omega.{arith}
 use lib.ListN.{length, getD, take, drop, length-append, length-take, drop-of-length-le}
 use lib.Seq.{sets, drop-cons, getD-take, length-take-le}
 use borrow.Author.Tests.{le-leb, lt-leb}
 use Rattle.laws.proofs.Stores.{sets-append}
 use Rattle.records.specs.Bytes.{words}
+use Rattle.records.specs.Layout.{recordOf}
+use Rattle.records.specs.Head.{headRecord}
+use Rattle.records.proofs.Write.{record-put}
 use Rattle.records.proofs.Bytes.{words-length}
-use Rattle.sitefile.specs.Write.{siteHead, pairBytes, siteBytes, written}
+use Rattle.sitefile.specs.Write.{pairBytes, siteBytes, written}
 use Rattle.site.specs.declared.Site.{Site}
 use Rattle.sitefile.specs.declared.SiteWritten.the-variants.{Done, OutShort}
 use Rattle.sitefile.proofs.RowLaws.{pairs-even, pairs-most}
@@ -32,24 +35,20 @@ pub pair-bytes-even : (rows : List ℕ) → length (pairBytes rows) % 2 ≡ 0
 unfolding pairBytes
 pair-bytes-even rows = pairs-even rows 0 1024
 
--- the file's length, and its parts stored one after the other
-tail-put :
-    (out : List ℕ) (a m : ℕ) (l p : List ℕ) → length l ≡ m →
-    sets (sets (sets (sets out 14 l) (14 + m) (words (a ∷ []))) (14 + m + 2) (words (3 ∷ []))) (14 + m + 4) p
-    ≡ sets out 14 (l ++ (words (a ∷ 3 ∷ []) ++ p))
-tail-put out a m l p e =
-    rw (add-two (14 + m), add-four (14 + m))
-    (sym (sets-append out 14 l (words (a ∷ 3 ∷ []) ++ p) ∙ ap (λ (k : ℕ). sets (sets out 14 l) (14 + k) (words (a ∷ 3 ∷ []) ++ p)) e))
-
 pub pair-bytes-most : (rows : List ℕ) → length (pairBytes rows) ≤ 2048
 unfolding pairBytes
 pair-bytes-most rows = pairs-most rows 0 1024
+
+-- how many bytes the head takes
+abbrev pub headSize : ℕ
+headSize = length (headRecord 0 0 0)
 
 module _ (s : Site) (cells : s .cells ≤ 32) (size : length (s .loads) ≡ 32) where
   loads-length : length (words (take (s .cells) (s .loads))) ≡ 2 * s .cells
   loads-length = words-length (take (s .cells) (s .loads)) ∙ ap (λ (k : ℕ). 2 * k) (length-take-le (s .cells) (s .loads) (omega arith))
 
-  pub site-length : length (siteBytes s) ≡ 14 + 2 * s .cells + 4 + length (pairBytes (s .reach))
+  -- the file's length, and its parts stored one after the other
+  pub site-length : length (siteBytes s) ≡ headSize + 4 + 2 * s .cells + 4 + length (pairBytes (s .reach))
   unfolding siteBytes
   site-length = simp length-append (omega (arith, loads-length))
 
@@ -58,20 +57,26 @@ module _ (s : Site) (cells : s .cells ≤ 32) (size : length (s .loads) ≡ 32) 
       sets
       (sets
       (sets
-      (sets (sets out 0 (words (siteHead (s .cells) (s .slots) (s .channels)))) 14 (words (take (s .cells) (s .loads))))
-      (14 + 2 * s .cells)
-      (words ((2 + length (pairBytes (s .reach))) ∷ [])))
-      (14 + 2 * s .cells + 2)
-      (words (3 ∷ [])))
-      (14 + 2 * s .cells + 4)
+      (sets (sets out 0 (headRecord (s .cells) (s .slots) (s .channels))) headSize (words ((2 + 2 * s .cells) ∷ 2 ∷ [])))
+      (headSize + 4)
+      (words (take (s .cells) (s .loads))))
+      (headSize + 4 + 2 * s .cells)
+      (words ((2 + length (pairBytes (s .reach))) ∷ 3 ∷ [])))
+      (headSize + 4 + 2 * s .cells + 4)
       (pairBytes (s .reach))
       ≡ sets out 0 (siteBytes s)
   unfolding siteBytes
   site-put out =
-      tail-put (sets out 0 (words (siteHead (s .cells) (s .slots) (s .channels)))) (2 + length (pairBytes (s .reach))) (2 * s .cells)
-      (words (take (s .cells) (s .loads)))
-      (pairBytes (s .reach))
-      loads-length
+      let H = headRecord (s .cells) (s .slots) (s .channels) in
+      let L = words (take (s .cells) (s .loads)) in
+      let P = pairBytes (s .reach) in
+      let X = sets out 0 H in
+      let e : headSize + length (recordOf 2 L) ≡ headSize + 4 + 2 * s .cells = omega (arith, loads-length) in
+      record-put (sets (sets X headSize (words ((2 + 2 * s .cells) ∷ 2 ∷ []))) (headSize + 4) L) (headSize + 4 + 2 * s .cells) 3 (2 + length P) P refl
+      ∙ ap (λ (l : List ℕ). sets l (headSize + 4 + 2 * s .cells) (recordOf 3 P)) (record-put X headSize 2 (2 + 2 * s .cells) L (omega (arith, loads-length)))
+      ∙ ap (λ (k : ℕ). sets (sets X headSize (recordOf 2 L)) k (recordOf 3 P)) (sym e)
+      ∙ sym (sets-append X headSize (recordOf 2 L) (recordOf 3 P))
+      ∙ sym (sets-append out 0 H (recordOf 2 L ++ recordOf 3 P))
 
 -- the writer's answer
 pub written-done : (file out : List ℕ) (n : ℕ) → n ≡ length file → n ≤ length out → Done n ≡ written file out

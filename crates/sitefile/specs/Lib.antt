@@ -1,7 +1,7 @@
 -- The definitions of crate `sitefile`, module by module.
 pub mod Held
 pub mod Pairs
-pub mod Read
 pub mod Reasons
+pub mod Read
 pub mod Write
 pub mod Given

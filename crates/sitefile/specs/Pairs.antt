@@ -3,12 +3,11 @@
 use Prim.Native.Nat.{ℕ, zero, suc, _+_, _-_, _*_, _/_, _%_}
 use mathlib.Core.List.{List, [], _∷_, _++_}
 use mathlib.Core.Bool.{Bool, not, _&&_}
-use lib.ListN.{getD, set, replicate}
-use lib.Dec.{leb, eqb}
+use lib.ListN.{getD, set}
+use lib.Dec.{eqb}
 use Rattle.laws.specs.Choice.{pick}
 use Rattle.laws.specs.Bits.{bitAt, setBit}
 use Rattle.site.specs.Record.{upTo}
-use Rattle.sitefile.specs.declared.PairsRead.{PairsRead}
 
 -- two different cells of the site; else "a pair naming a cell outside 1..I, or one cell twice"
 unfoldable pub pairOk : ℕ → ℕ → ℕ → Bool
@@ -21,17 +20,11 @@ place from to = (from - 1) * 32 + (to - 1)
 abbrev pub mark : List ℕ → ℕ → List ℕ
 mark rows q = set rows (q / 32) (setBit (getD rows (q / 32) 0) (q % 32))
 
-abbrev pub badPairs : ℕ → PairsRead
-badPairs n = record { reach = replicate 32 0; number = n }
-
--- "each pair 3 then 11"; next is the least place that still rises
-unfoldable pub readPairs : ℕ → ℕ → List ℕ → List ℕ → PairsRead
-readPairs cells next rows [] = record { reach = rows; number = 0 }
-readPairs cells next rows (f ∷ []) = record { reach = rows; number = 0 }
-readPairs cells next rows (f ∷ t ∷ r) =
-    pick (pairOk cells f t)
-    (pick (leb next (place f t)) (readPairs cells (place f t + 1) (mark rows (place f t)) r) (badPairs 11))
-    (badPairs 3)
+-- the rows with the bit of every pair of a body set
+abbrev pub marks : List ℕ → List ℕ → List ℕ
+marks rows [] = rows
+marks rows (f ∷ []) = rows
+marks rows (f ∷ t ∷ r) = marks (mark rows (place f t)) r
 
 -- the bytes of the pair at q, if its bit is set in its row
 unfoldable pub pairOf : ℕ → ℕ → List ℕ

@@ -1,66 +1,71 @@
--- The site file, read, as the code goes. specs/Reasons.antt says the same as one list of reasons, and proofs/Reasons.antt proves it. "A site file is kinds 1, 2, 3; kind 3 is there even when empty."
--- "In a file, record by record: 8 for the four bytes, 9, 10, 8 for the end, then contents: head 1; each pair 3 then 11 .. Then 12."
-use Prim.Native.Nat.{ℕ, _+_, _*_}
-use mathlib.Core.List.{List}
-use lib.ListN.{length, take, drop, replicate}
+-- The site file, read: the answer is the first reason to refuse it that applies, and where none does, the site is the one that the records' bodies state.
+use Prim.Native.Nat.{ℕ}
+use mathlib.Core.List.{List, [], _∷_, _++_}
+use lib.ListN.{replicate}
 use lib.Seq.{sets}
-use lib.Dec.{ltb, eqb}
-use Rattle.laws.specs.Choice.{pick}
-use Rattle.records.specs.Bytes.{le16, wordsOf}
-use Rattle.records.specs.Opener.{openAt}
-use Rattle.records.specs.declared.Length.the-variants.{Exact, Pairs}
-use Rattle.records.specs.declared.Opened.{Opened}
-use Rattle.records.specs.declared.Opened.the-variants.{Body, Refused as NotOpened}
+use Rattle.records.specs.Bytes.{wordsOf}
+use Rattle.records.specs.Layout.{bodyAt, recordEnd}
+use Rattle.records.specs.Reasons.{firstReason, endReason}
+use Rattle.records.specs.Head.{cellsIn, slotsIn, channelsIn}
+use Rattle.records.specs.declared.ReadAnswer.{ReadAnswer}
 use Rattle.records.specs.declared.ReadAnswer.the-variants.{Done, Refused}
-use Rattle.site.specs.Record.{siteOf, zeroSite, sizeOk}
+use Rattle.site.specs.Record.{zeroSite}
 use Rattle.site.specs.declared.Site.{Site}
-use Rattle.sitefile.specs.Pairs.{readPairs}
+use Rattle.sitefile.specs.Pairs.{marks}
+use Rattle.sitefile.specs.Reasons.{loadsAt, reachAt, pairReasons, reachReasons, siteReasons}
 use Rattle.sitefile.specs.declared.SiteRead.{SiteRead}
 use Rattle.sitefile.specs.declared.PairsRead.{PairsRead}
 
+-- no load and no reach: "Unused loads and rows are zero."
+abbrev pub none : List ℕ
+none = replicate 32 0
+
+-- the loads that a kind 2 body states, and the rows that a kind 3 body states
+abbrev pub loadsIn : List ℕ → List ℕ
+loadsIn body = sets none 0 (wordsOf body)
+
+abbrev pub reachIn : List ℕ → List ℕ
+reachIn body = marks none body
+
+unfoldable pub siteIn : List ℕ → Site
+siteIn s =
+    record {
+      cells = cellsIn s;
+      slots = slotsIn s;
+      channels = channelsIn s;
+      loads = loadsIn (bodyAt s (loadsAt s));
+      reach = reachIn (bodyAt s (reachAt s));
+    }
+
+unfoldable pub siteAnswer : List ℕ → ReadAnswer
+siteAnswer s = firstReason (siteReasons s)
+
 -- "A refused site read gives a site of zeros."
-unfoldable pub refusedSite : ℕ → ℕ → SiteRead
-refusedSite number at = record { site = zeroSite; answer = Refused number at }
-
-unfoldable pub refusedBy : Opened → SiteRead
-refusedBy (NotOpened number at) = refusedSite number at
-refusedBy (Body start len) = refusedSite 0 0
-
 abbrev pub siteDone : Site → SiteRead
 siteDone s = record { site = s; answer = Done }
 
--- kind 3: its pairs, at the record's offset; then 12, "of the first extra byte"
-unfoldable pub siteOr : ℕ → ℕ → ℕ → ℕ → ℕ → ℕ → List ℕ → PairsRead → SiteRead
-siteOr at end size cells slots channels loads p =
-    pick (eqb (p .number) 0)
-    (pick (ltb end size) (refusedSite 12 end) (siteDone (siteOf cells slots channels loads (p .reach))))
-    (refusedSite (p .number) at)
+unfoldable pub refusedSite : ReadAnswer → SiteRead
+refusedSite answer = record { site = zeroSite; answer = answer }
 
-unfoldable pub reachFrom : List ℕ → ℕ → ℕ → ℕ → ℕ → List ℕ → Opened → SiteRead
-reachFrom s at cells slots channels loads (NotOpened n a) = refusedSite n a
-reachFrom s at cells slots channels loads (Body start len) =
-    siteOr at (start + len) (length s) cells slots channels loads
-    (readPairs cells 0 (replicate 32 0) (take len (drop start s)))
-
-unfoldable pub readReach : List ℕ → ℕ → ℕ → ℕ → ℕ → List ℕ → SiteRead
-readReach s at cells slots channels loads = reachFrom s at cells slots channels loads (openAt s at 3 Pairs)
-
--- kind 2: the loads, and zeros after them
-unfoldable pub loadsFrom : List ℕ → ℕ → ℕ → ℕ → Opened → SiteRead
-loadsFrom s cells slots channels (NotOpened n a) = refusedSite n a
-loadsFrom s cells slots channels (Body start len) =
-    readReach s (start + len) cells slots channels (sets (replicate 32 0) 0 (wordsOf (take len (drop start s))))
-
-unfoldable pub readLoads : List ℕ → ℕ → ℕ → ℕ → SiteRead
-readLoads s cells slots channels = loadsFrom s cells slots channels (openAt s 10 2 (Exact (2 + 2 * cells)))
-
--- kind 1: the head
-unfoldable pub headFrom : List ℕ → Opened → SiteRead
-headFrom s (NotOpened n a) = refusedSite n a
-headFrom s (Body start len) =
-    pick (sizeOk (le16 s 4) (le16 s 6) (le16 s 8))
-    (readLoads s (le16 s 4) (le16 s 6) (le16 s 8))
-    (refusedSite 1 0)
+unfoldable pub siteReadOf : Site → ReadAnswer → SiteRead
+siteReadOf s Done = siteDone s
+siteReadOf s (Refused number at) = refusedSite (Refused number at)
 
 unfoldable pub readSite : List ℕ → SiteRead
-readSite s = headFrom s (openAt s 0 1 (Exact 8))
+readSite s = siteReadOf (siteIn s) (siteAnswer s)
+
+-- the same of the last record by itself: its rows, or none beside a refusal
+abbrev pub noRows : ReadAnswer → PairsRead
+noRows answer = record { reach = none; answer = answer }
+
+unfoldable pub pairsReadOf : List ℕ → ReadAnswer → PairsRead
+pairsReadOf rows Done = record { reach = rows; answer = Done }
+pairsReadOf rows (Refused number at) = noRows (Refused number at)
+
+-- the pairs of its body, and the whole record at an offset with nothing after it
+unfoldable pub pairsRead : ℕ → ℕ → List ℕ → PairsRead
+pairsRead cells at body = pairsReadOf (reachIn body) (firstReason (pairReasons cells at 0 0 body))
+
+unfoldable pub reachRead : List ℕ → ℕ → ℕ → PairsRead
+reachRead s at cells =
+    pairsReadOf (reachIn (bodyAt s at)) (firstReason (reachReasons s at cells ++ (endReason s (recordEnd s at) ∷ [])))

@@ -1,14 +1,25 @@
--- The reasons to refuse a site file, one after the other in document 01's order.
+-- The reasons to refuse a site file, one after the other in document 01's order. "A site file is kinds 1, 2, 3; kind 3 is there even when empty."
 -- "In a file, record by record: 8 for the four bytes, 9, 10, 8 for the end, then contents: head 1; each pair 3 then 11 .. Then 12."
-use Prim.Native.Nat.{ℕ, _+_, _-_, _*_, _%_}
+use Prim.Native.Nat.{ℕ, _+_, _*_}
 use mathlib.Core.List.{List, [], _∷_, _++_}
 use mathlib.Core.Bool.{Bool, not, _||_, _&&_}
-use lib.ListN.{length, take, drop}
 use lib.Dec.{ltb, eqb}
-use Rattle.records.specs.Bytes.{le16}
-use Rattle.records.specs.Reasons.{Reason, reason, recordReasons}
-use Rattle.site.specs.Record.{sizeOk}
+use Rattle.records.specs.Layout.{bodyAt, recordEnd}
+use Rattle.records.specs.Reasons.{Reason, reason, recordReasons, endReason}
+use Rattle.records.specs.Head.{cellsIn, afterHead, headReasons}
+use Rattle.records.specs.declared.Length.the-variants.{Exact, Pairs}
 use Rattle.sitefile.specs.Pairs.{pairOk}
+
+-- where kinds 2 and 3 are due: each where the record before it ends
+abbrev pub loadsAt : List ℕ → ℕ
+loadsAt s = afterHead s
+
+abbrev pub reachAt : List ℕ → ℕ
+reachAt s = recordEnd s (loadsAt s)
+
+-- "2 loads: I loads, two bytes each", length "2 + 2I"
+abbrev pub loadsReasons : List ℕ → ℕ → ℕ → List Reason
+loadsReasons s at cells = recordReasons s at 2 (Exact (2 + 2 * cells))
 
 -- "strictly rising by from, then to"
 abbrev pub rises : ℕ → ℕ → ℕ → ℕ → Bool
@@ -23,21 +34,13 @@ pairReasons cells at from to (f ∷ t ∷ r) =
     ∷ reason (not (rises from to f t)) 11 at
     ∷ pairReasons cells at f t r
 
--- kind 3, due at an offset: "2 + even number"; its pairs; then "bytes after the last record", 12, at "the first extra byte"
+-- "3 reach: pairs from, to, a byte each", length "2 + even number"
 abbrev pub reachReasons : List ℕ → ℕ → ℕ → List Reason
-reachReasons s at cells =
-    recordReasons s at 3 (ltb (le16 s at) 2 || not (eqb (le16 s at % 2) 0))
-    ++ (pairReasons cells at 0 0 (take (le16 s at - 2) (drop (at + 4) s))
-    ++ (reason (ltb (at + 2 + le16 s at) (length s)) 12 (at + 2 + le16 s at) ∷ []))
+reachReasons s at cells = recordReasons s at 3 Pairs ++ pairReasons cells at 0 0 (bodyAt s at)
 
--- kind 2, due after the head: "2 + 2I"; then kind 3, due after the loads
-abbrev pub loadsReasons : List ℕ → ℕ → List Reason
-loadsReasons s cells =
-    recordReasons s 10 2 (not (eqb (le16 s 10) (2 + 2 * cells))) ++ reachReasons s (14 + 2 * cells) cells
-
--- kind 1: "8"; "I, T or F out of range"; then kind 2, for the head's I
 unfoldable pub siteReasons : List ℕ → List Reason
 siteReasons s =
-    recordReasons s 0 1 (not (eqb (le16 s 0) 8))
-    ++ (reason (not (sizeOk (le16 s 4) (le16 s 6) (le16 s 8))) 1 0
-    ∷ loadsReasons s (le16 s 4))
+    headReasons s
+    ++ (loadsReasons s (loadsAt s) (cellsIn s)
+    ++ (reachReasons s (reachAt s) (cellsIn s)
+    ++ (endReason s (recordEnd s (reachAt s)) ∷ [])))

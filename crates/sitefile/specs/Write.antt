@@ -1,11 +1,13 @@
 -- The file of a site, and what its writer answers and leaves.
-use Prim.Native.Nat.{ℕ, _+_, _*_}
-use mathlib.Core.List.{List, [], _∷_, _++_}
+use Prim.Native.Nat.{ℕ}
+use mathlib.Core.List.{List, _++_}
 use lib.ListN.{length, take}
 use lib.Dec.{leb}
 use Rattle.laws.specs.Choice.{pick}
 use Rattle.records.specs.Bytes.{words}
-use Rattle.records.specs.Write.{headWords, laidOver}
+use Rattle.records.specs.Layout.{recordOf}
+use Rattle.records.specs.Head.{headRecord}
+use Rattle.records.specs.Write.{laidOver}
 use Rattle.site.specs.Record.{faultOf, isFine}
 use Rattle.site.specs.declared.Site.{Site}
 use Rattle.sitefile.specs.Pairs.{pairsFrom}
@@ -16,17 +18,12 @@ use Rattle.sitefile.specs.declared.SiteWritten.the-variants.{Done, OutSh
 unfoldable pub pairBytes : List ℕ → List ℕ
 pairBytes reach = pairsFrom reach 0 1024
 
--- the head, and the length and kind of the loads
-abbrev pub siteHead : ℕ → ℕ → ℕ → List ℕ
-siteHead cells slots channels = headWords cells slots channels (2 + 2 * cells) 2
-
--- "A site file is kinds 1, 2, 3"
+-- "A site file is kinds 1, 2, 3": the head, "I loads, two bytes each", the pairs
 unfoldable pub siteBytes : Site → List ℕ
 siteBytes s =
-    words (siteHead (s .cells) (s .slots) (s .channels))
-    ++ (words (take (s .cells) (s .loads))
-    ++ (words ((2 + length (pairBytes (s .reach))) ∷ 3 ∷ [])
-    ++ pairBytes (s .reach)))
+    headRecord (s .cells) (s .slots) (s .channels)
+    ++ (recordOf 2 (words (take (s .cells) (s .loads)))
+    ++ recordOf 3 (pairBytes (s .reach)))
 
 -- 13, "lent output too short for the file": "bytes needed"; "a writer that is done answers the number of bytes written"
 unfoldable pub written : List ℕ → List ℕ → SiteWritten

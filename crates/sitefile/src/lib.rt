@@ -1,25 +1,28 @@
 // The site file: kinds 1, 2 and 3 of house files, read into a site and written from one.
+use records::AFTER_HEAD;
 use records::Length;
 use records::Opened;
 use records::ReadAnswer;
+use records::head_answer;
 use records::open;
+use records::opened_answer;
 use records::put_head;
+use records::put_start;
 use records::put_two;
 use records::put_word;
 use records::word;
 use site::Fault;
 use site::Site;
-use site::size_ok;
 use site::within;
 ghost use mathlib.Core.Path.{_≡_};
 ghost use Prim.Native.Nat.{_+_, _*_, _/_, _%_, _^_, _≤_, _<_};
-ghost use lib.ListN.{length, take, replicate};
+ghost use lib.ListN.{length, take};
 ghost use lib.Seq.{sets};
 ghost use Rattle.laws.specs.Bits.{setBit};
-ghost use Rattle.records.specs.Bytes.{wordsOf, words};
+ghost use Rattle.records.specs.Bytes.{words};
 ghost use Rattle.records.specs.Write.{laidOver};
-ghost use Rattle.sitefile.specs.Pairs.{pairOk, place, readPairs, pairOf, rowFrom};
-ghost use Rattle.sitefile.specs.Read.{refusedSite, refusedBy, readReach, readLoads, readSite};
+ghost use Rattle.sitefile.specs.Pairs.{pairOk, place, pairOf, rowFrom};
+ghost use Rattle.sitefile.specs.Read.{loadsIn, noRows, pairsRead, reachRead, refusedSite, readSite};
 ghost use Rattle.sitefile.specs.Write.{siteBytes, pairBytes, written, siteWritten, siteOut};
 
 // What a site read gives: the site, or a site of zeros beside the refusal.
@@ -35,16 +38,16 @@ pub enum SiteWritten {
     Refused(Fault),
 }
 
-// The reach rows of a kind 3 body, with 0; or the refusal's number.
+// The reach rows of a kind 3 record; or none beside the refusal.
 struct PairsRead {
     pub reach: [u32; 32],
-    pub number: u8,
+    pub answer: ReadAnswer,
 }
 
 // The loads of a kind 2 body.
 fn loads_of(body: &[u8]) -> [u16; 32]
     requires { ⌜ length (now body) ≤ 64 ⌝ }
-    ensures { λ r. ⌜ r ≡ sets (replicate 32 0) 0 (wordsOf (now (body .entry))) ⌝ }
+    ensures { λ r. ⌜ r ≡ loadsIn (now (body .entry)) ⌝ }
 {
     let mut loads = [0u16; 32];
     let n = body.len() / 2;
@@ -87,10 +90,20 @@ fn raised(row: u32, b: usize) -> u32
     row | (1 << b)
 }
 
-// The reach rows of a kind 3 body: each pair 3, then 11.
-fn pairs_of(body: &[u8], cells: u16) -> PairsRead
+// A refusal, and no rows.
+fn no_rows(answer: ReadAnswer) -> PairsRead
+    ensures { λ r. ⌜ r ≡ noRows answer ⌝ }
+{
+    PairsRead {
+        reach: [0u32; 32],
+        answer,
+    }
+}
+
+// The reach rows of a kind 3 body: each pair 3, then 11, at the record's offset.
+fn pairs_of(body: &[u8], cells: u16, at: usize) -> PairsRead
     requires { ⌜ cells ≤ 32 ⌝ }
-    ensures { λ r. ⌜ r ≡ readPairs cells 0 (replicate 32 0) (now (body .entry)) ⌝ }
+    ensures { λ r. ⌜ r ≡ pairsRead cells at (now (body .entry)) ⌝ }
 {
     let mut reach = [0u32; 32];
     let mut next: usize = 0;
@@ -101,17 +114,11 @@ fn pairs_of(body: &[u8], cells: u16) -> PairsRead
         let t = body[2 * i + 1];
         let ok = pair_ok(cells, f, t);
         if !ok {
-            return PairsRead {
-                reach: [0u32; 32],
-                number: 3,
-            };
+            return no_rows(ReadAnswer::Refused(3, at));
         }
         let q = place_of(f, t);
         if q < next {
-            return PairsRead {
-                reach: [0u32; 32],
-                number: 11,
-            };
+            return no_rows(ReadAnswer::Refused(11, at));
         }
         let a = q / 32;
         let row = raised(reach[a], q % 32);
@@ -119,96 +126,73 @@ fn pairs_of(body: &[u8], cells: u16) -> PairsRead
         next = q + 1;
         i += 1;
     }
-    PairsRead { reach, number: 0 }
-}
-
-// A refused read: its number and offset, and a site of zeros.
-fn refused(number: u8, at: usize) -> SiteRead
-    ensures { λ r. ⌜ r ≡ refusedSite number at ⌝ }
-{
-    SiteRead {
-        site: Site::zeros(),
-        answer: ReadAnswer::Refused(number, at),
-    }
-}
-
-// The opener's refusal, handed on. It is asked of no body.
-fn refused_by(o: Opened) -> SiteRead
-    ensures { λ r. ⌜ r ≡ refusedBy o ⌝ }
-{
-    match o {
-        Opened::Refused(number, at) => refused(number, at),
-        Opened::Body(_, _) => refused(0, 0),
-    }
-}
-
-// Kind 3, due at `at`, and nothing after it.
-fn read_reach(
-    s: &[u8],
-    at: usize,
-    cells: u16,
-    slots: u16,
-    channels: u16,
-    loads: [u16; 32],
-) -> SiteRead
-    requires { ⌜ cells ≤ 32 ⌝ }
-    ensures { λ r. ⌜ r ≡ readReach (now (s .entry)) at cells slots channels loads ⌝ }
-{
-    let o = open(s, at, 3, Length::Pairs);
-    let Opened::Body(start, len) = o else {
-        return refused_by(o);
-    };
-    let end = start + len;
-    let p = pairs_of(&s[start..end], cells);
-    let number = p.number;
-    let reach = p.reach;
-    if number != 0 {
-        return refused(number, at);
-    }
-    if end < s.len() {
-        return refused(12, end);
-    }
-    SiteRead {
-        site: Site {
-            cells,
-            slots,
-            channels,
-            loads,
-            reach,
-        },
+    PairsRead {
+        reach,
         answer: ReadAnswer::Done,
     }
 }
 
-// Kind 2, due after the head.
-fn read_loads(s: &[u8], cells: u16, slots: u16, channels: u16) -> SiteRead
+// Kind 3, due at `at`, and nothing after it.
+fn read_reach(s: &[u8], at: usize, cells: u16) -> PairsRead
     requires { ⌜ cells ≤ 32 ⌝ }
-    ensures { λ r. ⌜ r ≡ readLoads (now (s .entry)) cells slots channels ⌝ }
+    ensures { λ r. ⌜ r ≡ reachRead (now (s .entry)) at cells ⌝ }
 {
-    let o = open(s, 10, 2, Length::Exact(2 + 2 * cells));
+    let o = open(s, at, 3, Length::Pairs);
     let Opened::Body(start, len) = o else {
-        return refused_by(o);
+        return no_rows(opened_answer(o));
     };
     let end = start + len;
-    let loads = loads_of(&s[start..end]);
-    read_reach(s, end, cells, slots, channels, loads)
+    let read = pairs_of(&s[start..end], cells, at);
+    let answer = read.answer;
+    let ReadAnswer::Done = answer else {
+        return read;
+    };
+    if end < s.len() {
+        return no_rows(ReadAnswer::Refused(12, end));
+    }
+    read
+}
+
+// A refused read: a site of zeros beside the refusal.
+fn refused(answer: ReadAnswer) -> SiteRead
+    ensures { λ r. ⌜ r ≡ refusedSite answer ⌝ }
+{
+    SiteRead {
+        site: Site::zeros(),
+        answer,
+    }
 }
 
 // Reads a site file: kinds 1, 2, 3 and nothing after them.
 pub fn read_site(bytes: &[u8]) -> SiteRead
     ensures { λ r. ⌜ r ≡ readSite (now (bytes .entry)) ⌝ }
 {
-    let o = open(bytes, 0, 1, Length::Exact(8));
-    let Opened::Body(_, _) = o else {
-        return refused_by(o);
+    let head = head_answer(bytes);
+    let ReadAnswer::Done = head else {
+        return refused(head);
     };
     let cells = word(bytes, 4);
-    let slots = word(bytes, 6);
-    let channels = word(bytes, 8);
-    if size_ok(cells, slots, channels) {
-        read_loads(bytes, cells, slots, channels)
-    } else {
-        refused(1, 0)
+    let o = open(bytes, AFTER_HEAD, 2, Length::Exact(2 + 2 * cells));
+    let Opened::Body(start, len) = o else {
+        return refused(opened_answer(o));
+    };
+    let end = start + len;
+    let loads = loads_of(&bytes[start..end]);
+    let read = read_reach(bytes, end, cells);
+    let answer = read.answer;
+    let reach = read.reach;
+    let ReadAnswer::Done = answer else {
+        return refused(answer);
+    };
+    SiteRead {
+        site: Site {
+            cells,
+            slots: word(bytes, 6),
+            channels: word(bytes, 8),
+            loads,
+            reach,
+        },
+        answer,
     }
 }
 
@@ -298,18 +282,20 @@ fn put_site(s: Site, out: &mut [u8]) -> SiteWritten
     let cells = s.cells;
     let n = cells as usize;
     let m = pairs_len(reach);
-    let at = 14 + 2 * n;
+    let from = AFTER_HEAD + 4;
+    let at = from + 2 * n;
     let need = at + 4 + m;
     if out.len() < need {
         return SiteWritten::OutShort(need);
     }
-    put_head(out, cells, s.slots, s.channels, 2 + 2 * cells, 2);
-    put_loads(out, 14, loads, n);
-    put_word(out, at, (2 + m) as u16);
-    put_word(out, at + 2, 3);
+    put_head(out, cells, s.slots, s.channels);
+    put_start(out, AFTER_HEAD, 2 + 2 * cells, 2);
+    put_loads(out, from, loads, n);
+    put_start(out, at, (2 + m) as u16, 3);
     put_pairs(out, at + 4, reach);
     SiteWritten::Done(need)
 }
+
 // Writes the site file of a site: 1, 2, 3, then 13.
 pub fn write_site(site: Site, out: &mut [u8]) -> SiteWritten
     ensures { λ r. ⌜ r ≡ siteWritten site (now (out .entry)) ⌝ }

@@ -5,27 +5,29 @@ use mathlib.Core.Path.{_≡_, refl, sym, _∙_}
 use mathlib.Core.Bool.{true}
 use mathlib.Core.List.{List}
 use native.Mathlib.Omega.{arith}
-use lib.ListN.{length, drop, replicate, getD, length-set}
+use lib.ListN.{length, drop, getD, length-set}
 use borrow.Author.Tests.{not-true, not-false}
 use denote.Ref.{now}
-use Rattle.sitefile.specs.Pairs.{readPairs, pairOk}
-use Rattle.sitefile.proofs.PairLaws.{High, high-none, high-mark, pair-ok, PairOk, pairs-done, pairs-named, pairs-rise, pairs-step}
+use Rattle.sitefile.specs.Pairs.{pairOk}
+use Rattle.sitefile.specs.Read.{none, pairsRead}
+use Rattle.sitefile.proofs.PairLaws.{High, high-none, high-mark, pair-ok, PairOk, readPairs, pairs-done, pairs-named, pairs-rise, pairs-step}
+use Rattle.sitefile.proofs.PairReasons.{pairs-way}
 use Rattle.sitefile.proofs.pairs_of.Statement.{statement}
 use Rattle.sitefile.proofs.pairs_of.Tie as tie
 
-record Inv (body : List ℕ) (cells n : ℕ) (reach : List ℕ) (next i : ℕ) : Type 0 where
+record Inv (body : List ℕ) (cells at n : ℕ) (reach : List ℕ) (next i : ℕ) : Type 0 where
   count : n ≡ length body / 2
   within : i ≤ n
   bound : next ≤ 1024
   size : length reach ≡ 32
   high : High next reach
-  left : readPairs cells next reach (drop (2 * i) body) ≡ readPairs cells 0 (replicate 32 0) body
+  left : readPairs cells at next reach (drop (2 * i) body) ≡ readPairs cells at 0 none body
 
 abbrev Inv-loop : tie.InvT-loop
-Inv-loop body cells reach₀ next₀ n i₀ reach next i = Inv body cells n reach next i
+Inv-loop body cells at reach₀ next₀ n i₀ reach next i = Inv body cells at n reach next i
 
 abbrev μ-loop : tie.MeasureT-loop
-μ-loop body cells reach₀ next₀ n i₀ reach next i = n - i
+μ-loop body cells at reach₀ next₀ n i₀ reach next i = n - i
 
 loop-holds : tie.Need-loop-holds Inv-loop μ-loop
 loop-holds c = record { count = refl; within = omega arith; bound = omega arith; size = refl; high = high-none; left = refl }
@@ -48,13 +50,24 @@ shared-slice-read-t c = omega arith
 pair-ok-requires : tie.Need-pair-ok-requires Inv-loop μ-loop
 pair-ok-requires c κs = search needs
 
+no-rows-requires : tie.Need-no-rows-requires Inv-loop μ-loop
+no-rows-requires c κs = search needs
+
+-- the whole body, read by the loop's way
+whole : (c : tie.Start Inv-loop μ-loop) → readPairs (c .args .cells) (c .args .at) 0 none (now (c .args .body)) ≡ pairsRead (c .args .cells) (c .args .at) (now (c .args .body))
+whole c = pairs-way (c .args .cells) (c .args .at) (c .pre) (now (c .args .body))
+
 returns : tie.Need-returns Inv-loop μ-loop
 returns c =
-    let k = c .before .before .before .before in
+    let n = c .before in
+    let k = n .before .before .before .before in
     let l = k .before .loop in
-    pairs-named (k .before .before .before .args .cells) (l .next) (l .i) (l .reach) (now (k .before .before .before .args .body)) (omega arith)
-    (sym (c .before .pair-ok .ensures) ∙ not-true _ (c .if1 .taken))
+    let a = k .before .before .before in
+    c .no-rows .ensures
+    ∙ pairs-named (a .args .cells) (a .args .at) (l .next) (l .i) (l .reach) (now (a .args .body)) (omega arith)
+    (sym (n .before .pair-ok .ensures) ∙ not-true _ (n .if1 .taken))
     ∙ l .inv .left
+    ∙ whole a
 
 -- what the test of the pair says
 abbrev At : tie.Else1 Inv-loop μ-loop → tie.At-loop Inv-loop μ-loop
@@ -81,13 +94,19 @@ place-of-requires c κs = let g = good c in (g .from .0, g .to .0)
 below : (c : tie.After-place-of Inv-loop μ-loop) → c .place-of .result < 1024
 below c = let g = good (c .before) in omega (arith, c .place-of .ensures)
 
+no-rows-requires-2 : tie.Need-no-rows-requires-2 Inv-loop μ-loop
+no-rows-requires-2 c κs = search needs
+
 returns-2 : tie.Need-returns-2 Inv-loop μ-loop
 returns-2 c =
-    let e = c .before .before in
+    let e = c .before .before .before in
     let l = At e .loop in
-    pairs-rise (At e .before .before .args .cells) (l .next) (l .i) (l .reach) (Body e) (omega arith) (named e)
-    (omega (arith, c .before .place-of .ensures))
+    let a = At e .before .before in
+    c .no-rows2 .ensures
+    ∙ pairs-rise (a .args .cells) (a .args .at) (l .next) (l .i) (l .reach) (Body e) (omega arith) (named e)
+    (omega (arith, c .before .before .place-of .ensures))
     ∙ l .inv .left
+    ∙ whole a
 
 mul-raised : tie.Need-mul-raised Inv-loop μ-loop
 mul-raised c = omega arith
@@ -126,14 +145,14 @@ loop-again c =
       high = rw (c .raised .ensures) (high-mark (l .next) (p .place-of .result) (l .reach) (l .inv .size) (c .before .if2 .left) (below p) (l .inv .high));
       left =
           rw (c .raised .ensures, p .place-of .ensures)
-          (pairs-step (At e .before .before .args .cells) (l .next) (l .i) (l .reach) (Body e) (omega arith) (named e) (omega (arith, p .place-of .ensures))
+          (pairs-step (At e .before .before .args .cells) (At e .before .before .args .at) (l .next) (l .i) (l .reach) (Body e) (omega arith) (named e) (omega (arith, p .place-of .ensures))
           ∙ l .inv .left);
     }
 
 returns-3 : tie.Need-returns-3 Inv-loop μ-loop
 returns-3 c =
     let l = c .before .loop in
-    sym (pairs-done _ (l .next) (l .i) (l .reach) (now (c .before .before .before .args .body)) (omega arith)) ∙ l .inv .left
+    sym (pairs-done _ _ (l .next) (l .i) (l .reach) (now (c .before .before .before .args .body)) (omega arith)) ∙ l .inv .left ∙ whole (c .before .before .before)
 
 pub pairs-of-spec : {M : Type 1} → statement M
 pairs-of-spec =
@@ -148,8 +167,10 @@ pairs-of-spec =
     add-t
     shared-slice-read-t
     pair-ok-requires
+    no-rows-requires
     returns
     place-of-requires
+    no-rows-requires-2
     returns-2
     mul-raised
     array-read-raised

@@ -1,4 +1,5 @@
 -- `sitefile::put_site` meets its contract: the length is the sum of the parts, and the parts stored one after the other are the file. Assumes nothing.
+use borrow.Author.Needs.{needs}
 use Prim.Native.Nat.{_+_, _*_, _≤_}
 use mathlib.Core.Path.{_≡_, sym, _∙_}
 use native.Mathlib.Omega.{arith}
@@ -6,8 +7,7 @@ use lib.ListN.{length}
 use denote.Ref.{now}
 use Rattle.sitefile.specs.Write.{siteBytes}
 use Rattle.records.proofs.Write.{laid-done, laid-short}
-use Rattle.sitefile.proofs.WriteLaws.{pair-bytes-most, site-length, site-put, written-done, written-short}
-use borrow.Author.Needs.{needs}
+use Rattle.sitefile.proofs.WriteLaws.{headSize, pair-bytes-most, site-length, site-put, written-done, written-short}
 use Rattle.sitefile.proofs.put_site.Statement.{statement}
 use Rattle.sitefile.proofs.put_site.Tie as tie
 
@@ -16,6 +16,22 @@ cast-n c = search needs
 
 pairs-len-requires : tie.Need-pairs-len-requires
 pairs-len-requires c κs = search needs
+
+size : (c : tie.Start) → length (c .args .s .loads) ≡ 32
+size c = search needs
+
+few : (c : tie.After-pairs-len) → c .pairs-len .result ≤ 2048
+few c = rw (c .pairs-len .ensures) (pair-bytes-most _)
+
+need :
+    (c : tie.After-pairs-len) →
+    headSize + 4 + 2 * c .before .before .before .before .args .s .cells + 4 + c .pairs-len .result ≡ length (siteBytes (c .before .before .before .before .args .s))
+need c =
+    let a = c .before .before .before .before in
+    rw (c .pairs-len .ensures) (sym (site-length (a .args .s) (a .pre) (size a)))
+
+add-from : tie.Need-add-from
+add-from c = search needs
 
 mul-at : tie.Need-mul-at
 mul-at c = search needs
@@ -26,17 +42,6 @@ add-at c = search needs
 add-need : tie.Need-add-need
 add-need c = search needs
 
-size : (c : tie.Start) → length (c .args .s .loads) ≡ 32
-size c = search needs
-
-few : (c : tie.After-pairs-len) → c .pairs-len .result ≤ 2048
-few c = rw (c .pairs-len .ensures) (pair-bytes-most _)
-
-need : (c : tie.After-pairs-len) → 14 + 2 * c .before .before .before .before .args .s .cells + 4 + c .pairs-len .result ≡ length (siteBytes (c .before .before .before .before .args .s))
-need c =
-    let a = c .before .before .before .before in
-    rw (c .pairs-len .ensures) (sym (site-length (a .args .s) (a .pre) (size a)))
-
 add-need-2 : tie.Need-add-need-2
 add-need-2 c = omega (arith, few c)
 
@@ -44,32 +49,29 @@ returns : tie.Need-returns
 returns c =
     (written-short _ _ _ (need (c .before)) (c .if1 .taken), laid-short _ _ (omega (arith, need (c .before))))
 
-mul-put-head : tie.Need-mul-put-head
-mul-put-head c = search needs
-
-add-put-head : tie.Need-add-put-head
-add-put-head c = search needs
-
 put-head-requires : tie.Need-put-head-requires
 put-head-requires c κs = search needs
+
+mul-put-start : tie.Need-mul-put-start
+mul-put-start c = search needs
+
+add-put-start : tie.Need-add-put-start
+add-put-start c = search needs
+
+put-start-requires : tie.Need-put-start-requires
+put-start-requires c κs = search needs
 
 put-loads-requires : tie.Need-put-loads-requires
 put-loads-requires c κs = search needs
 
-add-put-word : tie.Need-add-put-word
-add-put-word c = search needs
+add-put-start-2 : tie.Need-add-put-start-2
+add-put-start-2 c = search needs
 
-cast-put-word : tie.Need-cast-put-word
-cast-put-word c = omega (arith, few (c .before .before .before .before .before .before .before .before .before .before))
+cast-put-start : tie.Need-cast-put-start
+cast-put-start c = omega (arith, few (c .before .before .before .before .before .before .before .before .before .before .before .before .before .before))
 
-put-word-requires : tie.Need-put-word-requires
-put-word-requires c κs = search needs
-
-add-put-word-2 : tie.Need-add-put-word-2
-add-put-word-2 c = search needs
-
-put-word-requires-2 : tie.Need-put-word-requires-2
-put-word-requires-2 c κs = search needs
+put-start-requires-2 : tie.Need-put-start-requires-2
+put-start-requires-2 c κs = search needs
 
 add-put-pairs : tie.Need-add-put-pairs
 add-put-pairs c = search needs
@@ -83,14 +85,14 @@ same-length c = search needs
 returns-2 : tie.Need-returns-2
 returns-2 c =
     let p = c .before .before in
-    let w = p .before .before .before .before in
-    let v = w .before .before .before .before in
-    let l = v .before .before .before .before in
-    let h = l .before .before .before .before in
+    let r = p .before .before .before .before in
+    let l = r .before .before .before .before in
+    let w = l .before .before .before .before in
+    let h = w .before .before .before .before in
     let e = h .before .before in
     let a = e .before .before .before .before .before in (
       written-done _ _ _ (need (e .before)) (e .if1 .left),
-      rw (p .put-pairs .ensures, w .put-word2 .ensures, v .put-word .ensures, l .put-loads .ensures, h .put-head .ensures, e .before .pairs-len .ensures)
+      rw (p .put-pairs .ensures, r .put-start2 .ensures, l .put-loads .ensures, w .put-start .ensures, h .put-head .ensures, e .before .pairs-len .ensures)
           (site-put (a .args .s) (a .pre) (size a) (now (a .args .out)) ∙ laid-done _ _ (omega (arith, need (e .before)))),
     )
 
@@ -100,20 +102,20 @@ put-site-spec =
     (tie.spec
     cast-n
     pairs-len-requires
+    add-from
     mul-at
     add-at
     add-need
     add-need-2
     returns
-    mul-put-head
-    add-put-head
     put-head-requires
+    mul-put-start
+    add-put-start
+    put-start-requires
     put-loads-requires
-    add-put-word
-    cast-put-word
-    put-word-requires
-    add-put-word-2
-    put-word-requires-2
+    add-put-start-2
+    cast-put-start
+    put-start-requires-2
     add-put-pairs
     put-pairs-requires
     same-length
