@@ -210,30 +210,30 @@ packed-snoc t (suc m) k =
 
 -- a turn of `put_whole`'s loop, and its end
 pub put-step :
-    (t out : List ℕ) (j m : ℕ) → j < m →
-    sets (set out (14 + j) (ones t (8 * j) 8)) (14 + (j + 1)) (packedFrom t (8 * (j + 1)) (m - (j + 1))) ≡ sets out (14 + j) (packedFrom t (8 * j) (m - j))
+    (t out : List ℕ) (at j m : ℕ) → j < m →
+    sets (set out (at + j) (ones t (8 * j) 8)) (at + (j + 1)) (packedFrom t (8 * (j + 1)) (m - (j + 1))) ≡ sets out (at + j) (packedFrom t (8 * j) (m - j))
 unfolding packedFrom
-put-step t out j m h =
+put-step t out at j m h =
     let e : m - j ≡ suc (m - (j + 1)) = omega arith in
-    let f : 14 + (j + 1) ≡ suc (14 + j) = omega arith in
+    let f : at + (j + 1) ≡ suc (at + j) = omega arith in
     let g : 8 * (j + 1) ≡ 8 * j + 8 = omega arith in
     rw (e, f, g)
 
-pub put-end : (t out : List ℕ) (j m : ℕ) → m ≤ j → sets out (14 + j) (packedFrom t (8 * j) (m - j)) ≡ out
+pub put-end : (t out : List ℕ) (at j m : ℕ) → m ≤ j → sets out (at + j) (packedFrom t (8 * j) (m - j)) ≡ out
 unfolding packedFrom
-put-end t out j m h =
+put-end t out at j m h =
     let e : m - j ≡ 0 = omega arith in
     rw e
 
 -- the whole bytes and the last one
 pub put-last :
-    (t out : List ℕ) (m : ℕ) →
-    set (sets out 14 (packedFrom t 0 m)) (14 + m) (ones t (8 * m) 8) ≡ sets out 14 (packedFrom t 0 (suc m))
-put-last t out m =
-    sym (ap (sets out 14) (packed-snoc t m 0)
-    ∙ sets-append out 14 (packedFrom t 0 m) (ones t (0 + 8 * m) 8 ∷ [])
-    ∙ ap (λ (k : ℕ). set (sets out 14 (packedFrom t 0 m)) (14 + k) (ones t (0 + 8 * m) 8)) (length-packed t m 0)
-    ∙ ap (λ (k : ℕ). set (sets out 14 (packedFrom t 0 m)) (14 + m) (ones t k 8)) (zero-add (8 * m)))
+    (t out : List ℕ) (at m : ℕ) →
+    set (sets out at (packedFrom t 0 m)) (at + m) (ones t (8 * m) 8) ≡ sets out at (packedFrom t 0 (suc m))
+put-last t out at m =
+    sym (ap (sets out at) (packed-snoc t m 0)
+    ∙ sets-append out at (packedFrom t 0 m) (ones t (0 + 8 * m) 8 ∷ [])
+    ∙ ap (λ (k : ℕ). set (sets out at (packedFrom t 0 m)) (at + k) (ones t (0 + 8 * m) 8)) (length-packed t m 0)
+    ∙ ap (λ (k : ℕ). set (sets out at (packedFrom t 0 m)) (at + m) (ones t k 8)) (zero-add (8 * m)))
 
 -- ---- left-over bits
 

@@ -4,4 +4,5 @@ pub mod ReadLaws
 pub mod WriteLaws
 pub mod Order
 pub mod Given
+pub mod PassedOn
 pub mod Trip

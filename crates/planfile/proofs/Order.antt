@@ -1,25 +1,22 @@
 -- A refused read is refused for the first reason of the document's order that applies, and a done read has none. By the laws of lists of reasons.
 -- Assumes nothing.
-use Prim.Native.Nat.{ℕ, _+_, _≤_}
+use Prim.Native.Nat.{ℕ, _≤_}
 use mathlib.Core.Path.{_≡_, refl, sym, _∙_}
-use mathlib.Core.List.{List, [], _∷_, _++_, map}
-use mathlib.Core.Bool.{not}
-use lib.Dec.{eqb}
-use Rattle.records.specs.Bytes.{le16}
-use Rattle.planfile.specs.Bits.{bytesFor}
+use mathlib.Core.List.{List, [], _∷_, map}
 use native.Mathlib.Omega.{arith}
+use Rattle.records.specs.Reasons.{Reason}
 use Rattle.records.specs.declared.ReadAnswer.{ReadAnswer}
 use Rattle.records.specs.declared.ReadAnswer.the-variants.{Done, Refused}
-use Rattle.site.specs.Record.{sizeOk}
-use Rattle.records.specs.Reasons.{Reason, reason, recordReasons}
-use Rattle.records.proofs.Reasons.{NoneApply, done-none, First, refused-first, Some, some-record, some-first}
-use Rattle.planfile.specs.Read.{planReasons, contentReasons, cellsIn, slotsIn, channelsIn, entriesIn, planReadAnswer, planReadOf, readPlan, endIn}
+use Rattle.records.proofs.Reasons.{NoneApply, done-none, First, refused-first, Some, some-first}
+use Rattle.planfile.specs.Read.{planAt, endIn, planReasons, planReadAnswer, planReadOf, readPlan}
 
 -- the order, as numbers and offsets: head, its contents, plan, its contents, then 12, then 4
 pub numbers : (s t : List ℕ) → map (λ (r : Reason). r .number) (planReasons s t) ≡ 8 ∷ 9 ∷ 10 ∷ 8 ∷ 1 ∷ 8 ∷ 9 ∷ 10 ∷ 8 ∷ 14 ∷ 12 ∷ 4 ∷ []
 numbers s t = refl
 
-pub offsets : (s t : List ℕ) → map (λ (r : Reason). r .offset) (planReasons s t) ≡ 0 ∷ 0 ∷ 0 ∷ 0 ∷ 0 ∷ 10 ∷ 10 ∷ 10 ∷ 10 ∷ 10 ∷ endIn s ∷ 0 ∷ []
+pub offsets :
+    (s t : List ℕ) →
+    map (λ (r : Reason). r .offset) (planReasons s t) ≡ 0 ∷ 0 ∷ 0 ∷ 0 ∷ 0 ∷ planAt s ∷ planAt s ∷ planAt s ∷ planAt s ∷ planAt s ∷ endIn s ∷ 0 ∷ []
 offsets s t = refl
 
 answer-at : (i a f : ℕ) (x : ReadAnswer) → planReadOf i a f x .answer ≡ x
@@ -40,14 +37,17 @@ pub plan-done : (s t : List ℕ) → readPlan s t .answer ≡ Done → NoneApply
 unfolding planReadAnswer
 plan-done s t e = done-none (planReasons s t) (sym (answer-is s t) ∙ e)
 
+-- "refused, three zeros"
+pub refused-zeros :
+    (s t : List ℕ) (n at : ℕ) → readPlan s t .answer ≡ Refused n at →
+    readPlan s t ≡ record { cells = 0; slots = 0; channels = 0; answer = Refused n at }
+unfolding readPlan planReadOf
+refused-zeros s t n at e = rw (sym (answer-is s t) ∙ e) refl
+
 -- no refusal has the number 0
 some-plan : (s t : List ℕ) → Some (planReasons s t)
 some-plan s t =
-    let content : Some (contentReasons s t) = (omega arith, (omega arith, (omega arith, tt))) in
-    let head : Reason = reason (not (sizeOk (cellsIn s) (slotsIn s) (channelsIn s))) 1 0 in
-    let plan = recordReasons s 10 4 (not (eqb (le16 s 10) (2 + bytesFor (entriesIn s)))) ++ contentReasons s t in
-    let h : Some (head ∷ plan) = (omega arith, some-record s 10 4 (not (eqb (le16 s 10) (2 + bytesFor (entriesIn s)))) (contentReasons s t) content) in
-    some-record s 0 1 (not (eqb (le16 s 0) 8)) (head ∷ plan) h
+    (omega arith, (omega arith, (omega arith, (omega arith, (omega arith, (omega arith, (omega arith, (omega arith, (omega arith, (omega arith, (omega arith, (omega arith, tt))))))))))))
 
 pub refused-some : (s t : List ℕ) (n at : ℕ) → readPlan s t .answer ≡ Refused n at → 1 ≤ n
 unfolding planReadAnswer

@@ -1,133 +1,115 @@
--- The reader's answer, by what its tests say: record by record, the opener's answer decides, or what follows the record.
--- Assumes nothing.
+-- The reader's answer, by what its tests say: the head, the plan record and what follows it, one after the other. Assumes nothing.
 use Prim.Native.Nat.{ℕ, _+_, _-_, _≤_, _<_}
-use mathlib.Core.Path.{_≡_, refl, sym, ap, _∙_}
-use mathlib.Core.List.{List, _∷_, _++_}
-use mathlib.Core.Bool.{true, false, not}
-use native.Mathlib.Nat.{add-sub-cancel-left}
+use mathlib.Core.Path.{_≡_, refl, ap, _∙_}
+use mathlib.Core.List.{List, [], _∷_, _++_}
+use mathlib.Core.Bool.{true, false}
 use native.Mathlib.Omega.{arith}
 use lib.ListN.{length, take, drop, length-drop}
 use lib.Seq.{sets, length-take-le}
-use lib.Dec.{ltb, eqb}
+use lib.Dec.{ltb}
 use borrow.Author.Tests.{lt-ltb, le-ltb}
 use Rattle.laws.proofs.Stores.{sets-front}
-use Rattle.site.specs.Record.{entries, sizeOk}
+use Rattle.site.specs.Record.{entries}
+use Rattle.site.proofs.Faults.{few-bytes}
 use Rattle.records.specs.Bytes.{le16}
 use Rattle.records.specs.Opener.{openAt}
+use Rattle.records.specs.Reasons.{Reason, reason, firstReason, recordReasons, endReason}
+use Rattle.records.specs.Head.{headSize, cellsIn, slotsIn, channelsIn, entriesIn, headReasons, headAnswer}
 use Rattle.records.specs.declared.Length.the-variants.{Exact}
 use Rattle.records.specs.declared.Opened.the-variants.{Body, Refused as NotOpened}
+use Rattle.records.specs.declared.ReadAnswer.{ReadAnswer}
 use Rattle.records.specs.declared.ReadAnswer.the-variants.{Done, Refused}
-use Rattle.records.proofs.Laws.{opened, within, exact}
+use Rattle.records.proofs.Laws as records
+use Rattle.records.proofs.Reasons.{andThen, first-append}
+use Rattle.records.proofs.Head.{head-read, head-sizes}
 use Rattle.planfile.specs.Bits.{bytesFor, bitsFrom, leftOver}
-use Rattle.records.specs.Reasons.{Reason, reason, firstReason, recordReasons}
-use Rattle.records.proofs.Reasons.{afterOpen, open-reasons, wrong-exact}
-use Rattle.site.proofs.Faults.{sizes, few-bytes}
-use Rattle.planfile.specs.Read.{contentReasons, planReadAnswer, entriesIn, endIn, bodyIn, cellsIn, slotsIn, channelsIn, refusedPlan, planReadOf, readPlan, planTableRead, HeadRead}
+use Rattle.planfile.specs.Read.{planAt, bodyIn, endIn, planReadAnswer, refusedPlan, planReadOf, readPlan, planTableRead, HeadRead}
 use Rattle.planfile.proofs.Bits.{length-bits}
 
--- the reasons past the head's record
-abbrev afterHead : List ℕ → List ℕ → List Reason
-afterHead s t =
-    reason (not (sizeOk (cellsIn s) (slotsIn s) (channelsIn s))) 1 0
-    ∷ (recordReasons s 10 4 (not (eqb (le16 s 10) (2 + bytesFor (entriesIn s)))) ++ contentReasons s t)
+-- the plan record's own reasons, and those past it: "plan 14. Then 12, then 4."
+abbrev pub openReasons : List ℕ → List Reason
+openReasons s = recordReasons s (planAt s) 4 (Exact (2 + bytesFor (entriesIn s)))
+
+abbrev pub contentReasons : List ℕ → List ℕ → List Reason
+contentReasons s t =
+    reason (leftOver (bodyIn s) (entriesIn s)) 14 (planAt s)
+    ∷ endReason s (endIn s)
+    ∷ reason (ltb (length t) (entriesIn s)) 4 0
+    ∷ []
 
 module _ (s t : List ℕ) where
+  pub plan-parts : planReadAnswer s t ≡ andThen (headAnswer s) (andThen (firstReason (openReasons s)) (firstReason (contentReasons s t)))
+  unfolding planReadAnswer headAnswer
+  plan-parts =
+      first-append (headReasons s) (openReasons s ++ contentReasons s t)
+      ∙ ap (andThen (firstReason (headReasons s))) (first-append (openReasons s) (contentReasons s t))
+
   -- what a refusal gives back and leaves
-  pub refuse : (n at : ℕ) → planReadAnswer s t ≡ Refused n at → (refusedPlan n at ≡ readPlan s t) × (t ≡ planTableRead s t)
+  pub refuse : (n at : ℕ) → planReadAnswer s t ≡ Refused n at → (refusedPlan (Refused n at) ≡ readPlan s t) × (t ≡ planTableRead s t)
   unfolding readPlan planReadOf planTableRead
   refuse n at e = (rw e refl, rw e refl)
 
-  -- the head's record, and what follows it
-  head-first : afterOpen (openAt s 0 1 (Exact 8)) (firstReason (afterHead s t)) ≡ planReadAnswer s t
-  unfolding planReadAnswer
-  head-first = open-reasons s 0 1 (Exact 8) _ (afterHead s t) (wrong-exact 8 (le16 s 0) (omega arith))
+  pub head-stop : (n at : ℕ) → headAnswer s ≡ Refused n at → planReadAnswer s t ≡ Refused n at
+  head-stop n at e = plan-parts ∙ ap (λ (a : ReadAnswer). andThen a (andThen (firstReason (openReasons s)) (firstReason (contentReasons s t)))) e
 
-  pub head-stop : (n at : ℕ) → openAt s 0 1 (Exact 8) ≡ NotOpened n at → planReadAnswer s t ≡ Refused n at
-  unfolding afterOpen
-  head-stop n at e = sym head-first ∙ rw e refl
-
-  pub head-read : (start len : ℕ) → openAt s 0 1 (Exact 8) ≡ Body start len → openAt s 0 1 (Exact 8) ≡ Body 4 6
-  head-read start len e =
-      let o = opened s 0 1 (Exact 8) start len e in
-      let six : len ≡ 6 = omega (arith, o .size, exact 8 (le16 s 0) (o .fits)) in
-      e ∙ (λ j. Body (o .starts j) (six j))
-
-  past-head : openAt s 0 1 (Exact 8) ≡ Body 4 6 → planReadAnswer s t ≡ firstReason (afterHead s t)
-  unfolding afterOpen
-  past-head e = sym head-first ∙ rw e refl
-
-  pub size-stop : openAt s 0 1 (Exact 8) ≡ Body 4 6 → sizeOk (cellsIn s) (slotsIn s) (channelsIn s) ≡ false → planReadAnswer s t ≡ Refused 1 0
-  unfolding firstReason
-  size-stop h e = past-head h ∙ rw e refl
+  past-head : headAnswer s ≡ Done → planReadAnswer s t ≡ andThen (firstReason (openReasons s)) (firstReason (contentReasons s t))
+  past-head e = plan-parts ∙ ap (λ (a : ReadAnswer). andThen a (andThen (firstReason (openReasons s)) (firstReason (contentReasons s t)))) e
 
   module _ (i a f : ℕ) (head : HeadRead s i a f) where
     pub entries-are : entries i a f ≡ entriesIn s
     entries-are = rw (head .cells-are, head .slots-are, head .channels-are)
 
-    sized : sizeOk (cellsIn s) (slotsIn s) (channelsIn s) ≡ true
-    sized = rw (head .cells-are, head .slots-are, head .channels-are) at (head .in-range)
-
     pub few : entriesIn s ≤ 65536
-    few = few-bytes (sizes (cellsIn s) (slotsIn s) (channelsIn s) sized)
+    few = few-bytes (head-sizes s (head .read))
 
-    -- past the head the plan record decides, and what follows it
-    body-first : afterOpen (openAt s 10 4 (Exact (2 + bytesFor (entriesIn s)))) (firstReason (contentReasons s t)) ≡ planReadAnswer s t
-    unfolding firstReason
-    body-first =
-        open-reasons s 10 4 (Exact (2 + bytesFor (entriesIn s))) _ (contentReasons s t) (wrong-exact (2 + bytesFor (entriesIn s)) (le16 s 10) (omega arith))
-        ∙ sym (past-head (head .read) ∙ rw sized refl)
+    pub due : headSize ≡ planAt s
+    due = omega (arith, head-read s (head .read) .eight)
 
-    pub body-stop : (n at : ℕ) → openAt s 10 4 (Exact (2 + bytesFor (entriesIn s))) ≡ NotOpened n at → planReadAnswer s t ≡ Refused n at
-    unfolding afterOpen
-    body-stop n at e = sym body-first ∙ rw e refl
+    pub body-stop : (n at : ℕ) → openAt s (planAt s) 4 (Exact (2 + bytesFor (entriesIn s))) ≡ NotOpened n at → planReadAnswer s t ≡ Refused n at
+    body-stop n at e =
+        past-head (head .read) ∙ ap (λ (x : ReadAnswer). andThen x (firstReason (contentReasons s t))) (records.not-opened s (planAt s) 4 _ n at e)
 
-    module _ (start len : ℕ) (found : openAt s 10 4 (Exact (2 + bytesFor (entriesIn s))) ≡ Body start len) where
+    module _ (start len : ℕ) (found : openAt s (planAt s) 4 (Exact (2 + bytesFor (entriesIn s))) ≡ Body start len) where
+      opening : records.Opening s (planAt s) 4 (Exact (2 + bytesFor (entriesIn s))) start len
+      opening = records.opened s (planAt s) 4 _ start len found
+
       -- where the body stands
-      pub starts : start ≡ 14
-      starts = opened s 10 4 (Exact (2 + bytesFor (entriesIn s))) start len found .starts
+      pub within : start + len ≤ length s
+      within = records.within s (planAt s) 4 _ start len opening
 
-      pub long : len ≡ bytesFor (entriesIn s)
-      long =
-          let o = opened s 10 4 (Exact (2 + bytesFor (entriesIn s))) start len found in
-          omega (arith, o .size, exact (2 + bytesFor (entriesIn s)) (le16 s 10) (o .fits))
-
-      pub ends : start + len ≤ length s
-      ends = within s 10 4 (Exact (2 + bytesFor (entriesIn s))) start len (opened s 10 4 (Exact (2 + bytesFor (entriesIn s))) start len found)
+      pub ends : start + len ≡ endIn s
+      ends = records.ends s (planAt s) 4 _ start len opening
 
       pub body-is : take (start + len - start) (drop start s) ≡ bodyIn s
-      body-is = rw (add-sub-cancel-left start len, starts, long)
+      body-is = records.body-is s (planAt s) 4 _ start len opening
 
-      pub body-long : length (take (start + len - start) (drop start s)) ≡ bytesFor (entriesIn s)
+      pub body-long : length (bodyIn s) ≡ bytesFor (entriesIn s)
       body-long =
-          rw (add-sub-cancel-left start len)
-          (length-take-le len (drop start s) (rw (length-drop start s) (omega (arith, ends))) ∙ long)
+          let w = records.exact (2 + bytesFor (entriesIn s)) (le16 s (planAt s)) (opening .fits) in
+          length-take-le (le16 s (planAt s) - 2) (drop (planAt s + 4) s) (rw (length-drop (planAt s + 4) s) (omega (arith, within, opening .starts, opening .size)))
+          ∙ omega arith
 
       tail-first : planReadAnswer s t ≡ firstReason (contentReasons s t)
-      unfolding afterOpen
-      tail-first = sym body-first ∙ rw found refl
+      tail-first =
+          past-head (head .read) ∙ ap (λ (x : ReadAnswer). andThen x (firstReason (contentReasons s t))) (records.opened-done s (planAt s) 4 _ start len found)
 
-      pub left-stop : leftOver (bodyIn s) (entriesIn s) ≡ true → planReadAnswer s t ≡ Refused 14 10
+      pub left-stop : leftOver (bodyIn s) (entriesIn s) ≡ true → planReadAnswer s t ≡ Refused 14 (planAt s)
       unfolding firstReason
       left-stop e = tail-first ∙ rw e refl
 
       module _ (none : leftOver (bodyIn s) (entriesIn s) ≡ false) where
-        pub more-stop : start + len < length s → planReadAnswer s t ≡ Refused 12 (start + len)
+        pub more-stop : endIn s < length s → planReadAnswer s t ≡ Refused 12 (endIn s)
         unfolding firstReason
-        more-stop h =
-            let e : start + len ≡ endIn s = omega (arith, starts, long) in
-            rw e (tail-first ∙ rw (none, lt-ltb (endIn s) (length s) (omega arith)) refl)
+        more-stop h = tail-first ∙ rw (none, lt-ltb (endIn s) (length s) h) refl
 
-        module _ (whole : length s ≤ start + len) where
-          no-more : ltb (endIn s) (length s) ≡ false
-          no-more = le-ltb (endIn s) (length s) (omega (arith, starts, long))
-
+        module _ (whole : length s ≤ endIn s) where
           pub short-stop : length t < entriesIn s → planReadAnswer s t ≡ Refused 4 0
           unfolding firstReason
-          short-stop h = tail-first ∙ rw (none, no-more, lt-ltb (length t) (entriesIn s) h) refl
+          short-stop h = tail-first ∙ rw (none, le-ltb (endIn s) (length s) whole, lt-ltb (length t) (entriesIn s) h) refl
 
           pub read-done : entriesIn s ≤ length t → planReadAnswer s t ≡ Done
           unfolding firstReason
-          read-done h = tail-first ∙ rw (none, no-more, le-ltb (length t) (entriesIn s) h) refl
+          read-done h = tail-first ∙ rw (none, le-ltb (endIn s) (length s) whole, le-ltb (length t) (entriesIn s) h) refl
 
 -- what a done read gives back and leaves
 pub accept :

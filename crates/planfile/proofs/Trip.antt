@@ -2,15 +2,15 @@
 -- The bits go one by one: index k of the table is bit k % 8 of byte k / 8 and back, and left-over bits are 0 on both ways. Assumes nothing.
 use Prim.Native.Nat.{ℕ, _+_, _-_, _*_, _/_, _%_, _^_, _≤_, _<_}
 use mathlib.Core.Path.{_≡_, refl, sym, ap, _∙_}
-use mathlib.Core.List.{List, _++_, map}
-use mathlib.Core.Bool.{Bool, true, false, not}
+use mathlib.Core.List.{List, [], _∷_, _++_, map, append-nil}
+use mathlib.Core.Bool.{Bool, true, false}
 use mathlib.Core.Logic.{⊎-elim}
 use native.Mathlib.Nat.{zero-add}
 use native.Mathlib.Omega.{arith}
-use lib.ListN.{length, getD, take, drop, length-append, length-drop, length-map, take-append-drop, List·getD-eq-default, List·getD-map}
-use lib.Seq.{length-take-le, take-all, take-at, ext-getD}
+use lib.ListN.{length, getD, take, drop, length-append, length-drop, length-map, drop-of-length-le, List·getD-eq-default, List·getD-map}
+use lib.Seq.{length-take-le, take-at, ext-getD}
 use lib.Dec.{ltb, eqb}
-use borrow.Author.Tests.{le-ltb, eq-eqb, ltb-true, ltb-false, not-false, eqb-true}
+use borrow.Author.Tests.{le-ltb, ltb-true, ltb-false}
 use Rattle.laws.specs.Choice.{pick}
 use Rattle.laws.proofs.Choice.{cases}
 use Rattle.laws.proofs.Any.{any-none, none-any}
@@ -20,16 +20,25 @@ use Rattle.site.specs.declared.Site.{Site}
 use Rattle.site.specs.declared.Fault.the-variants.{Fine, Size}
 use Rattle.site.proofs.Faults.{fine-is, took-first}
 use Rattle.records.specs.Bytes.{Bytes, le16, words}
+use Rattle.records.specs.Layout.{recordOf}
+use Rattle.records.specs.Reasons.{firstReason}
+use Rattle.records.specs.Head.{headRecord, cellsIn, slotsIn, channelsIn, entriesIn, headAnswer}
+use Rattle.records.specs.declared.Length.the-variants.{Exact}
+use Rattle.records.specs.declared.ReadAnswer.{ReadAnswer}
 use Rattle.records.specs.declared.ReadAnswer.the-variants.{Done}
-use Rattle.records.proofs.Bytes.{bytes-drop, wordsAt, words-at}
-use Rattle.records.proofs.Reasons.{NoneApply, none-done}
+use Rattle.records.proofs.Bytes.{bytes-drop, bytes-take}
+use Rattle.records.proofs.Laws.{Opening, record-open, exact, exact-true}
+use Rattle.records.proofs.Reasons.{andThen, both-done, done-none}
+use Rattle.records.proofs.Head.{HeadGood, head-read, head-done}
+use Rattle.records.proofs.RecordTrip.{record-body, rest-back, record-back, body-length, record-again, head-again}
 use Rattle.planfile.specs.Bits.{bytesFor, one, bitOf, bitsFrom, leftOver, ones, packed, packedFrom}
-use Rattle.planfile.specs.Read.{planReasons, planReadAnswer, cellsIn, slotsIn, channelsIn, entriesIn, bodyIn, endIn, planReadOf, readPlan, planTableRead}
-use Rattle.planfile.specs.Write.{planHead, planBytes, planFile, planWritten, planOut}
+use Rattle.planfile.specs.Read.{planAt, bodyIn, endIn, planReadAnswer, planReadOf, readPlan, planTableRead}
+use Rattle.planfile.specs.Write.{planBytes, planFile, planWritten, planOut}
 use Rattle.planfile.specs.declared.PlanWritten.the-variants.{Done as Written, TableShort, OutShort, Refused as Faulty}
 use Rattle.planfile.proofs.Bits.{one-bit, ones-bit, bits-ones, bits-at, bit-in, length-bits, length-packed, packed-at}
-use Rattle.planfile.proofs.Order.{plan-done, answer-is}
-use Rattle.planfile.proofs.WriteLaws.{file-length, out-done}
+use Rattle.planfile.proofs.Order.{answer-is}
+use Rattle.planfile.proofs.ReadLaws.{openReasons, contentReasons, plan-parts}
+use Rattle.planfile.proofs.WriteLaws.{out-done}
 
 -- ---- bits
 
@@ -113,101 +122,69 @@ module _ (s : List ℕ) (n : ℕ) (size : length s ≡ bytesFor n) (bytes : Byte
 -- ---- written, then read
 
 module _ (i a f : ℕ) (t : List ℕ) where
-  cells-back : cellsIn (planBytes i a f t) ≡ i
+  abbrev B : List ℕ
+  B = planBytes i a f t
+
+  abbrev P : List ℕ
+  P = packed t (entries i a f)
+
+  p-length : length P ≡ bytesFor (entries i a f)
+  p-length = length-packed (take (entries i a f) t) (bytesFor (entries i a f)) 0
+
+  -- where each record stands
+  head-here : drop 0 B ≡ headRecord i a f ++ recordOf 4 P
+  unfolding planBytes
+  head-here = refl
+
+  plan-here : drop (planAt B) B ≡ recordOf 4 P ++ []
+  plan-here = rest-back B 0 1 (words (i ∷ a ∷ f ∷ [])) (recordOf 4 P) head-here ∙ sym (append-nil (recordOf 4 P))
+
+  no-more : length B - endIn B ≡ 0
+  no-more = sym (length-drop (endIn B) B) ∙ ap length (rest-back B (planAt B) 4 P [] plan-here)
+
+  cells-back : cellsIn B ≡ i
   unfolding planBytes
   cells-back = omega arith
 
-  slots-back : slotsIn (planBytes i a f t) ≡ a
+  slots-back : slotsIn B ≡ a
   unfolding planBytes
   slots-back = omega arith
 
-  channels-back : channelsIn (planBytes i a f t) ≡ f
+  channels-back : channelsIn B ≡ f
   unfolding planBytes
   channels-back = omega arith
 
-  entries-back : entriesIn (planBytes i a f t) ≡ entries i a f
+  entries-back : entriesIn B ≡ entries i a f
   entries-back = λ j. entries (cells-back j) (slots-back j) (channels-back j)
 
-  plan-length-back : le16 (planBytes i a f t) 10 ≡ 2 + bytesFor (entries i a f)
-  unfolding planBytes
-  plan-length-back = omega arith
-
-  plan-length-in : le16 (planBytes i a f t) 10 ≡ 2 + bytesFor (entriesIn (planBytes i a f t))
-  plan-length-in = plan-length-back ∙ ap (λ (n : ℕ). 2 + bytesFor n) (sym entries-back)
-
-  head-length-back : le16 (planBytes i a f t) 0 ≡ 8
-  unfolding planBytes
-  head-length-back = refl
-
-  past-head : take (bytesFor (entries i a f)) (drop 14 (planBytes i a f t)) ≡ packed t (entries i a f)
-  unfolding planBytes
-  past-head =
-      take-all (bytesFor (entries i a f)) (packed t (entries i a f))
-      (omega (arith, length-packed (take (entries i a f) t) (bytesFor (entries i a f)) 0))
-
-  body-back : bodyIn (planBytes i a f t) ≡ packed t (entries i a f)
-  body-back = ap (λ (n : ℕ). take (bytesFor n) (drop 14 (planBytes i a f t))) entries-back ∙ past-head
-
-  kinds-back :
-      (not (eqb (le16 (planBytes i a f t) 2) 1) ≡ false) × (not (eqb (le16 (planBytes i a f t) 0) 8) ≡ false) × (not (eqb (le16 (planBytes i a f t) 12) 4) ≡ false)
-  unfolding planBytes
-  kinds-back = (refl, refl, refl)
+  body-back : bodyIn B ≡ P
+  body-back = record-body B (planAt B) 4 P [] plan-here
 
   module _ (ok : sizeOk i a f ≡ true) (enough : entries i a f ≤ length t) where
-    long-back : length (planBytes i a f t) ≡ 14 + bytesFor (entriesIn (planBytes i a f t))
-    long-back = file-length i a f t ∙ ap (λ (n : ℕ). 14 + bytesFor n) (sym entries-back)
+    left-back : leftOver (bodyIn B) (entriesIn B) ≡ false
+    left-back = (λ j. leftOver (body-back j) (entries-back j)) ∙ packed-left (take (entries i a f) t) (entries i a f) (length-take-le (entries i a f) t enough)
 
-    left-back : leftOver (bodyIn (planBytes i a f t)) (entriesIn (planBytes i a f t)) ≡ false
-    left-back =
-        (λ j. leftOver (body-back j) (entries-back j))
-        ∙ packed-left (take (entries i a f) t) (entries i a f) (length-take-le (entries i a f) t enough)
+    head-good : headAnswer B ≡ Done
+    head-good =
+        head-done B (record-back B 0 1 (words (i ∷ a ∷ f ∷ [])) (recordOf 4 P) head-here (Exact 8) (exact-true 8 (omega arith)))
+        ((λ j. sizeOk (cells-back j) (slots-back j) (channels-back j)) ∙ ok)
 
-    -- no record ends past the file
-    past : (k : ℕ) → k ≤ 14 + bytesFor (entriesIn (planBytes i a f t)) → ltb (length (planBytes i a f t)) k ≡ false
-    past k h = le-ltb (length (planBytes i a f t)) k (rw long-back h)
+    plan-good : firstReason (openReasons B) ≡ Done
+    plan-good =
+        let n : 2 + length P ≡ 2 + bytesFor (entriesIn B) = ap (λ (k : ℕ). 2 + k) p-length ∙ ap (λ (k : ℕ). 2 + bytesFor k) (sym entries-back) in
+        record-back B (planAt B) 4 P [] plan-here (Exact (2 + bytesFor (entriesIn B))) (rw n (exact-true (2 + bytesFor (entriesIn B)) (omega arith)))
 
-    no-reason : (u : List ℕ) → entries i a f ≤ length u → NoneApply (planReasons (planBytes i a f t) u)
-    no-reason u h = (
-      past 4 (omega arith),
-      (
-        kinds-back .0,
-        (
-          kinds-back .1,
-          (
-            past (0 + 2 + le16 (planBytes i a f t) 0) (omega (arith, head-length-back)),
-            (
-              ap not ((λ j. sizeOk (cells-back j) (slots-back j) (channels-back j)) ∙ ok),
-              (
-                past 14 (omega arith),
-                (
-                  kinds-back .2,
-                  (
-                    ap not (eq-eqb (le16 (planBytes i a f t) 10) (2 + bytesFor (entriesIn (planBytes i a f t))) plan-length-in),
-                    (
-                      past (10 + 2 + le16 (planBytes i a f t) 10) (omega (arith, plan-length-in)),
-                      (
-                        left-back,
-                        (
-                          le-ltb (endIn (planBytes i a f t)) (length (planBytes i a f t)) (omega (arith, long-back)),
-                          (
-                            le-ltb (length u) (entriesIn (planBytes i a f t)) (rw entries-back h),
-                            tt,
-                          ),
-                        ),
-                      ),
-                    ),
-                  ),
-                ),
-              ),
-            ),
-          ),
-        ),
-      ),
-    )
+    content-good : (u : List ℕ) → entries i a f ≤ length u → firstReason (contentReasons B u) ≡ Done
+    unfolding firstReason
+    content-good u h =
+        rw (left-back, le-ltb (endIn B) (length B) (omega (arith, no-more)), le-ltb (length u) (entriesIn B) (rw entries-back h)) refl
 
-    done-back : (u : List ℕ) → entries i a f ≤ length u → planReadAnswer (planBytes i a f t) u ≡ Done
-    unfolding planReadAnswer
-    done-back u h = none-done (planReasons (planBytes i a f t) u) (no-reason u h)
+    done-back : (u : List ℕ) → entries i a f ≤ length u → planReadAnswer B u ≡ Done
+    done-back u h =
+        plan-parts B u
+        ∙ ap (λ (x : ReadAnswer). andThen x (andThen (firstReason (openReasons B)) (firstReason (contentReasons B u)))) head-good
+        ∙ ap (λ (x : ReadAnswer). andThen x (firstReason (contentReasons B u))) plan-good
+        ∙ content-good u h
 
     -- the file of a table gives back I, T and F, and 1 for each byte that was 1, 0 for each other
     pub written-read :
@@ -226,30 +203,23 @@ module _ (i a f : ℕ) (t : List ℕ) where
 
 -- what an accepted file is
 pub record Accepted (s t : List ℕ) : Type 0 where
-  pub head-length : le16 s 0 ≡ 8
-  pub head-kind : le16 s 2 ≡ 1
-  pub in-range : sizeOk (cellsIn s) (slotsIn s) (channelsIn s) ≡ true
-  pub plan-length : le16 s 10 ≡ 2 + bytesFor (entriesIn s)
-  pub plan-kind : le16 s 12 ≡ 4
+  pub head : HeadGood s
+  pub plan : Opening s (planAt s) 4 (Exact (2 + bytesFor (entriesIn s))) (planAt s + 4) (le16 s (planAt s) - 2)
   pub no-left-over : leftOver (bodyIn s) (entriesIn s) ≡ false
-  pub size : length s ≡ 14 + bytesFor (entriesIn s)
+  pub whole : length s ≤ endIn s
   pub room : entriesIn s ≤ length t
 
 pub accepted : (s t : List ℕ) → readPlan s t .answer ≡ Done → Accepted s t
 accepted s t e =
-    let n = plan-done s t e in
-    let reaches : 10 + 2 + le16 s 10 ≤ length s = ltb-false _ _ (n .1 .1 .1 .1 .1 .1 .1 .1 .0) in
-    let long : le16 s 10 ≡ 2 + bytesFor (entriesIn s) = eqb-true _ _ (not-false _ (n .1 .1 .1 .1 .1 .1 .1 .0)) in
-    let no-more : length s ≤ endIn s = ltb-false _ _ (n .1 .1 .1 .1 .1 .1 .1 .1 .1 .1 .0) in
+    let h = both-done _ _ (sym (plan-parts s t) ∙ sym (answer-is s t) ∙ e) in
+    let p = both-done _ _ (h .1) in
+    let n = done-none (contentReasons s t) (p .1) in
     record {
-      head-length = eqb-true _ _ (not-false _ (n .1 .1 .0));
-      head-kind = eqb-true _ _ (not-false _ (n .1 .0));
-      in-range = not-false _ (n .1 .1 .1 .1 .0);
-      plan-length = long;
-      plan-kind = eqb-true _ _ (not-false _ (n .1 .1 .1 .1 .1 .1 .0));
-      no-left-over = n .1 .1 .1 .1 .1 .1 .1 .1 .1 .0;
-      size = omega arith;
-      room = ltb-false _ _ (n .1 .1 .1 .1 .1 .1 .1 .1 .1 .1 .1 .0);
+      head = head-read s (h .0);
+      plan = record-open s (planAt s) 4 (Exact (2 + bytesFor (entriesIn s))) (p .0);
+      no-left-over = n .0;
+      whole = ltb-false (endIn s) (length s) (n .1 .0);
+      room = ltb-false (length t) (entriesIn s) (n .1 .1 .0);
     }
 
 module _ (s t : List ℕ) (done : readPlan s t .answer ≡ Done) (bytes : Bytes s) where
@@ -264,33 +234,31 @@ module _ (s t : List ℕ) (done : readPlan s t .answer ≡ Done) (bytes : Bytes 
   pub table-long : entriesIn s ≤ length (planTableRead s t)
   table-long = rw (table-is, length-append) (omega (arith, length-bits (bodyIn s) (entriesIn s) 0))
 
-  body-rest : drop 14 s ≡ bodyIn s
-  body-rest = sym (take-all (bytesFor (entriesIn s)) (drop 14 s) (rw (length-drop 14 s) (omega (arith, ok .size))))
-
   body-bytes : Bytes (bodyIn s)
-  body-bytes = rw (← body-rest) (bytes-drop 14 s bytes)
+  body-bytes = bytes-take (le16 s (planAt s) - 2) (drop (planAt s + 4) s) (bytes-drop (planAt s + 4) s bytes)
 
   body-long : length (bodyIn s) ≡ bytesFor (entriesIn s)
-  body-long = ap length (sym body-rest) ∙ length-drop 14 s ∙ omega (arith, ok .size)
+  body-long =
+      body-length s bytes (planAt s) 4 (Exact (2 + bytesFor (entriesIn s))) _ _ (ok .plan)
+      ∙ omega (arith, exact (2 + bytesFor (entriesIn s)) (le16 s (planAt s)) (ok .plan .fits))
 
-  packed-again : packed (planTableRead s t) (entriesIn s) ≡ drop 14 s
+  packed-again : packed (planTableRead s t) (entriesIn s) ≡ bodyIn s
   packed-again =
       ap (λ (l : List ℕ). packedFrom (take (entriesIn s) l) 0 (bytesFor (entriesIn s))) table-is
       ∙ ap (λ (l : List ℕ). packedFrom l 0 (bytesFor (entriesIn s)))
       (take-at (bitsFrom (bodyIn s) 0 (entriesIn s)) (drop (entriesIn s) t) (entriesIn s) (length-bits (bodyIn s) (entriesIn s) 0))
       ∙ bits-packed (bodyIn s) (entriesIn s) body-long body-bytes (ok .no-left-over)
-      ∙ sym body-rest
-
-  head-again : words (planHead (cellsIn s) (slotsIn s) (channelsIn s)) ≡ take 14 s
-  unfolding wordsAt
-  head-again =
-      let e : planHead (cellsIn s) (slotsIn s) (channelsIn s) ≡ wordsAt s 0 7 = cc (ok .head-length, ok .head-kind, ok .plan-length, ok .plan-kind) in
-      ap words e ∙ words-at s bytes 7 0 (omega (arith, ok .size))
 
   -- an accepted file, read and written again, is the same bytes
   pub read-written : planBytes (cellsIn s) (slotsIn s) (channelsIn s) (planTableRead s t) ≡ s
   unfolding planBytes
-  read-written = (λ j. head-again j ++ packed-again j) ∙ take-append-drop 14 s
+  read-written =
+      let last : recordOf 4 (packed (planTableRead s t) (entriesIn s)) ≡ drop (planAt s) s =
+      ap (recordOf 4) packed-again
+      ∙ sym (append-nil (recordOf 4 (bodyIn s)))
+      ∙ ap (λ (l : List ℕ). recordOf 4 (bodyIn s) ++ l) (sym (drop-of-length-le s {i = endIn s} (ok .whole)))
+      ∙ record-again s bytes (planAt s) 4 (Exact (2 + bytesFor (entriesIn s))) _ _ (ok .plan) in
+      ap (λ (l : List ℕ). headRecord (cellsIn s) (slotsIn s) (channelsIn s) ++ l) last ∙ head-again s bytes (ok .head)
 
 -- ---- the calls
 

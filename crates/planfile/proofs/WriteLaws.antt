@@ -2,8 +2,9 @@
 -- Assumes nothing.
 use Prim.Native.Nat.{ℕ, _+_, _≤_, _<_}
 use mathlib.Core.Path.{_≡_, refl, sym, ap, _∙_}
-use mathlib.Core.List.{List, _++_}
+use mathlib.Core.List.{List, [], _∷_, _++_}
 use mathlib.Core.Bool.{false}
+use native.Mathlib.Omega.{arith}
 use lib.ListN.{length, take, drop, length-append}
 use lib.Seq.{sets}
 use lib.Dec.{ltb}
@@ -13,18 +14,18 @@ use Rattle.site.specs.Record.{entries, size, isFine, faultOf}
 use Rattle.site.specs.declared.Site.{Site}
 use Rattle.site.specs.declared.Fault.the-variants.{Fine}
 use Rattle.records.specs.Bytes.{words}
+use Rattle.records.specs.Layout.{recordOf}
+use Rattle.records.specs.Head.{headRecord, headSize}
 use Rattle.records.specs.Write.{laidOver}
-use Rattle.records.proofs.Write.{laid-short}
+use Rattle.records.proofs.Write.{laid-short, record-put}
 use Rattle.planfile.specs.Bits.{bytesFor, packed}
-use Rattle.planfile.specs.Write.{planHead, planBytes, planFile, planWritten, planOut}
+use Rattle.planfile.specs.Write.{planBytes, planFile, planWritten, planOut}
 use Rattle.planfile.specs.declared.PlanWritten.the-variants.{Done, TableShort, OutShort, Refused}
 use Rattle.planfile.proofs.Bits.{length-packed}
 
-pub file-length : (i a f : ℕ) (t : List ℕ) → length (planBytes i a f t) ≡ 14 + bytesFor (entries i a f)
+pub file-length : (i a f : ℕ) (t : List ℕ) → length (planBytes i a f t) ≡ headSize + 4 + bytesFor (entries i a f)
 unfolding planBytes
-file-length i a f t =
-    length-append (words (planHead i a f)) (packed t (entries i a f))
-    ∙ ap (λ (k : ℕ). 14 + k) (length-packed (take (entries i a f) t) (bytesFor (entries i a f)) 0)
+file-length i a f t = simp length-append (omega (arith, length-packed (take (entries i a f) t) (bytesFor (entries i a f)) 0))
 
 module _ (s : Site) (t out : List ℕ) where
   pub faulty : isFine (faultOf s) ≡ false → (Refused (faultOf s) ≡ planWritten s t out) × (out ≡ planOut s t out)
@@ -43,7 +44,7 @@ module _ (s : Site) (t out : List ℕ) where
       test = le-ltb (length t) (size s) enough
 
       pub out-short :
-          (need : ℕ) → need ≡ 14 + bytesFor (size s) → length out < need →
+          (need : ℕ) → need ≡ headSize + 4 + bytesFor (size s) → length out < need →
           (OutShort need ≡ planWritten s t out) × (out ≡ planOut s t out)
       unfolding planWritten planOut
       out-short need q h =
@@ -56,9 +57,10 @@ module _ (s : Site) (t out : List ℕ) where
       out-done h = rw (fine, test, le-leb (length (planFile s t)) (length out) h) refl
 
       pub all-done :
-          (need : ℕ) → need ≡ 14 + bytesFor (size s) → need ≤ length out →
+          (need : ℕ) → need ≡ headSize + 4 + bytesFor (size s) → need ≤ length out →
           (Done need ≡ planWritten s t out)
-          × (sets (sets out 0 (words (planHead (s .cells) (s .slots) (s .channels)))) 14 (packed t (size s)) ≡ planOut s t out)
+          × (sets (sets (sets out 0 (headRecord (s .cells) (s .slots) (s .channels))) headSize (words ((2 + bytesFor (size s)) ∷ 4 ∷ []))) (headSize + 4) (packed t (size s))
+          ≡ planOut s t out)
       unfolding planWritten
       all-done need q h =
           let l : length (planFile s t) ≡ need = file-length (s .cells) (s .slots) (s .channels) t ∙ sym q in
@@ -68,5 +70,10 @@ module _ (s : Site) (t out : List ℕ) where
           )
         where
           parts :
-              sets (sets out 0 (words (planHead (s .cells) (s .slots) (s .channels)))) 14 (packed t (size s)) ≡ sets out 0 (planFile s t)
-          parts = unfold planBytes in sym (sets-append out 0 (words (planHead (s .cells) (s .slots) (s .channels))) (packed t (size s)))
+              sets (sets (sets out 0 (headRecord (s .cells) (s .slots) (s .channels))) headSize (words ((2 + bytesFor (size s)) ∷ 4 ∷ []))) (headSize + 4) (packed t (size s))
+              ≡ sets out 0 (planFile s t)
+          parts =
+              unfold planBytes in
+              let head = headRecord (s .cells) (s .slots) (s .channels) in
+              let n : 2 + bytesFor (size s) ≡ 2 + length (packed t (size s)) = ap (λ (k : ℕ). 2 + k) (sym (length-packed (take (size s) t) (bytesFor (size s)) 0)) in
+              record-put (sets out 0 head) headSize 4 (2 + bytesFor (size s)) (packed t (size s)) n ∙ sym (sets-append out 0 head (recordOf 4 (packed t (size s))))

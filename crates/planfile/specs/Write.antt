@@ -1,24 +1,21 @@
 -- The plan file as it is written: its bytes, what the writer answers, and what it leaves in the output.
-use Prim.Native.Nat.{ℕ, _+_}
+use Prim.Native.Nat.{ℕ}
 use mathlib.Core.List.{List, _++_}
 use lib.ListN.{length}
 use lib.Dec.{ltb}
 use Rattle.laws.specs.Choice.{pick}
-use Rattle.records.specs.Bytes.{words}
-use Rattle.records.specs.Write.{headWords, laidOver}
+use Rattle.records.specs.Layout.{recordOf}
+use Rattle.records.specs.Head.{headRecord}
+use Rattle.records.specs.Write.{laidOver}
 use Rattle.site.specs.Record.{entries, size, isFine, faultOf}
 use Rattle.site.specs.declared.Site.{Site}
-use Rattle.planfile.specs.Bits.{bytesFor, packed}
+use Rattle.planfile.specs.Bits.{packed}
 use Rattle.planfile.specs.declared.PlanWritten.{PlanWritten}
 use Rattle.planfile.specs.declared.PlanWritten.the-variants.{Done, TableShort, OutShort, Refused}
 
--- the head, and the plan's length and kind
-abbrev pub planHead : ℕ → ℕ → ℕ → List ℕ
-planHead cells slots channels = headWords cells slots channels (2 + bytesFor (entries cells slots channels)) 4
-
 -- "A plan file is kinds 1, 4."
 unfoldable pub planBytes : (cells slots channels : ℕ) → List ℕ → List ℕ
-planBytes cells slots channels table = words (planHead cells slots channels) ++ packed table (entries cells slots channels)
+planBytes cells slots channels table = headRecord cells slots channels ++ recordOf 4 (packed table (entries cells slots channels))
 
 -- "The plan writer is given the site and its table."
 abbrev pub planFile : Site → List ℕ → List ℕ

@@ -1,13 +1,16 @@
 // The plan file, read and written: a head, and one bit for each cell and position. A file byte holds the bits of eight table bytes, and the long loops go by file byte.
+use records::AFTER_HEAD;
 use records::Length;
 use records::Opened;
 use records::ReadAnswer;
+use records::head_answer;
 use records::open;
+use records::opened_answer;
 use records::put_head;
+use records::put_start;
 use records::word;
 use site::Fault;
 use site::Site;
-use site::size_ok;
 ghost use mathlib.Core.Path.{_≡_};
 ghost use mathlib.Core.List.{[], _∷_};
 ghost use Prim.Native.Nat.{_+_, _-_, _*_, _≤_, _<_};
@@ -15,7 +18,7 @@ ghost use lib.ListN.{length};
 ghost use lib.Seq.{sets};
 ghost use Rattle.site.specs.Record.{entries};
 ghost use Rattle.planfile.specs.Bits.{bytesFor, one, bitsFrom, leftOver, ones, packedFrom};
-ghost use Rattle.planfile.specs.Read.{HeadRead, refusedPlan, refusedBy, readPlan, planTableRead};
+ghost use Rattle.planfile.specs.Read.{HeadRead, refusedPlan, readPlan, planTableRead};
 ghost use Rattle.planfile.specs.Write.{planWritten, planOut};
 
 // What a plan read gives: I, T and F, or three zeros beside a refusal.
@@ -150,52 +153,42 @@ fn last_of(table: &[u8], k: usize) -> u8
     v
 }
 
-// Stores the first m bytes of the table's bits, past the head.
-fn put_whole(table: &[u8], out: &mut [u8], m: usize)
-    requires { ⌜ (8 * m ≤ length (now table)) × (14 + m ≤ length (now out)) ⌝ }
-    ensures { λ _. ⌜ now (out .exit) ≡ sets (now (out .entry)) 14 (packedFrom (now (table .entry)) 0 m) ⌝ }
+// Stores the first m bytes of the table's bits, from `at` on.
+fn put_whole(table: &[u8], out: &mut [u8], at: usize, m: usize)
+    requires { ⌜ (8 * m ≤ length (now table)) × (at + m ≤ length (now out)) ⌝ }
+    ensures { λ _. ⌜ now (out .exit) ≡ sets (now (out .entry)) at (packedFrom (now (table .entry)) 0 m) ⌝ }
 {
     let mut j: usize = 0;
     while j < m {
         let x = byte_of(table, 8 * j);
-        out[14 + j] = x;
+        out[at + j] = x;
         j += 1;
     }
 }
 
-// Stores the bits of the whole table, past the head.
-fn put_bits(table: &[u8], out: &mut [u8])
-    requires { ⌜ 14 + bytesFor (length (now table)) ≤ length (now out) ⌝ }
-    ensures { λ _. ⌜ now (out .exit) ≡ sets (now (out .entry)) 14 (packedFrom (now (table .entry)) 0 (bytesFor (length (now (table .entry))))) ⌝ }
+// Stores the bits of the whole table, from `at` on.
+fn put_bits(table: &[u8], out: &mut [u8], at: usize)
+    requires { ⌜ at + bytesFor (length (now table)) ≤ length (now out) ⌝ }
+    ensures { λ _. ⌜ now (out .exit) ≡ sets (now (out .entry)) at (packedFrom (now (table .entry)) 0 (bytesFor (length (now (table .entry))))) ⌝ }
 {
     let m = table.len() / 8;
-    put_whole(table, out, m);
+    put_whole(table, out, at, m);
     if table.len() <= 8 * m {
         return;
     }
     let x = last_of(table, 8 * m);
-    out[14 + m] = x;
+    out[at + m] = x;
 }
 
-// A refused read: its number and offset, and no site.
-fn refused(number: u8, at: usize) -> PlanRead
-    ensures { λ r. ⌜ r ≡ refusedPlan number at ⌝ }
+// A refused read: the refusal, and no site.
+fn refused(answer: ReadAnswer) -> PlanRead
+    ensures { λ r. ⌜ r ≡ refusedPlan answer ⌝ }
 {
     PlanRead {
         cells: 0,
         slots: 0,
         channels: 0,
-        answer: ReadAnswer::Refused(number, at),
-    }
-}
-
-// The opener's refusal, handed on. It is asked of no body.
-fn refused_by(o: Opened) -> PlanRead
-    ensures { λ r. ⌜ r ≡ refusedBy o ⌝ }
-{
-    match o {
-        Opened::Refused(number, at) => refused(number, at),
-        Opened::Body(_, _) => refused(0, 0),
+        answer,
     }
 }
 
@@ -207,19 +200,19 @@ fn read_body(bytes: &[u8], table: &mut [u8], cells: u16, slots: u16, channels: u
 {
     let n = entries(cells, slots, channels);
     let m = (n + 7) / 8;
-    let o = open(bytes, 10, 4, Length::Exact((2 + m) as u16));
+    let o = open(bytes, AFTER_HEAD, 4, Length::Exact((2 + m) as u16));
     let Opened::Body(start, len) = o else {
-        return refused_by(o);
+        return refused(opened_answer(o));
     };
     let end = start + len;
     if left_over(&bytes[start..end], n) {
-        return refused(14, 10);
+        return refused(ReadAnswer::Refused(14, AFTER_HEAD));
     }
     if end < bytes.len() {
-        return refused(12, end);
+        return refused(ReadAnswer::Refused(12, end));
     }
     if table.len() < n {
-        return refused(4, 0);
+        return refused(ReadAnswer::Refused(4, 0));
     }
     unpack(&bytes[start..end], table, n);
     PlanRead {
@@ -235,16 +228,13 @@ pub fn read_plan(bytes: &[u8], table: &mut [u8]) -> PlanRead
     ensures { λ r. ⌜ r ≡ readPlan (now (bytes .entry)) (now (table .entry)) ⌝ }
     ensures { λ _. ⌜ now (table .exit) ≡ planTableRead (now (bytes .entry)) (now (table .entry)) ⌝ }
 {
-    let o = open(bytes, 0, 1, Length::Exact(8));
-    let Opened::Body(_, _) = o else {
-        return refused_by(o);
+    let head = head_answer(bytes);
+    let ReadAnswer::Done = head else {
+        return refused(head);
     };
     let cells = word(bytes, 4);
     let slots = word(bytes, 6);
     let channels = word(bytes, 8);
-    if !size_ok(cells, slots, channels) {
-        return refused(1, 0);
-    }
     read_body(bytes, table, cells, slots, channels)
 }
 
@@ -265,11 +255,13 @@ pub fn write_plan(site: Site, table: &[u8], out: &mut [u8]) -> PlanWritten
         return PlanWritten::TableShort;
     }
     let m = (n + 7) / 8;
-    let need = 14 + m;
+    let at = AFTER_HEAD + 4;
+    let need = at + m;
     if out.len() < need {
         return PlanWritten::OutShort(need);
     }
-    put_head(out, cells, slots, channels, (2 + m) as u16, 4);
-    put_bits(&table[..n], out);
+    put_head(out, cells, slots, channels);
+    put_start(out, AFTER_HEAD, (2 + m) as u16, 4);
+    put_bits(&table[..n], out, at);
     PlanWritten::Done(need)
 }

@@ -10,17 +10,17 @@ use Rattle.site.specs.Record.{sizeOk}
 use Rattle.site.proofs.Faults.{Sizes, sizes}
 use Rattle.records.specs.Bytes.{le16}
 use Rattle.records.specs.Reasons.{reason, firstReason, recordReasons}
-use Rattle.records.specs.Head.{cellsIn, slotsIn, channelsIn, headAnswer}
+use Rattle.records.specs.Head.{headSize, cellsIn, slotsIn, channelsIn, headAnswer}
 use Rattle.records.specs.declared.Length.the-variants.{Exact}
 use Rattle.records.specs.declared.ReadAnswer.the-variants.{Done, Refused}
 use Rattle.records.proofs.Laws.{Opening, record-open, exact}
 use Rattle.records.proofs.Reasons.{andThen, first-append, both-done, done-none}
 
-pub record HeadRead (s : List ℕ) : Type 0 where
+pub record HeadGood (s : List ℕ) : Type 0 where
   pub opening : Opening s 0 1 (Exact 8) 4 (le16 s 0 - 2)
   pub eight : le16 s 0 ≡ 8
   pub range : sizeOk (cellsIn s) (slotsIn s) (channelsIn s) ≡ true
-  pub long : 10 ≤ length s
+  pub long : headSize ≤ length s
 
 module _ (s : List ℕ) where
   -- the record, and then its contents
@@ -42,7 +42,7 @@ module _ (s : List ℕ) where
     unfolding firstReason
     head-done e = parts ∙ ap (λ a. andThen a (firstReason (reason (not (sizeOk (cellsIn s) (slotsIn s) (channelsIn s))) 1 0 ∷ []))) opens ∙ rw e refl
 
-  pub head-read : headAnswer s ≡ Done → HeadRead s
+  pub head-read : headAnswer s ≡ Done → HeadGood s
   head-read e =
       let b = both-done _ _ (sym parts ∙ e) in
       let o = record-open s 0 1 (Exact 8) (b .0) in

@@ -1,6 +1,6 @@
 -- Records in a file: a record that is written there is read back, with what follows it; and a record that is open there, written again, is the same bytes.
 -- Assumes nothing.
-use Prim.Native.Nat.{ℕ, _+_, _-_, _*_, _≤_}
+use Prim.Native.Nat.{ℕ, _+_, _-_, _≤_}
 use mathlib.Core.Path.{_≡_, refl, sym, ap, _∙_}
 use mathlib.Core.Bool.{true}
 use mathlib.Core.List.{List, [], _∷_, _++_}
@@ -10,9 +10,12 @@ use lib.Seq.{drop-drop, take-at, drop-at, length-take-le}
 use Rattle.records.specs.Bytes.{Bytes, le16, words}
 use Rattle.records.specs.Layout.{recordOf, bodyAt, recordEnd}
 use Rattle.records.specs.Reasons.{lengthOk, firstReason, recordReasons}
+use Rattle.records.specs.Head.{headRecord, cellsIn, slotsIn, channelsIn, afterHead}
 use Rattle.records.specs.declared.Length.{Length}
+use Rattle.records.specs.declared.Length.the-variants.{Exact}
 use Rattle.records.specs.declared.ReadAnswer.the-variants.{Done}
 use Rattle.records.proofs.Laws.{Opening, open-record, length-least}
+use Rattle.records.proofs.Head.{HeadGood}
 use Rattle.records.proofs.Bytes.{wordsAt, words-at, le16-drop, le16-drop-two}
 
 -- a record that stands at an offset
@@ -30,8 +33,8 @@ module _ (s : List ℕ) (at kind : ℕ) (body rest : List ℕ) (here : drop at s
   past-start : drop (at + 4) s ≡ body ++ rest
   past-start = sym (drop-drop 4 at s) ∙ ap (drop 4) here
 
-  pub body-back : bodyAt s at ≡ body
-  body-back =
+  pub record-body : bodyAt s at ≡ body
+  record-body =
       let e : le16 s at - 2 ≡ length body = omega (arith, length-back) in
       ap (λ (k : ℕ). take k (drop (at + 4) s)) e ∙ ap (take (length body)) past-start ∙ take-at body rest (length body) refl
 
@@ -71,3 +74,12 @@ module _ (s : List ℕ) (bytes : Bytes s) (at kind : ℕ) (rule : Length) (start
       ∙ ap (λ (l : List ℕ). words (wordsAt s at 2) ++ l) (join (le16 s at - 2) (at + 4))
       ∙ ap (λ (l : List ℕ). l ++ drop (at + 4) s) (words-at s bytes 2 at (omega (arith, o .four)))
       ∙ join 4 at
+
+-- a good head, written again
+pub head-again : (s : List ℕ) → Bytes s → HeadGood s → headRecord (cellsIn s) (slotsIn s) (channelsIn s) ++ drop (afterHead s) s ≡ s
+unfolding wordsAt
+head-again s bytes h =
+    let six : le16 s 0 - 2 ≡ 6 = omega (arith, h .eight) in
+    let body : words (cellsIn s ∷ slotsIn s ∷ channelsIn s ∷ []) ≡ bodyAt s 0 =
+    words-at s bytes 3 4 (omega (arith, h .long)) ∙ ap (λ (k : ℕ). take k (drop 4 s)) (sym six) in
+    ap (λ (l : List ℕ). recordOf 1 l ++ drop (afterHead s) s) body ∙ record-again s bytes 0 1 (Exact 8) _ _ (h .opening)

@@ -2,6 +2,7 @@
 use Prim.Native.Nat.{ℕ}
 use mathlib.Core.List.{List, [], _∷_, _++_}
 use mathlib.Core.Bool.{not}
+use lib.ListN.{length}
 use Rattle.site.specs.Record.{entries, sizeOk}
 use Rattle.records.specs.Bytes.{le16, words}
 use Rattle.records.specs.Layout.{recordOf, recordEnd}
@@ -11,6 +12,10 @@ use Rattle.records.specs.declared.ReadAnswer.{ReadAnswer}
 
 abbrev pub headRecord : ℕ → ℕ → ℕ → List ℕ
 headRecord cells slots channels = recordOf 1 (words (cells ∷ slots ∷ channels ∷ []))
+
+-- how many bytes it takes
+abbrev pub headSize : ℕ
+headSize = length (headRecord 0 0 0)
 
 -- what the head of a file states: its body begins at 4
 abbrev pub cellsIn : List ℕ → ℕ

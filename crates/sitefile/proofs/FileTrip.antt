@@ -1,6 +1,6 @@
 -- The site file of a site in order, taken apart record by record: reading it gives the site, and the file of a site that was read is the bytes that were read.
 -- Each record that is written is read back with what follows it, and each that is open is written again as it was (`RecordTrip` of the records). Assumes nothing.
-use Prim.Native.Nat.{ℕ, zero, suc, _+_, _-_, _*_, _/_, _%_, _≤_, _<_}
+use Prim.Native.Nat.{ℕ, zero, suc, _+_, _-_, _*_, _%_, _≤_, _<_}
 use mathlib.Core.Path.{_≡_, refl, sym, ap, _∙_}
 use mathlib.Core.List.{List, [], _∷_, _++_, append-nil}
 use native.Mathlib.Nat.{zero-add}
@@ -11,20 +11,19 @@ use borrow.Author.Tests.{ltb-false, le-ltb}
 use Rattle.laws.proofs.Stores.{take-sets, sets-past}
 use Rattle.records.specs.Bytes.{Bytes, le16, words, wordsOf}
 use Rattle.records.specs.Layout.{recordOf, bodyAt, recordEnd}
-use Rattle.records.specs.Reasons.{firstReason, recordReasons, endReason}
+use Rattle.records.specs.Reasons.{firstReason, endReason}
 use Rattle.records.specs.Head.{cellsIn, slotsIn, channelsIn, headRecord, headAnswer}
 use Rattle.records.specs.declared.ReadAnswer.{ReadAnswer}
 use Rattle.records.specs.declared.ReadAnswer.the-variants.{Done, Refused}
 use Rattle.records.specs.declared.Length.the-variants.{Exact, Pairs}
 use Rattle.records.proofs.Laws.{Opening, record-open, exact, even, exact-true, pairs-true, length-least}
-use Rattle.records.proofs.Bytes.{bytes-drop, bytes-take, words-length, words-of-length, words-trip, bytes-trip, wordsAt, words-at}
+use Rattle.records.proofs.Bytes.{bytes-drop, bytes-take, words-length, words-of-length, words-trip, bytes-trip}
 use Rattle.records.proofs.Reasons.{andThen, both-done, done-none}
-use Rattle.records.proofs.Head.{HeadRead, head-read, head-done}
-use Rattle.records.proofs.RecordTrip.{length-back, body-back, rest-back, record-back, body-length, record-again}
+use Rattle.records.proofs.Head.{HeadGood, head-read, head-done}
+use Rattle.records.proofs.RecordTrip.{record-body, rest-back, record-back, body-length, record-again, head-again}
 use Rattle.site.specs.Record.{sizeOk}
 use Rattle.site.specs.declared.Site.{Site}
 use Rattle.site.proofs.Faults.{Sizes, sizes, sizes-is}
-use Rattle.sitefile.specs.Pairs.{marks}
 use Rattle.sitefile.specs.Reasons.{loadsAt, reachAt, loadsReasons, pairReasons}
 use Rattle.sitefile.specs.Read.{none, loadsIn, reachIn, siteIn, siteAnswer, pairsReadOf, pairsRead}
 use Rattle.sitefile.specs.Write.{pairBytes, siteBytes}
@@ -134,7 +133,7 @@ module _ (s : Site) (good : GoodSite s) where
       (sym (pairs-way (s .cells) at in-order P) ∙ pairs-read (s .cells) at (s .reach) (good .rows) (good .named))
 
   reach-body : bodyAt B (reachAt B) ≡ P
-  reach-body = body-back B (reachAt B) 3 P [] reach-here
+  reach-body = record-body B (reachAt B) 3 P [] reach-here
 
   last-good : firstReason (lastReasons B (reachAt B) (cellsIn B)) ≡ Done
   unfolding firstReason
@@ -159,7 +158,7 @@ module _ (s : Site) (good : GoodSite s) where
 
   words-back : loadsIn (bodyAt B (loadsAt B)) ≡ s .loads
   words-back =
-      ap loadsIn (body-back B (loadsAt B) 2 L (recordOf 3 P) loads-here)
+      ap loadsIn (record-body B (loadsAt B) 2 L (recordOf 3 P) loads-here)
       ∙ ap (sets none 0) (words-trip (take (s .cells) (s .loads)))
       ∙ loads-back (s .cells) (s .loads) in-order (good .size) (good .unused)
 
@@ -177,7 +176,7 @@ module _ (s : Site) (good : GoodSite s) where
 
 -- what an accepted file tells: each record is open, its contents are in order, and nothing follows the last
 pub record Accepted (b : List ℕ) : Type 0 where
-  pub head : HeadRead b
+  pub head : HeadGood b
   pub loads : Opening b (loadsAt b) 2 (Exact (2 + 2 * cellsIn b)) (loadsAt b + 4) (le16 b (loadsAt b) - 2)
   pub reach : Opening b (reachAt b) 3 Pairs (reachAt b + 4) (le16 b (reachAt b) - 2)
   pub pairs : firstReason (pairReasons (cellsIn b) (reachAt b) 0 0 (bodyAt b (reachAt b))) ≡ Done
@@ -214,13 +213,6 @@ module _ (b : List ℕ) (bytes : Bytes b) (done : siteAnswer b ≡ Done) where
 
   abbrev Y : List ℕ
   Y = bodyAt b (reachAt b)
-
-  -- the head
-  head-bytes : headRecord (cellsIn b) (slotsIn b) (channelsIn b) ≡ recordOf 1 (bodyAt b 0)
-  unfolding wordsAt
-  head-bytes =
-      let six : le16 b 0 - 2 ≡ 6 = omega (arith, a .head .eight) in
-      ap (recordOf 1) (words-at b bytes 3 4 (omega (arith, a .head .long)) ∙ ap (λ (k : ℕ). take k (drop 4 b)) (sym six))
 
   -- the loads
   x-length : length X ≡ 2 * cellsIn b
@@ -261,8 +253,7 @@ module _ (b : List ℕ) (bytes : Bytes b) (done : siteAnswer b ≡ Done) where
       ap (λ (l : List ℕ). recordOf 2 l ++ drop (reachAt b) b) loads-bytes ∙ record-again b bytes (loadsAt b) 2 (Exact (2 + 2 * cellsIn b)) _ _ (a .loads) in
       ap (λ (l : List ℕ). headRecord (cellsIn b) (slotsIn b) (channelsIn b) ++ (recordOf 2 (words (take (cellsIn b) (loadsIn X))) ++ l)) last
       ∙ ap (λ (l : List ℕ). headRecord (cellsIn b) (slotsIn b) (channelsIn b) ++ l) second
-      ∙ ap (λ (l : List ℕ). l ++ drop (loadsAt b) b) head-bytes
-      ∙ record-again b bytes 0 1 (Exact 8) _ _ (a .head .opening)
+      ∙ head-again b bytes (a .head)
 
   -- what is read is in order
   pub read-good : GoodSite (siteIn b)

@@ -1,7 +1,9 @@
 -- The numbers and values given back tell the writer's answers apart: each answer can be read back from them, so two answers that give the same are one.
 -- (The reader's answers: crate `records`, and `refused-some` of Reasons.)
 -- Assumes nothing.
+use Prim.Native.Nat.{ℕ}
 use mathlib.Core.Path.{_≡_, refl, sym, ap, _∙_}
+use mathlib.Core.List.{[], _∷_, map}
 use lib.Dec.{eqb}
 use lib.ListN.{length, getD}
 use Rattle.laws.specs.Choice.{pick}
@@ -29,3 +31,11 @@ written-back (Refused (Reach k)) = refl
 
 pub written-apart : (a b : SiteWritten) → siteWrittenGiven a ≡ siteWrittenGiven b → a ≡ b
 written-apart a b e = sym (written-back a) ∙ ap written e ∙ written-back b
+
+-- document 01's numbers and values, written out: done with the bytes written, 13 with the bytes needed, 1, 2 with the cell, 3 with the row
+pub numbers :
+    (n k : ℕ) →
+    (map (λ (a : SiteWritten). siteWrittenGiven a .number) (Done n ∷ OutShort n ∷ Refused Size ∷ Refused (Load k) ∷ Refused (Reach k) ∷ []) ≡ 0 ∷ 13 ∷ 1 ∷ 2 ∷ 3 ∷ [])
+    × (map (λ (a : SiteWritten). siteWrittenGiven a .values) (Done n ∷ OutShort n ∷ Refused Size ∷ Refused (Load k) ∷ Refused (Reach k) ∷ [])
+    ≡ (n ∷ []) ∷ (n ∷ []) ∷ [] ∷ (k ∷ []) ∷ (k ∷ []) ∷ [])
+numbers n k = (refl, refl)

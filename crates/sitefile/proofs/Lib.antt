@@ -11,4 +11,5 @@ pub mod Good
 pub mod Trip
 pub mod Reasons
 pub mod Given
+pub mod PassedOn
 pub mod Zeros

@@ -11,7 +11,7 @@ use borrow.Author.Tests.{lt-ltb, le-ltb, lt-leb, le-leb, eq-eqb, ne-eqb, ltb-tru
 use Rattle.laws.specs.Choice.{pick}
 use Rattle.laws.proofs.Choice.{cases, order}
 use Rattle.records.specs.Reasons.{firstReason}
-use Rattle.records.specs.declared.ReadAnswer.the-variants.{Done, Refused}
+use Rattle.records.specs.declared.ReadAnswer.the-variants.{Refused}
 use Rattle.sitefile.specs.Pairs.{pairOk, place, mark, marks}
 use Rattle.sitefile.specs.Reasons.{rises, pairReasons}
 use Rattle.sitefile.specs.Read.{none, noRows, pairsReadOf, pairsRead}

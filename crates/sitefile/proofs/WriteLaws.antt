@@ -11,7 +11,7 @@ use borrow.Author.Tests.{le-leb, lt-leb}
 use Rattle.laws.proofs.Stores.{sets-append}
 use Rattle.records.specs.Bytes.{words}
 use Rattle.records.specs.Layout.{recordOf}
-use Rattle.records.specs.Head.{headRecord}
+use Rattle.records.specs.Head.{headRecord, headSize}
 use Rattle.records.proofs.Write.{record-put}
 use Rattle.records.proofs.Bytes.{words-length}
 use Rattle.sitefile.specs.Write.{pairBytes, siteBytes, written}
@@ -38,10 +38,6 @@ pair-bytes-even rows = pairs-even rows 0 1024
 pub pair-bytes-most : (rows : List ℕ) → length (pairBytes rows) ≤ 2048
 unfolding pairBytes
 pair-bytes-most rows = pairs-most rows 0 1024
-
--- how many bytes the head takes
-abbrev pub headSize : ℕ
-headSize = length (headRecord 0 0 0)
 
 module _ (s : Site) (cells : s .cells ≤ 32) (size : length (s .loads) ≡ 32) where
   loads-length : length (words (take (s .cells) (s .loads))) ≡ 2 * s .cells

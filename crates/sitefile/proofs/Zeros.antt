@@ -1,6 +1,6 @@
 -- "A refused site read gives a site of zeros." By the two ways of the answer. Assumes nothing.
 use Prim.Native.Nat.{ℕ}
-use mathlib.Core.Path.{_≡_, refl, sym, ap, _∙_}
+use mathlib.Core.Path.{_≡_, sym, ap, _∙_}
 use mathlib.Core.List.{List}
 use Rattle.records.specs.declared.ReadAnswer.the-variants.{Refused}
 use Rattle.site.specs.Record.{zeroSite}

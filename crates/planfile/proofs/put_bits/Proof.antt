@@ -24,7 +24,7 @@ returns : tie.Need-returns
 returns c =
     let a = c .before .before .before .before .before .before .before .args in
     let e : length (now (a .table)) / 8 ≡ bytesFor (length (now (a .table))) = omega arith in
-    c .before .before .before .put-whole .ensures ∙ ap (λ (k : ℕ). sets (now (a .out)) 14 (packedFrom (now (a .table)) 0 k)) e
+    c .before .before .before .put-whole .ensures ∙ ap (λ (k : ℕ). sets (now (a .out)) (a .at) (packedFrom (now (a .table)) 0 k)) e
 
 mul-last-of : tie.Need-mul-last-of
 mul-last-of c = search needs
@@ -47,7 +47,7 @@ returns-2 c =
     let m = length (now (a .table)) / 8 in
     let e : suc m ≡ bytesFor (length (now (a .table))) = omega arith in
     rw (c .last-of .ensures, c .before .before .before .before .put-whole .ensures)
-    (put-last (now (a .table)) (now (a .out)) m ∙ ap (λ (k : ℕ). sets (now (a .out)) 14 (packedFrom (now (a .table)) 0 k)) e)
+    (put-last (now (a .table)) (now (a .out)) (a .at) m ∙ ap (λ (k : ℕ). sets (now (a .out)) (a .at) (packedFrom (now (a .table)) 0 k)) e)
 
 pub put-bits-spec : {M : Type 1} → statement M
 put-bits-spec =

@@ -1,7 +1,7 @@
 -- `planfile::put_whole` meets its contract. The invariant: to store the bytes that are left from j on makes the output. Assumes nothing.
 use Prim.Native.Nat.{_+_, _-_, _*_, _≤_}
 use mathlib.Core.Path.{_≡_, refl, sym, _∙_}
-use native.Mathlib.Nat.{sub-zero}
+use native.Mathlib.Nat.{add-zero, sub-zero}
 use native.Mathlib.Omega.{arith}
 use lib.ListN.{length, length-set}
 use lib.Seq.{sets}
@@ -12,14 +12,14 @@ use Rattle.planfile.proofs.put_whole.Statement.{statement}
 use Rattle.planfile.proofs.put_whole.Tie as tie
 
 abbrev Inv-loop : tie.InvT-loop
-Inv-loop table out₀ m j₀ out j =
-    (j ≤ m) × (length out ≡ length out₀) × (sets out (14 + j) (packedFrom table (8 * j) (m - j)) ≡ sets out₀ 14 (packedFrom table 0 m))
+Inv-loop table out₀ at m j₀ out j =
+    (j ≤ m) × (length out ≡ length out₀) × (sets out (at + j) (packedFrom table (8 * j) (m - j)) ≡ sets out₀ at (packedFrom table 0 m))
 
 abbrev μ-loop : tie.MeasureT-loop
-μ-loop table out₀ m j₀ out j = m - j
+μ-loop table out₀ at m j₀ out j = m - j
 
 loop-holds : tie.Need-loop-holds Inv-loop μ-loop
-loop-holds c = (omega arith, refl, rw (sub-zero (c .before .before .args .m)))
+loop-holds c = (omega arith, refl, rw (sub-zero (c .before .before .args .m), add-zero (c .before .before .args .at)))
 
 mul-byte-of : tie.Need-mul-byte-of Inv-loop μ-loop
 mul-byte-of c = omega arith
@@ -45,7 +45,7 @@ loop-again c =
     let a = c .before .before .before .before .before .args in (
       omega arith,
       length-set (l .out) _ _ ∙ l .inv .1,
-      rw (c .byte-of .ensures) (put-step (now (a .table)) (l .out) (l .j) (a .m) (c .before .loop-test .taken) ∙ l .inv .2),
+      rw (c .byte-of .ensures) (put-step (now (a .table)) (l .out) (a .at) (l .j) (a .m) (c .before .loop-test .taken) ∙ l .inv .2),
     )
 
 same-length : tie.Need-same-length Inv-loop μ-loop
@@ -55,7 +55,7 @@ returns : tie.Need-returns Inv-loop μ-loop
 returns c =
     let l = c .before .loop in
     let a = c .before .before .before .before .args in
-    sym (put-end (now (a .table)) (l .out) (l .j) (a .m) (c .loop-test .left)) ∙ l .inv .2
+    sym (put-end (now (a .table)) (l .out) (a .at) (l .j) (a .m) (c .loop-test .left)) ∙ l .inv .2
 
 pub put-whole-spec : {M : Type 1} → statement M
 put-whole-spec =

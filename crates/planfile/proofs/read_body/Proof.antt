@@ -7,13 +7,14 @@ use native.Mathlib.Omega.{arith}
 use lib.ListN.{length}
 use lib.Seq.{sets}
 use denote.Ref.{now}
-use Rattle.records.specs.Opener.{openAt}
+use Rattle.records.specs.Opener.{openAt, openAnswer}
+use Rattle.records.specs.Head.{entriesIn}
 use Rattle.records.specs.declared.Length.the-variants.{Exact}
 use Rattle.records.specs.declared.Opened.the-variants.{Body}
-use Rattle.records.specs.declared.ReadAnswer.the-variants.{Done}
+use Rattle.records.specs.declared.ReadAnswer.the-variants.{Done, Refused}
 use Rattle.planfile.specs.Bits.{bytesFor, bitsFrom, leftOver}
-use Rattle.planfile.specs.Read.{refusedBy, entriesIn, bodyIn}
-use Rattle.planfile.proofs.ReadLaws.{entries-are, few, body-stop, ends, body-is, body-long, left-stop, more-stop, short-stop, read-done, refuse, accept}
+use Rattle.planfile.specs.Read.{planAt, bodyIn, endIn, refusedPlan}
+use Rattle.planfile.proofs.ReadLaws.{entries-are, few, due, body-stop, within, ends, body-is, body-long, left-stop, more-stop, short-stop, read-done, refuse, accept}
 use Rattle.planfile.proofs.read_body.Statement.{statement}
 use Rattle.planfile.proofs.read_body.Tie as tie
 
@@ -44,10 +45,11 @@ open-requires : tie.Need-open-requires
 open-requires c κs = search needs
 
 -- what the opener found
-plan-open : (c : tie.After-open) → let s = now (c .before .before .before .before .args .bytes) in c .open .result ≡ openAt s 10 4 (Exact (2 + bytesFor (entriesIn s)))
+plan-open : (c : tie.After-open) → let s = now (c .before .before .before .before .args .bytes) in c .open .result ≡ openAt s (planAt s) 4 (Exact (2 + bytesFor (entriesIn s)))
 plan-open c =
-    let s = now (c .before .before .before .before .args .bytes) in
-    c .open .ensures ∙ ap (λ (n : ℕ). openAt s 10 4 (Exact (2 + bytesFor n))) (size (c .before))
+    let a = c .before .before .before .before in
+    let s = now (a .args .bytes) in
+    c .open .ensures ∙ (λ j. openAt s (due s (now (a .args .table)) _ _ _ (a .pre) j) 4 (Exact (2 + bytesFor (size (c .before) j))))
 
 enum-known-o : tie.Need-enum-known-o
 enum-known-o c = search needs
@@ -55,22 +57,25 @@ enum-known-o c = search needs
 enum-told : tie.Need-enum-told
 enum-told c = search needs
 
-refused-by-requires : tie.Need-refused-by-requires
-refused-by-requires c κs = search needs
+opened-answer-requires : tie.Need-opened-answer-requires
+opened-answer-requires c κs = search needs
+
+refused-requires : tie.Need-refused-requires
+refused-requires c κs = search needs
 
 returns : tie.Need-returns
-unfolding refusedBy
 returns c =
-    let o = c .before .before .before in
+    let t = c .before .before in
+    let o = t .before .before in
     let a = o .before .before .before .before in
-    let e = c .before .enum-told .given .1 in
+    let e = t .enum-told .given .1 in
     let r = refuse (now (a .args .bytes)) (now (a .args .table)) _ _ (body-stop (now (a .args .bytes)) (now (a .args .table)) _ _ _ (a .pre) _ _ (sym (plan-open o) ∙ e)) in
-    (c .refused-by .ensures ∙ ap refusedBy e ∙ r .0, r .1)
+    (c .refused .ensures ∙ ap refusedPlan (c .before .opened-answer .ensures ∙ ap openAnswer e) ∙ r .0, r .1)
 
 found :
     (c : tie.After-known-told) →
     let s = now (c .before .before .before .before .before .before .before .args .bytes) in
-    openAt s 10 4 (Exact (2 + bytesFor (entriesIn s))) ≡ Body (c .before .o .given .0 .0) (c .before .o .given .0 .1 .0)
+    openAt s (planAt s) 4 (Exact (2 + bytesFor (entriesIn s))) ≡ Body (c .before .o .given .0 .0) (c .before .o .given .0 .1 .0)
 found c = sym (plan-open (c .before .before .before)) ∙ c .before .o .given .1
 
 within-input :
@@ -78,7 +83,7 @@ within-input :
     c .before .o .given .0 .0 + c .before .o .given .0 .1 .0 ≤ length (now (c .before .before .before .before .before .before .before .args .bytes))
 within-input c =
     let a = c .before .before .before .before .before .before .before in
-    ends (now (a .args .bytes)) (now (a .args .table)) _ _ _ (a .pre) _ _ (found c)
+    within (now (a .args .bytes)) (now (a .args .table)) _ _ _ (a .pre) _ _ (found c)
 
 add-end : tie.Need-add-end
 add-end c = omega (arith, within-input c)
@@ -95,7 +100,9 @@ part-left-over-end c = within-input c
 left-over-requires : tie.Need-left-over-requires
 left-over-requires c κs =
     let a = c .before .before .before .before .before .before .before .before in
-    body-long (now (a .args .bytes)) (now (a .args .table)) _ _ _ (a .pre) _ _ (found (c .before)) ∙ ap (λ (n : ℕ). bytesFor n) (sym (size (c .before .before .before .before .before)))
+    ap length (body-is (now (a .args .bytes)) (now (a .args .table)) _ _ _ (a .pre) _ _ (found (c .before)))
+    ∙ body-long (now (a .args .bytes)) (now (a .args .table)) _ _ _ (a .pre) _ _ (found (c .before))
+    ∙ ap bytesFor (sym (size (c .before .before .before .before .before)))
 
 -- what the left-over test said
 left :
@@ -109,43 +116,49 @@ left c =
     ∙ ap (λ (l : List ℕ). leftOver l (k .before .before .before .before .entries .result)) (body-is (now (a .args .bytes)) (now (a .args .table)) _ _ _ (a .pre) _ _ (found k))
     ∙ ap (λ (n : ℕ). leftOver (bodyIn (now (a .args .bytes))) n) (size (k .before .before .before .before))
 
-refused-requires : tie.Need-refused-requires
-refused-requires c κs = search needs
+refused-requires-2 : tie.Need-refused-requires-2
+refused-requires-2 c κs = search needs
 
 returns-2 : tie.Need-returns-2
 returns-2 c =
     let l = c .before .before in
     let k = l .before .before in
     let a = k .before .before .before .before .before .before .before in
-    let r = refuse (now (a .args .bytes)) (now (a .args .table)) 14 10 (left-stop (now (a .args .bytes)) (now (a .args .table)) _ _ _ (a .pre) _ _ (found k) (sym (left l) ∙ c .before .if1 .taken)) in
-    (c .refused .ensures ∙ r .0, r .1)
+    let s = now (a .args .bytes) in
+    let t = now (a .args .table) in
+    let r = refuse s t 14 (planAt s) (left-stop s t _ _ _ (a .pre) _ _ (found k) (sym (left l) ∙ c .before .if1 .taken)) in
+    (c .refused2 .ensures ∙ ap (λ (n : ℕ). refusedPlan (Refused 14 n)) (due s t _ _ _ (a .pre)) ∙ r .0, r .1)
 
-refused-requires-2 : tie.Need-refused-requires-2
-refused-requires-2 c κs = search needs
+refused-requires-3 : tie.Need-refused-requires-3
+refused-requires-3 c κs = search needs
 
 returns-3 : tie.Need-returns-3
 returns-3 c =
     let l = c .before .before .before in
     let k = l .before .before in
     let a = k .before .before .before .before .before .before .before in
-    let r =
-    refuse (now (a .args .bytes)) (now (a .args .table)) 12 _
-    (more-stop (now (a .args .bytes)) (now (a .args .table)) _ _ _ (a .pre) _ _ (found k) (sym (left l) ∙ c .before .before .if1 .left) (c .before .if2 .taken)) in
-    (c .refused2 .ensures ∙ r .0, r .1)
+    let s = now (a .args .bytes) in
+    let t = now (a .args .table) in
+    let e = ends s t _ _ _ (a .pre) _ _ (found k) in
+    let r = refuse s t 12 (endIn s) (more-stop s t _ _ _ (a .pre) _ _ (found k) (sym (left l) ∙ c .before .before .if1 .left) (rw e at (c .before .if2 .taken))) in
+    (c .refused3 .ensures ∙ ap (λ (n : ℕ). refusedPlan (Refused 12 n)) e ∙ r .0, r .1)
 
-refused-requires-3 : tie.Need-refused-requires-3
-refused-requires-3 c κs = search needs
+refused-requires-4 : tie.Need-refused-requires-4
+refused-requires-4 c κs = search needs
 
 returns-4 : tie.Need-returns-4
 returns-4 c =
     let l = c .before .before .before .before in
     let k = l .before .before in
     let a = k .before .before .before .before .before .before .before in
+    let s = now (a .args .bytes) in
+    let t = now (a .args .table) in
+    let e = ends s t _ _ _ (a .pre) _ _ (found k) in
     let r =
-    refuse (now (a .args .bytes)) (now (a .args .table)) 4 0
-    (short-stop (now (a .args .bytes)) (now (a .args .table)) _ _ _ (a .pre) _ _ (found k) (sym (left l) ∙ c .before .before .before .if1 .left) (c .before .before .if2 .left)
+    refuse s t 4 0
+    (short-stop s t _ _ _ (a .pre) _ _ (found k) (sym (left l) ∙ c .before .before .before .if1 .left) (rw e at (c .before .before .if2 .left))
     (rw (size (k .before .before .before .before)) at (c .before .if3 .taken))) in
-    (c .refused3 .ensures ∙ r .0, r .1)
+    (c .refused4 .ensures ∙ r .0, r .1)
 
 sub-unpack : tie.Need-sub-unpack
 sub-unpack c = search needs
@@ -161,7 +174,11 @@ unpack-requires c κs =
     let k = c .before .before .before .before .before .before .before in
     let a = k .before .before .before .before .before .before .before in
     let n = size (k .before .before .before .before) in
-    (omega (arith, n, body-long (now (a .args .bytes)) (now (a .args .table)) _ _ _ (a .pre) _ _ (found k)), c .before .before .if3 .left)
+    let s = now (a .args .bytes) in
+    let t = now (a .args .table) in (
+      omega (arith, n, ap length (body-is s t _ _ _ (a .pre) _ _ (found k)), body-long s t _ _ _ (a .pre) _ _ (found k)),
+      c .before .before .if3 .left,
+    )
 
 same-length : tie.Need-same-length
 same-length c = search needs
@@ -176,7 +193,7 @@ returns-5 c =
     let t = now (a .args .table) in
     let n = size (k .before .before .before .before) in
     let h = rw n at (e .if3 .left) in
-    let r = accept s t (read-done s t _ _ _ (a .pre) _ _ (found k) (sym (left l) ∙ e .before .before .if1 .left) (e .before .if2 .left) h) h in (
+    let r = accept s t (read-done s t _ _ _ (a .pre) _ _ (found k) (sym (left l) ∙ e .before .before .if1 .left) (rw (ends s t _ _ _ (a .pre) _ _ (found k)) at (e .before .if2 .left)) h) h in (
       (λ i. record { cells = a .pre .cells-are i; slots = a .pre .slots-are i; channels = a .pre .channels-are i; answer = Done }) ∙ r .0,
       c .before .before .unpack .ensures
           ∙ ap (λ (x : List ℕ). sets t 0 (bitsFrom x 0 (k .before .before .before .before .entries .result))) (body-is s t _ _ _ (a .pre) _ _ (found k))
@@ -195,18 +212,19 @@ read-body-spec =
     open-requires
     enum-known-o
     enum-told
-    refused-by-requires
+    opened-answer-requires
+    refused-requires
     returns
     add-end
     sub-left-over
     part-left-over-start
     part-left-over-end
     left-over-requires
-    refused-requires
-    returns-2
     refused-requires-2
-    returns-3
+    returns-2
     refused-requires-3
+    returns-3
+    refused-requires-4
     returns-4
     sub-unpack
     part-unpack-start

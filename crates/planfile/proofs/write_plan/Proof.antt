@@ -8,6 +8,7 @@ use denote.Ref.{now}
 use Rattle.site.specs.Record.{isFine, faultOf}
 use Rattle.site.specs.declared.Fault.the-variants.{Fine}
 use Rattle.site.proofs.Faults.{not-fine, fine-sized, few-bytes}
+use Rattle.records.specs.Head.{headSize}
 use Rattle.planfile.specs.Bits.{bytesFor}
 use Rattle.planfile.specs.declared.PlanWritten.the-variants.{Refused}
 use Rattle.planfile.proofs.WriteLaws.{faulty, table-short, out-short, all-done}
@@ -42,6 +43,9 @@ returns-2 c =
 add-m : tie.Need-add-m
 add-m c = search needs
 
+add-at : tie.Need-add-at
+add-at c = search needs
+
 add-need : tie.Need-add-need
 add-need c = search needs
 
@@ -49,43 +53,49 @@ returns-3 : tie.Need-returns-3
 returns-3 c =
     let a = c .before .before .before .before .before .before .before .before in
     let e = c .before .before .entries .ensures in
-    out-short (a .args .site) (now (a .args .table)) (now (a .args .out)) (fine (c .before .before .before)) (rw e at (c .before .if1 .left)) _ (ap (λ (n : ℕ). 14 + bytesFor n) e) (c .if2 .taken)
+    out-short (a .args .site) (now (a .args .table)) (now (a .args .out)) (fine (c .before .before .before)) (rw e at (c .before .if1 .left)) _ (ap (λ (n : ℕ). headSize + 4 + bytesFor n) e) (c .if2 .taken)
 
 few : (c : tie.After-entries) → c .entries .result ≤ 65536
 few c = rw (c .entries .ensures) (few-bytes (fine-sized _ (fine (c .before))))
 
-add-put-head : tie.Need-add-put-head
-add-put-head c = search needs
-
-cast-put-head : tie.Need-cast-put-head
-cast-put-head c = omega (arith, few (c .before .before .before))
-
 put-head-requires : tie.Need-put-head-requires
 put-head-requires c κs = search needs
 
+add-put-start : tie.Need-add-put-start
+add-put-start c = search needs
+
+cast-put-start : tie.Need-cast-put-start
+cast-put-start c = omega (arith, few (c .before .before .before .before .before .before .before))
+
+put-start-requires : tie.Need-put-start-requires
+put-start-requires c κs = search needs
+
 slice-aggregate-put-bits : tie.Need-slice-aggregate-put-bits
-slice-aggregate-put-bits c = sym (length-take-le _ _ (c .before .before .before .before .before .before .if1 .left))
+slice-aggregate-put-bits c = sym (length-take-le _ _ (c .before .before .before .before .before .before .before .before .before .before .if1 .left))
 
 put-bits-requires : tie.Need-put-bits-requires
 put-bits-requires c κs =
-    let p = c .before .before .before .before in
-    rw (length-take-le _ _ (c .before .before .before .before .before .before .before .if1 .left)) (omega (arith, p .put-head .kept .0))
+    let w = c .before .before .before .before in
+    let p = w .before .before .before .before in
+    rw (length-take-le _ _ (p .before .before .before .if1 .left)) (omega (arith, w .put-start .kept .0, p .put-head .kept .0))
 
 same-length : tie.Need-same-length
 same-length c = search needs
 
 returns-4 : tie.Need-returns-4
 returns-4 c =
-    let a = c .before .before .before .before .before .before .before .before .before .before .before .before .before .before .before .before .before in
-    let p = c .before .before .before .before .before .before .before in
-    let l = c .before .before .before .before .before .before .before .before .before .before in
+    let b = c .before .before in
+    let w = b .before .before .before .before .before in
+    let p = w .before .before .before .before in
+    let r = p .before .before in
+    let l = r .before in
+    let a = l .before .before .before .before .before .before .before in
     let n = l .before .entries .result in
     let e = l .before .entries .ensures in
     let t = now (a .args .table) in
-    let r = all-done (a .args .site) (now (a .args .table)) (now (a .args .out)) (fine (l .before .before)) (rw e at (l .if1 .left)) _ (ap (λ (k : ℕ). 14 + bytesFor k) e) (c .before .before .before .before .before .before .before .before .before .if2 .left) in (
-      r .0,
-      c .before .before .put-bits .ensures
-          ∙ rw (length-take-le n t (l .if1 .left), p .put-head .ensures, e) (r .1),
+    let d = all-done (a .args .site) t (now (a .args .out)) (fine (l .before .before)) (rw e at (l .if1 .left)) _ (ap (λ (k : ℕ). headSize + 4 + bytesFor k) e) (r .if2 .left) in (
+      d .0,
+      b .put-bits .ensures ∙ rw (length-take-le n t (l .if1 .left), w .put-start .ensures, p .put-head .ensures, e) (d .1),
     )
 
 pub write-plan-spec : {M : Type 1} → statement M
@@ -98,11 +108,13 @@ write-plan-spec =
     entries-requires
     returns-2
     add-m
+    add-at
     add-need
     returns-3
-    add-put-head
-    cast-put-head
     put-head-requires
+    add-put-start
+    cast-put-start
+    put-start-requires
     slice-aggregate-put-bits
     put-bits-requires
     same-length

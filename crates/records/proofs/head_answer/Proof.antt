@@ -1,4 +1,4 @@
--- `records::head_answer` meets its contract: the opener refuses, or the head is ten bytes and the size test decides. Assumes nothing.
+-- `records::head_answer` meets its contract: the opener refuses, or the head is whole and the size test decides. Assumes nothing.
 use borrow.Author.Needs.{needs}
 use Prim.Native.Nat.{_≤_}
 use mathlib.Core.Path.{_≡_, refl, sym, ap, _∙_}
@@ -8,7 +8,7 @@ use denote.Ref.{now}
 use Rattle.site.specs.Record.{sizeOk}
 use Rattle.records.specs.Reasons.{firstReason, recordReasons}
 use Rattle.records.specs.Opener.{openAnswer}
-use Rattle.records.specs.Head.{cellsIn, slotsIn, channelsIn}
+use Rattle.records.specs.Head.{headSize, cellsIn, slotsIn, channelsIn}
 use Rattle.records.specs.declared.Length.the-variants.{Exact}
 use Rattle.records.specs.declared.ReadAnswer.the-variants.{Done}
 use Rattle.records.proofs.Laws.{not-opened, opened-done, record-open, exact}
@@ -38,7 +38,7 @@ returns c =
 found : (c : tie.After-enum-told) → firstReason (recordReasons (now (c .before .before .before .before .args .s)) 0 1 (Exact 8)) ≡ Done
 found c = opened-done _ 0 1 (Exact 8) _ _ (sym (c .before .before .open .ensures) ∙ c .enum-told .given .1)
 
-long : (c : tie.After-enum-told) → 10 ≤ length (now (c .before .before .before .before .args .s))
+long : (c : tie.After-enum-told) → headSize ≤ length (now (c .before .before .before .before .args .s))
 long c = let o = record-open (now (c .before .before .before .before .args .s)) 0 1 (Exact 8) (found c) in omega (arith, o .«end», exact _ _ (o .fits))
 
 -- what the size test said, of the numbers in the file

@@ -5,9 +5,10 @@ use mathlib.Core.Path.{_≡_, sym, _∙_}
 use native.Mathlib.Omega.{arith}
 use lib.ListN.{length}
 use denote.Ref.{now}
+use Rattle.records.specs.Head.{headSize}
 use Rattle.sitefile.specs.Write.{siteBytes}
 use Rattle.records.proofs.Write.{laid-done, laid-short}
-use Rattle.sitefile.proofs.WriteLaws.{headSize, pair-bytes-most, site-length, site-put, written-done, written-short}
+use Rattle.sitefile.proofs.WriteLaws.{pair-bytes-most, site-length, site-put, written-done, written-short}
 use Rattle.sitefile.proofs.put_site.Statement.{statement}
 use Rattle.sitefile.proofs.put_site.Tie as tie
 

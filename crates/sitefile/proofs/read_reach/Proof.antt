@@ -1,6 +1,5 @@
 -- `sitefile::read_reach` meets its contract: the opener, the pairs and the end of the input decide the answer in turn. Assumes nothing.
 use borrow.Author.Needs.{needs}
-use Prim.Native.Nat.{_<_, _≤_}
 use mathlib.Core.Path.{_≡_, sym, ap, _∙_}
 use native.Mathlib.Omega.{arith}
 use denote.Ref.{now}

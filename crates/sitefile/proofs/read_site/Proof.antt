@@ -8,7 +8,7 @@ use lib.ListN.{length-take}
 use denote.Ref.{now}
 use Rattle.records.specs.Opener.{openAt, openAnswer}
 use Rattle.records.specs.Reasons.{firstReason}
-use Rattle.records.specs.Head.{cellsIn, headAnswer}
+use Rattle.records.specs.Head.{headSize, cellsIn, headAnswer}
 use Rattle.records.specs.declared.Length.the-variants.{Exact}
 use Rattle.records.specs.declared.ReadAnswer.the-variants.{Done}
 use Rattle.records.proofs.Laws.{Opening, opened, opened-done, not-opened, within, exact, body-is, ends}
@@ -53,7 +53,7 @@ loads-open :
 loads-open c =
     let h = c .before .before in
     let s = now (h .before .before .before .before .args .bytes) in
-    let at : 10 ≡ loadsAt s = omega (arith, head-read s (done h) .eight) in
+    let at : headSize ≡ loadsAt s = omega (arith, head-read s (done h) .eight) in
     c .open .ensures ∙ (λ j. openAt s (at j) 2 (Exact (2 + 2 * c .before .word .ensures j)))
 
 word-requires : tie.Need-word-requires
