@@ -33,9 +33,11 @@ use Rattle.records.specs.declared.ReadAnswer.the-variants as read
 use Rattle.sitefile.specs.Given.{siteWrittenGiven}
 use Rattle.sitefile.specs.Write.{siteBytes, written, siteWritten, siteOut}
 use Rattle.sitefile.specs.declared.SiteWritten.the-variants as site
-use Rattle.planfile.specs.Bits.{entriesOf, bitsFrom}
+use Rattle.planfile.specs.Bits.{bitsFrom}
 use Rattle.planfile.specs.Given.{planWrittenGiven}
-use Rattle.planfile.specs.Read.{cellsIn, slotsIn, channelsIn, entriesIn, bodyIn, planAnswer as readAnswer, isDone, answered, readPlan, planTableRead}
+use Rattle.records.specs.Reasons.{isDone}
+use Rattle.records.specs.Head.{cellsIn, slotsIn, channelsIn, entriesIn}
+use Rattle.planfile.specs.Read.{bodyIn, planReadAnswer, planReadOf, readPlan, planTableRead}
 use Rattle.planfile.specs.Write.{planFile, planWritten, planOut}
 use Rattle.planfile.specs.declared.PlanWritten.the-variants as plan
 use Rattle.planfile.proofs.Bits.{length-bits}
@@ -67,15 +69,15 @@ plan-leaves s t = plan-left (size s) t (faultOf s) (ltb (length t) (size s)) (gr
 -- ---- the plan reader
 
 read-left : (a : ReadAnswer) (bits t : List ℕ) (n i o u : ℕ) → length bits ≡ n
-    → ReaderLeaves n t (readGiven (answered i o u a .answer) .number) (pick (isDone a) (bits ++ drop n t) t)
-unfolding answered
+    → ReaderLeaves n t (readGiven (planReadOf i o u a .answer) .number) (pick (isDone a) (bits ++ drop n t) t)
+unfolding planReadOf
 read-left read.Done bits t n i o u h = record { if-done = λ _. drop-at bits (drop n t) n h; if-refused = λ z. absurd (z refl) }
 read-left (read.Refused number at) bits t n i o u h = record { if-done = λ _. refl; if-refused = λ _. refl }
 
 pub plan-read-leaves : (file t : List ℕ) → ReaderLeaves (entriesIn file) t (readGiven (readPlan file t .answer) .number) (planTableRead file t)
 unfolding readPlan planTableRead
 plan-read-leaves file t =
-    read-left (readAnswer file t) (bitsFrom (bodyIn file) 0 (entriesIn file)) t (entriesIn file) (cellsIn file) (slotsIn file) (channelsIn file)
+    read-left (planReadAnswer file t) (bitsFrom (bodyIn file) 0 (entriesIn file)) t (entriesIn file) (cellsIn file) (slotsIn file) (channelsIn file)
     (length-bits (bodyIn file) (entriesIn file) 0)
 
 -- ---- the writers
@@ -120,7 +122,7 @@ fits-or-not a b false e = le-leb a b (ltb-false b a e)
 pub plan-write-leaves : (s : Site) (t out : List ℕ) → WriterLeaves (planFile s t) out (planWrittenGiven (planWritten s t out)) (planOut s t out)
 unfolding planWritten planOut writtenOver
 plan-write-leaves s t out =
-    plan-file-left (planFile s t) out (faultOf s) (ltb (length t) (entriesOf (s .cells) (s .slots) (s .channels))) (ltb (length out) (length (planFile s t)))
+    plan-file-left (planFile s t) out (faultOf s) (ltb (length t) (size s)) (ltb (length out) (length (planFile s t)))
     (fits-or-not (length (planFile s t)) (length out) (ltb (length out) (length (planFile s t))) refl)
 
 -- ---- "Load test and chain judge are verdicts; they refuse only with 1 to 3."

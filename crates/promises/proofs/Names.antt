@@ -4,10 +4,7 @@ use mathlib.Core.List.{List, [], _∷_}
 use Prim.Native.Nat.{ℕ, _+_}
 use Rattle.theory.specs.Net.{everyone}
 use Rattle.theory.specs.Greedy.{reserved, row}
-use Rattle.theory.proofs.LoadLaws.{FirstOver}
-use Rattle.theory.proofs.ChainLaws.{FirstBreaks}
-use Rattle.theory.proofs.TableLaws.{FirstClash, FirstWrong}
-use Rattle.theory.proofs.Run.{Fails}
+use Rattle.theory.specs.Named.{FirstOver, FirstBreaks, FirstClash, FirstWrong, Fails}
 use Rattle.site.specs.Record.{positions}
 use Rattle.site.specs.Reach.{netOf}
 use Rattle.site.specs.declared.Site.{Site}

@@ -14,11 +14,11 @@ use Rattle.site.proofs.Given.{fault-apart}
 use Rattle.planner.specs.Plan.{answerOf, planAnswer}
 use Rattle.planner.specs.Given.{planGiven}
 use Rattle.planner.specs.declared.PlanAnswer.the-variants as planner
-use Rattle.planner.proofs.Given.{tells-apart as plan-apart, answers-proper as plan-proper}
+use Rattle.planner.proofs.Given.{plan-apart, plan-proper}
 use Rattle.checker.specs.Check.{checkAnswer}
 use Rattle.checker.specs.Given.{checkGiven}
 use Rattle.checker.specs.declared.CheckAnswer.the-variants as checker
-use Rattle.checker.proofs.Given.{tells-apart as check-apart, answers-proper as check-proper}
+use Rattle.checker.proofs.Given.{check-apart, check-proper}
 use Rattle.judges.specs.Judges.{loadAnswer, chainAnswer}
 use Rattle.judges.specs.Given.{loadGiven, chainGiven}
 use Rattle.judges.specs.declared.LoadAnswer.the-variants as load
@@ -51,26 +51,14 @@ count-number s t c n = check-apart (checkAnswer s t) (checker.Count c n) (check-
 
 -- ---- the verdicts
 
-load-no-fault : load.Holds ≡ load.Refused Fine → ⊥
-load-no-fault e = let z : _≡_ {A = ℕ} 0 1 = cc in omega arith
-
-over-no-fault : (c m : ℕ) → load.Over c m ≡ load.Refused Fine → ⊥
-over-no-fault c m e = let z : _≡_ {A = ℕ} 0 1 = cc in omega arith
-
-chain-no-fault : chain.Chained ≡ chain.Refused Fine → ⊥
-chain-no-fault e = let z : _≡_ {A = ℕ} 0 1 = cc in omega arith
-
-broken-no-fault : (a b c : ℕ) → chain.Broken a b c ≡ chain.Refused Fine → ⊥
-broken-no-fault a b c e = let z : _≡_ {A = ℕ} 0 1 = cc in omega arith
-
 pub load-number : (s : Site) → loadGiven (loadAnswer s) ≡ done ↔ loadAnswer s ≡ load.Holds
-load-number s = (load-apart (loadAnswer s) load.Holds (load-proper s) load-no-fault, ap loadGiven)
+load-number s = (load-apart (loadAnswer s) load.Holds (load-proper s) refl, ap loadGiven)
 
 pub over-number : (s : Site) (c m : ℕ) → loadGiven (loadAnswer s) ≡ doneWith (c ∷ m ∷ []) → loadAnswer s ≡ load.Over c m
-over-number s c m = load-apart (loadAnswer s) (load.Over c m) (load-proper s) (over-no-fault c m)
+over-number s c m = load-apart (loadAnswer s) (load.Over c m) (load-proper s) refl
 
 pub chain-number : (s : Site) → chainGiven (chainAnswer s) ≡ done ↔ chainAnswer s ≡ chain.Chained
-chain-number s = (chain-apart (chainAnswer s) chain.Chained (chain-proper s) chain-no-fault, ap chainGiven)
+chain-number s = (chain-apart (chainAnswer s) chain.Chained (chain-proper s) refl, ap chainGiven)
 
 pub broken-number : (s : Site) (a b c : ℕ) → chainGiven (chainAnswer s) ≡ doneWith (a ∷ b ∷ c ∷ []) → chainAnswer s ≡ chain.Broken a b c
-broken-number s a b c = chain-apart (chainAnswer s) (chain.Broken a b c) (chain-proper s) (broken-no-fault a b c)
+broken-number s a b c = chain-apart (chainAnswer s) (chain.Broken a b c) (chain-proper s) refl

@@ -3,10 +3,9 @@
 use mathlib.Core.List.{List, [], _∷_, _++_}
 use Prim.Native.Nat.{ℕ, zero, suc, _+_}
 use lib.ListN.{length, replicate}
-use Rattle.site.specs.Record.{size}
+use Rattle.site.specs.Record.{siteOf, size}
 use Rattle.site.specs.Given.{Given}
 use Rattle.site.specs.declared.Site.{Site}
-use Rattle.sitefile.specs.Read.{siteOf}
 use Rattle.planner.specs.Plan.{planAnswer, planTable}
 use Rattle.planner.specs.Given.{planGiven}
 use Rattle.judges.specs.Judges.{loadAnswer, chainAnswer}

@@ -9,7 +9,7 @@ use Rattle.records.specs.Reasons.{firstReason, endReason}
 use Rattle.records.specs.Head.{cellsIn, slotsIn, channelsIn}
 use Rattle.records.specs.declared.ReadAnswer.{ReadAnswer}
 use Rattle.records.specs.declared.ReadAnswer.the-variants.{Done, Refused}
-use Rattle.site.specs.Record.{zeroSite}
+use Rattle.site.specs.Record.{siteOf, zeroSite}
 use Rattle.site.specs.declared.Site.{Site}
 use Rattle.sitefile.specs.Pairs.{marks}
 use Rattle.sitefile.specs.Reasons.{loadsAt, reachAt, pairReasons, reachReasons, siteReasons}
@@ -28,14 +28,7 @@ abbrev pub reachIn : List ℕ → List ℕ
 reachIn body = marks none body
 
 unfoldable pub siteIn : List ℕ → Site
-siteIn s =
-    record {
-      cells = cellsIn s;
-      slots = slotsIn s;
-      channels = channelsIn s;
-      loads = loadsIn (bodyAt s (loadsAt s));
-      reach = reachIn (bodyAt s (reachAt s));
-    }
+siteIn s = siteOf (cellsIn s) (slotsIn s) (channelsIn s) (loadsIn (bodyAt s (loadsAt s))) (reachIn (bodyAt s (reachAt s)))
 
 unfoldable pub siteAnswer : List ℕ → ReadAnswer
 siteAnswer s = firstReason (siteReasons s)
