@@ -2,8 +2,8 @@
 use mathlib.Core.Path.{_≡_, sym, _∙_}
 use native.Mathlib.Omega.{arith}
 use borrow.Author.Needs.{needs}
+use Rattle.laws.proofs.Grid.{row-before}
 use Rattle.site.specs.Record.{positions, faultOf}
-use Rattle.site.specs.Reach.{netOf}
 use Rattle.site.specs.declared.Fault.the-variants.{Fine}
 use Rattle.site.proofs.Faults.{not-fine, fine-sized, few-positions, few-bytes}
 use Rattle.planner.proofs.Answer.{refused-answer, refused-table, short-answer, short-table, run-answer, run-table}
@@ -62,7 +62,8 @@ plan-from-requires c κs =
     let told = long .before .before .before .before in
     let args = told .before .before .before .before .args in
     let sized = fine-sized (args .site) (fine told) in
-    ((omega arith, sized .cells-most), (omega (arith, long .if1 .left), no-rows (netOf (args .site)) (positions (args .site)) (args .table .now)))
+    let one = row-before (positions (args .site)) {j = 0} (sized .cells-some) in
+    ((omega arith, omega (arith, sized .cells-most)), (omega (arith, one, long .if1 .left), no-rows _ (positions (args .site)) (args .table .now)))
 
 same-length : tie.Need-same-length
 same-length c = search needs
