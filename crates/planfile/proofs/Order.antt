@@ -4,10 +4,10 @@ use Prim.Native.Nat.{ℕ, _≤_}
 use mathlib.Core.Path.{_≡_, refl, sym, _∙_}
 use mathlib.Core.List.{List, [], _∷_, map}
 use native.Mathlib.Omega.{arith}
-use Rattle.records.specs.Reasons.{Reason}
+use Rattle.records.specs.Reasons.{Reason, NoneApply, First}
 use Rattle.records.specs.declared.ReadAnswer.{ReadAnswer}
 use Rattle.records.specs.declared.ReadAnswer.the-variants.{Done, Refused}
-use Rattle.records.proofs.Reasons.{NoneApply, done-none, First, refused-first, Some, some-first}
+use Rattle.records.proofs.Reasons.{done-none, refused-first, Some, some-first}
 use Rattle.planfile.specs.Read.{planAt, endIn, planReasons, planReadAnswer, planReadOf, readPlan}
 
 -- the order, as numbers and offsets: head, its contents, plan, its contents, then 12, then 4

@@ -4,12 +4,12 @@ use mathlib.Core.Path.{_≡_, refl, sym, ap, _∙_}
 use mathlib.Core.List.{List, [], _∷_, _++_}
 use native.Mathlib.Omega.{arith}
 use Rattle.records.specs.Layout.{bodyAt, recordEnd}
-use Rattle.records.specs.Reasons.{Reason, firstReason, recordReasons, endReason}
+use Rattle.records.specs.Reasons.{Reason, firstReason, recordReasons, endReason, First}
 use Rattle.records.specs.Head.{cellsIn, headReasons, headAnswer}
 use Rattle.records.specs.declared.Length.the-variants.{Pairs}
 use Rattle.records.specs.declared.ReadAnswer.{ReadAnswer}
 use Rattle.records.specs.declared.ReadAnswer.the-variants.{Done, Refused}
-use Rattle.records.proofs.Reasons.{andThen, first-append, First, refused-first, Some, some-append, some-first}
+use Rattle.records.proofs.Reasons.{andThen, first-append, refused-first, Some, some-append, some-first}
 use Rattle.site.specs.declared.Site.{Site}
 use Rattle.sitefile.specs.Reasons.{loadsAt, reachAt, loadsReasons, pairReasons, reachReasons, siteReasons}
 use Rattle.sitefile.specs.Read.{siteIn, siteAnswer, siteDone, refusedSite, siteReadOf, readSite}
