@@ -27,7 +27,7 @@ use Rattle.judges.specs.Given.{loadGiven, chainGiven}
 use Rattle.judges.specs.declared.LoadAnswer.the-variants as load
 use Rattle.judges.specs.declared.ChainAnswer.the-variants as chain
 use Rattle.records.specs.Given.{readGiven}
-use Rattle.records.specs.Write.{over as writtenOver}
+use Rattle.records.specs.Write.{laidOver}
 use Rattle.records.specs.declared.ReadAnswer.{ReadAnswer}
 use Rattle.records.specs.declared.ReadAnswer.the-variants as read
 use Rattle.sitefile.specs.Given.{siteWrittenGiven}
@@ -112,7 +112,7 @@ module _ (file out : List ℕ) where
   plan-file-left (Reach k) short room e = out-untouched _ (λ e′. omega arith)
 
 pub site-write-leaves : (s : Site) (out : List ℕ) → WriterLeaves (siteBytes s) out (siteWrittenGiven (siteWritten s out)) (siteOut s out)
-unfolding siteWritten siteOut written writtenOver
+unfolding siteWritten siteOut written laidOver
 site-write-leaves s out = site-left (siteBytes s) out (faultOf s) (leb (length (siteBytes s)) (length out))
 
 fits-or-not : (a b : ℕ) (t : Bool) → ltb b a ≡ t → leb a b ≡ not t
@@ -120,7 +120,7 @@ fits-or-not a b true e = lt-leb a b (ltb-true b a e)
 fits-or-not a b false e = le-leb a b (ltb-false b a e)
 
 pub plan-write-leaves : (s : Site) (t out : List ℕ) → WriterLeaves (planFile s t) out (planWrittenGiven (planWritten s t out)) (planOut s t out)
-unfolding planWritten planOut writtenOver
+unfolding planWritten planOut laidOver
 plan-write-leaves s t out =
     plan-file-left (planFile s t) out (faultOf s) (ltb (length t) (size s)) (ltb (length out) (length (planFile s t)))
     (fits-or-not (length (planFile s t)) (length out) (ltb (length out) (length (planFile s t))) refl)

@@ -3,7 +3,7 @@
 use mathlib.Core.Path.{_≡_, refl, sym, ap, _∙_}
 use mathlib.Core.Bool.{Bool}
 use mathlib.Core.List.{List, [], _∷_, _++_, map}
-use Prim.Native.Nat.{ℕ, _+_, _*_, _≤_}
+use Prim.Native.Nat.{ℕ, _+_, _≤_}
 use native.Mathlib.Omega.{arith}
 use lib.Dec.{leb}
 use lib.ListN.{length, take, drop}
@@ -12,9 +12,8 @@ use borrow.Author.Tests.{le-leb}
 use Rattle.laws.specs.Choice.{pick}
 use Rattle.records.specs.Bytes.{Bytes, le16}
 use Rattle.records.specs.Given.{readGiven}
-use Rattle.records.specs.declared.ReadAnswer.{ReadAnswer}
 use Rattle.records.proofs.Given.{read-apart}
-use Rattle.records.specs.Write.{over}
+use Rattle.records.specs.Write.{laidOver}
 use Rattle.records.specs.declared.ReadAnswer.the-variants as read
 use Rattle.site.specs.Record.{size, faultOf, isFine}
 use Rattle.site.specs.declared.Site.{Site}
@@ -27,6 +26,10 @@ use Rattle.sitefile.specs.Write.{siteBytes, written, siteWritten, siteOut}
 use Rattle.sitefile.specs.Given.{siteWrittenGiven}
 use Rattle.sitefile.specs.declared.SiteRead.{SiteRead}
 use Rattle.sitefile.specs.declared.SiteWritten.the-variants as site
+use Rattle.records.specs.declared.Length.the-variants.{Pairs}
+use Rattle.records.proofs.Laws.{length-least}
+use Rattle.sitefile.specs.Reasons.{reachAt}
+use Rattle.sitefile.proofs.Reasons.{first-refused}
 use Rattle.sitefile.proofs.FileTrip.{accepted}
 use Rattle.sitefile.proofs.Trip.{written-then-read, written-again}
 use Rattle.planfile.specs.Bits.{one}
@@ -69,7 +72,7 @@ site-written-read s held out n e =
 -- "an accepted file written again is the same bytes": `write_site` of what `read_site` read
 pub site-read-written : (file : List ℕ) → Bytes file → readGiven (readSite file .answer) ≡ done → (out : List ℕ) → length file ≤ length out
     → (siteWrittenGiven (siteWritten (readSite file .site) out) ≡ doneWith (length file ∷ [])) × (siteOut (readSite file .site) out ≡ file ++ drop (length file) out)
-unfolding written over
+unfolding written laidOver
 site-read-written file bytes ok out fits =
     let w = written-again file bytes (read-apart (readSite file .answer) read.Done ok) out in
     let room = le-leb (length file) (length out) fits in
@@ -103,8 +106,7 @@ plan-read-written file t ok bytes s fine i a f out fits =
 
 -- "A site file is kinds 1, 2, 3; kind 3 is there even when empty": its length and its kind stand after the loads of every file that is accepted
 pub kind-three-there : (file : List ℕ) → readGiven (readSite file .answer) ≡ done
-    → let at = 14 + 2 * readSite file .site .cells in (at + 4 ≤ length file) × (2 ≤ le16 file at) × (le16 file (at + 2) ≡ 3)
+    → let at = reachAt file in (at + 4 ≤ length file) × (2 ≤ le16 file at) × (le16 file (at + 2) ≡ 3)
 kind-three-there file ok =
-    let is : readSite file ≡ siteDone (readSite file .site) = ap (λ (a : ReadAnswer). record { site = readSite file .site; answer = a }) (read-apart (readSite file .answer) read.Done ok) in
-    let k = accepted file (readSite file .site) is in
-    (omega (arith, k .whole), omega (arith, k .reach-size), k .reach-three)
+    let r = accepted file (sym (first-refused file) ∙ read-apart (readSite file .answer) read.Done ok) .reach in
+    (r .four, length-least Pairs (le16 file (reachAt file)) (r .fits), r .same)

@@ -1,10 +1,11 @@
 -- Each contract of crate `shares` leaves one possible answer and one possible content of what is lent, by its equalities alone. Made by tools/surface from the source.
 -- Assumes nothing.
 use mathlib.Core.Path.{_≡_, sym, _∙_}
-use Prim.Native.Nat.{ℕ}
 use Rattle.promises.specs.SharesSays.{Share}
+use Rattle.shares.specs.declared.Fragments.{Fragments}
 use Rattle.shares.specs.declared.ShareAnswer.{ShareAnswer}
+use Rattle.shares.specs.declared.Slots.{Slots}
 
 -- shares::share
-pub share-one : (slots : ℕ) (burst : ℕ) (period : ℕ) (r q : ShareAnswer) → Share slots burst period r → Share slots burst period q → (r ≡ q)
+pub share-one : (slots : Slots) (burst : Fragments) (period : Slots) (r q : ShareAnswer) → Share slots burst period r → Share slots burst period q → (r ≡ q)
 share-one slots burst period r q says also = says .answer ∙ sym (also .answer)

@@ -3,10 +3,11 @@ use mathlib.Core.Path.{_≡_}
 use mathlib.Core.List.{List, [], _∷_}
 use Prim.Native.Nat.{ℕ}
 use Rattle.records.specs.Bytes.{le16, words}
-use Rattle.records.specs.Opener.{openAt}
-use Rattle.records.specs.Write.{headWords}
+use Rattle.records.specs.Head.{headAnswer, headRecord}
+use Rattle.records.specs.Opener.{openAnswer, openAt}
 use Rattle.records.specs.declared.Length.{Length}
 use Rattle.records.specs.declared.Opened.{Opened}
+use Rattle.records.specs.declared.ReadAnswer.{ReadAnswer}
 use lib.Seq.{sets}
 
 -- records::word
@@ -17,6 +18,14 @@ pub record RecordsWord (s : List ℕ) (k : ℕ) (r : ℕ) : Type 0 where
 pub record RecordsOpen (s : List ℕ) (at : ℕ) (kind : ℕ) (rule : Length) (r : Opened) : Type 0 where
   pub answer : r ≡ openAt s at kind rule
 
+-- records::opened_answer
+pub record RecordsOpenedAnswer (o : Opened) (r : ReadAnswer) : Type 0 where
+  pub answer : r ≡ openAnswer o
+
+-- records::head_answer
+pub record RecordsHeadAnswer (s : List ℕ) (r : ReadAnswer) : Type 0 where
+  pub answer : r ≡ headAnswer s
+
 -- records::put_two
 pub record RecordsPutTwo (out : List ℕ) (at : ℕ) (a : ℕ) (b : ℕ) (out′ : List ℕ) : Type 0 where
   pub out-after : out′ ≡ sets out at (a ∷ b ∷ [])
@@ -25,6 +34,10 @@ pub record RecordsPutTwo (out : List ℕ) (at : ℕ) (a : ℕ) (b : ℕ) (out′
 pub record RecordsPutWord (out : List ℕ) (at : ℕ) (x : ℕ) (out′ : List ℕ) : Type 0 where
   pub out-after : out′ ≡ sets out at (words (x ∷ []))
 
+-- records::put_start
+pub record RecordsPutStart (out : List ℕ) (at : ℕ) (len : ℕ) (kind : ℕ) (out′ : List ℕ) : Type 0 where
+  pub out-after : out′ ≡ sets out at (words (len ∷ kind ∷ []))
+
 -- records::put_head
-pub record RecordsPutHead (out : List ℕ) (cells : ℕ) (slots : ℕ) (channels : ℕ) (len : ℕ) (kind : ℕ) (out′ : List ℕ) : Type 0 where
-  pub out-after : out′ ≡ sets out 0 (words (headWords cells slots channels len kind))
+pub record RecordsPutHead (out : List ℕ) (cells : ℕ) (slots : ℕ) (channels : ℕ) (out′ : List ℕ) : Type 0 where
+  pub out-after : out′ ≡ sets out 0 (headRecord cells slots channels)
