@@ -1,7 +1,7 @@
 -- A site read is refused for the first reason in document 01's order: record by record, and then for bytes after the last one. Assumes nothing.
 use Prim.Native.Nat.{ℕ, _≤_}
 use mathlib.Core.Path.{_≡_, refl, sym, ap, _∙_}
-use mathlib.Core.List.{List, [], _∷_, _++_}
+use mathlib.Core.List.{List, [], _∷_, _++_, map, map-append}
 use native.Mathlib.Omega.{arith}
 use Rattle.records.specs.Layout.{bodyAt, recordEnd}
 use Rattle.records.specs.Reasons.{Reason, firstReason, recordReasons, endReason, First}
@@ -55,6 +55,35 @@ answer-of x (Refused n at) = refl
 pub first-refused : (s : List ℕ) → readSite s .answer ≡ siteAnswer s
 unfolding readSite
 first-refused s = answer-of (siteIn s) (siteAnswer s)
+
+-- the order, as numbers and offsets: head, its contents, loads, reach, its pairs, then 12
+pub numbers :
+    (s : List ℕ) →
+    map (λ (r : Reason). r .number) (siteReasons s)
+    ≡ 8 ∷ 9 ∷ 10 ∷ 8 ∷ 1 ∷ 8 ∷ 9 ∷ 10 ∷ 8 ∷ 8 ∷ 9 ∷ 10 ∷ 8
+    ∷ (map (λ (r : Reason). r .number) (pairReasons (cellsIn s) (reachAt s) 0 0 (bodyAt s (reachAt s))) ++ (12 ∷ []))
+unfolding siteReasons
+numbers s =
+    ap (λ (l : List ℕ). 8 ∷ 9 ∷ 10 ∷ 8 ∷ 1 ∷ 8 ∷ 9 ∷ 10 ∷ 8 ∷ 8 ∷ 9 ∷ 10 ∷ 8 ∷ l)
+    (map-append (λ (r : Reason). r .number) (pairReasons (cellsIn s) (reachAt s) 0 0 (bodyAt s (reachAt s))) (endReason s (recordEnd s (reachAt s)) ∷ []))
+
+pub offsets :
+    (s : List ℕ) →
+    map (λ (r : Reason). r .offset) (siteReasons s)
+    ≡ 0 ∷ 0 ∷ 0 ∷ 0 ∷ 0 ∷ loadsAt s ∷ loadsAt s ∷ loadsAt s ∷ loadsAt s ∷ reachAt s ∷ reachAt s ∷ reachAt s ∷ reachAt s
+    ∷ (map (λ (r : Reason). r .offset) (pairReasons (cellsIn s) (reachAt s) 0 0 (bodyAt s (reachAt s))) ++ (recordEnd s (reachAt s) ∷ []))
+unfolding siteReasons
+offsets s =
+    ap (λ (l : List ℕ). 0 ∷ 0 ∷ 0 ∷ 0 ∷ 0 ∷ loadsAt s ∷ loadsAt s ∷ loadsAt s ∷ loadsAt s ∷ reachAt s ∷ reachAt s ∷ reachAt s ∷ reachAt s ∷ l)
+    (map-append (λ (r : Reason). r .offset) (pairReasons (cellsIn s) (reachAt s) 0 0 (bodyAt s (reachAt s))) (endReason s (recordEnd s (reachAt s)) ∷ []))
+
+-- and of each pair
+pub pair-numbers :
+    (cells at from to f t : ℕ) (r : List ℕ) →
+    (map (λ (x : Reason). x .number) (pairReasons cells at from to (f ∷ t ∷ r)) ≡ 3 ∷ 11 ∷ map (λ (x : Reason). x .number) (pairReasons cells at f t r))
+    × (map (λ (x : Reason). x .offset) (pairReasons cells at from to (f ∷ t ∷ r)) ≡ at ∷ at ∷ map (λ (x : Reason). x .offset) (pairReasons cells at f t r))
+unfolding pairReasons
+pair-numbers cells at from to f t r = (refl, refl)
 
 -- so the reason given stands in the list, it applies, and none before it does
 pub site-refused : (s : List ℕ) (n at : ℕ) → readSite s .answer ≡ Refused n at → First (siteReasons s) n at
