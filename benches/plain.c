@@ -1,9 +1,7 @@
 /* The rules of docs/RULES.md in plain C, as a yardstick for the speed of the proved library: fast, but nothing out of
- * the ordinary. Compile with -DPREFIX=name_ ; every call of include/duggfrask.h is then there under that prefix.
- * Inside, cells are counted from 0; in answers they are numbered from 1. */
-#include <stdbool.h>
-#include <string.h>
+ * the ordinary. Compile with -DPREFIX=name_ ; every call of include/duggfrask.h is then there under that prefix. */
 #include "plain.h"
+#include "site.h"
 
 #ifndef PREFIX
 #define PREFIX plain_
@@ -14,55 +12,7 @@
 #define NAME(call) EXPAND_JOIN(PREFIX, call)
 EXPAND(CALLS, PREFIX)
 
-enum { CELLS = 32, SLOTS = 128, CHANNELS = 16, POSITIONS = SLOTS * CHANNELS };
-
-static dugg_answer answer(uint64_t number, uint64_t a, uint64_t b, uint64_t c)
-{
-    return (dugg_answer){number, {a, b, c}};
-}
-
-static size_t positions_of(const dugg_site *s)
-{
-    return (size_t)s->slots * s->channels;
-}
-
-/* The bits of the first n cells. */
-static uint32_t first_cells(unsigned n)
-{
-    return n >= 32 ? 0xffffffffu : (1u << n) - 1;
-}
-
 /* ---- the site ---- */
-
-static bool sizes_fine(unsigned cells, unsigned slots, unsigned channels)
-{
-    return cells - 1 < CELLS && slots - 1 < SLOTS && channels - 1 < CHANNELS;
-}
-
-static dugg_answer fault(const dugg_site *s)
-{
-    if (!sizes_fine(s->cells, s->slots, s->channels))
-        return answer(1, 0, 0, 0);
-    for (unsigned i = s->cells; i < CELLS; i++)
-        if (s->loads[i] != 0)
-            return answer(2, i + 1, 0, 0);
-    uint32_t used = first_cells(s->cells);
-    for (unsigned i = 0; i < CELLS; i++) {
-        uint32_t allowed = i < s->cells ? used & ~(1u << i) : 0;
-        if (s->reach[i] & ~allowed)
-            return answer(3, i + 1, 0, 0);
-    }
-    return answer(0, 0, 0, 0);
-}
-
-/* For each cell, the cells that it clashes with: either reaches the other. */
-static void clash_masks(const dugg_site *s, uint32_t mask[CELLS])
-{
-    memcpy(mask, s->reach, sizeof s->reach);
-    for (unsigned i = 0; i < s->cells; i++)
-        for (uint32_t row = s->reach[i]; row != 0; row &= row - 1)
-            mask[__builtin_ctz(row)] |= 1u << i;
-}
 
 dugg_answer NAME(fault)(dugg_site site)
 {

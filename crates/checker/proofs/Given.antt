@@ -1,21 +1,25 @@
 -- The numbers given back tell the checker's answers apart, but for a refusal with no fault, and no call answers that. An answer is read back from its
 -- number and values. Assumes nothing.
 use mathlib.Core.Path.{_≡_, refl, sym, ap, _∙_}
-use mathlib.Core.Bool.{true, not, false≢true}
+use mathlib.Core.Bool.{true, false≢true}
 use mathlib.Core.List.{List, [], _∷_, map}
 use Prim.Native.Nat.{ℕ}
-use lib.Dec.{eqb}
-use lib.ListN.{getD}
+use lib.Dec.{eqb, ltb}
+use lib.ListN.{length, getD}
 use Rattle.laws.specs.Choice.{pick}
+use Rattle.theory.specs.Greedy.{reserved}
+use Rattle.theory.specs.Verdict.{TableVerdict, valid, clash, wrong, tableVerdict}
+use Rattle.site.specs.Record.{positions, size, faultOf}
+use Rattle.site.specs.Reach.{netOf}
 use Rattle.site.specs.Given.{Given}
+use Rattle.site.proofs.PassedOn.{proper-call, proper-either}
 use Rattle.site.specs.declared.Site.{Site}
 use Rattle.site.specs.declared.Fault.{Fault}
 use Rattle.site.specs.declared.Fault.the-variants.{Fine, Size, Load, Reach}
-use Rattle.checker.specs.Check.{checkAnswer}
+use Rattle.checker.specs.Check.{verdictOf, checkAnswer}
 use Rattle.checker.specs.Given.{checkGiven, checkProper}
 use Rattle.checker.specs.declared.CheckAnswer.{CheckAnswer}
 use Rattle.checker.specs.declared.CheckAnswer.the-variants.{Valid, TableShort, Clash, Count, Refused}
-use Rattle.checker.proofs.Meaning.{check-refused}
 
 -- the answer with this number and these values
 abbrev readBack : Given → CheckAnswer
@@ -45,15 +49,18 @@ pub check-apart : (a b : CheckAnswer) → checkProper a ≡ true → checkProper
 check-apart a b p q e = sym (read-back a p) ∙ ap readBack e ∙ read-back b q
 
 -- no call answers a refusal with no fault
-proper-at : (s : Site) (t : List ℕ) (a : CheckAnswer) → checkAnswer s t ≡ a → checkProper a ≡ true
-proper-at s t Valid e = refl
-proper-at s t TableShort e = refl
-proper-at s t (Clash p a c) e = refl
-proper-at s t (Count i n) e = refl
-proper-at s t (Refused f) e = ap not (check-refused s t f .0 e .1)
+verdict-proper : (v : TableVerdict) → checkProper (verdictOf v) ≡ true
+unfolding verdictOf
+verdict-proper valid = refl
+verdict-proper (clash k a c) = refl
+verdict-proper (wrong i n) = refl
 
 pub check-proper : (s : Site) (t : List ℕ) → checkProper (checkAnswer s t) ≡ true
-check-proper s t = proper-at s t (checkAnswer s t) refl
+unfolding checkAnswer
+check-proper s t =
+    let v = tableVerdict (netOf s) (reserved (positions s) t) in
+    proper-call checkProper Refused (λ g. refl) (faultOf s) _
+    (proper-either checkProper (ltb (length t) (size s)) TableShort (verdictOf v) refl (verdict-proper v))
 
 -- the numbers and the values, in their order, of an answer of each kind
 abbrev checks : (position a c cell n row : ℕ) → List CheckAnswer

@@ -1,79 +1,91 @@
--- From what the searches find to the verdict. The searches for a clash do not look at loads, nor the search for a wrong count at reach, so each is
--- stated over a problem without them; the two problems have the same answers. Assumes nothing.
+-- From what the searches find to the verdict. The searches for a clash do not look at loads, nor the search for a wrong count at clashes, so each is
+-- stated over a problem without them, and has the whole problem's answer. Assumes nothing.
 use mathlib.Core.Path.{_≡_, refl, sym, ap, _∙_}
-use mathlib.Core.List.{List, []}
+use mathlib.Core.List.{List}
 use Prim.Native.Nat.{ℕ, _+_, _*_, _≤_, _<_, zero-le}
 use native.Mathlib.Omega.{arith}
-use lib.Dec.{ltb}
 use lib.ListN.{length}
 use borrow.Author.Tests.{lt-ltb, le-ltb, ltb-true}
+use Rattle.laws.specs.Bits.{bitIn}
 use Rattle.laws.specs.Sum.{count}
 use Rattle.laws.proofs.Search.{first-passes, first-most}
+use Rattle.theory.specs.Net.{Net, unblocked}
 use Rattle.theory.specs.Greedy.{reserved}
 use Rattle.theory.specs.Verdict.{valid, clash, wrong, secondAt, clashesAt, firstAt, lowestClash, wrongIn, lowestWrong, tableVerdict}
 use Rattle.site.specs.Record.{positions, faultOf}
 use Rattle.site.specs.Reach.{netIn, netOf}
 use Rattle.site.specs.declared.Site.{Site}
 use Rattle.site.specs.declared.Fault.the-variants.{Fine}
+use Rattle.words.specs.Words.{wordAt}
+use Rattle.words.specs.Clashes.{secondIn, firstIn}
+use Rattle.words.proofs.Clashes.{second-word, first-word}
+use Rattle.checker.specs.Marks.{clashNet, loadNet, clashing}
 use Rattle.checker.specs.Check.{verdictOf, checkAnswer}
 use Rattle.checker.specs.declared.CheckAnswer.the-variants.{Valid, Clash, Count}
 
-module _ (cells n : ℕ) (reach t : List ℕ) where
+module _ (cells n : ℕ) (rows t : List ℕ) where
   -- at the lowest position with a clash there is a first cell
-  first-below : {p : ℕ} → p ≡ lowestClash (netIn cells n [] reach) (reserved n t) → p < n → firstAt (netIn cells n [] reach) (reserved n t) p < cells
+  first-below : {p : ℕ} → p ≡ lowestClash (clashNet cells n rows) (reserved n t) → p < n → firstAt (clashNet cells n rows) (reserved n t) p < cells
   unfolding lowestClash
-  first-below {p} e h =
-      rw e (ltb-true _ cells
-      (first-passes (λ k. ltb (firstAt (netIn cells n [] reach) (reserved n t) k) cells) 0 n zero-le (rw e at h)))
+  first-below e h = rw e (ltb-true _ cells (first-passes (clashing (clashNet cells n rows) (reserved n t)) 0 n zero-le (rw e at h)))
 
-  pub second-most : (p a : ℕ) → a < cells → secondAt (netIn cells n [] reach) (reserved n t) p a ≤ cells
-  unfolding secondAt
-  second-most p a h = first-most _ (a + 1) cells (omega arith)
+  module _ (p : ℕ) {word : ℕ} (whole : word ≡ wordAt cells (reserved n t) p) where
+    is-first : {a : ℕ} → a ≡ firstIn word rows cells → a ≡ firstAt (clashNet cells n rows) (reserved n t) p
+    is-first f = f ∙ ap (λ x. firstIn x rows cells) whole ∙ first-word (clashNet cells n rows) rows refl (reserved n t) p
 
-  pub first-inside : {p a : ℕ} → p ≡ lowestClash (netIn cells n [] reach) (reserved n t) → p < n
-      → a ≡ firstAt (netIn cells n [] reach) (reserved n t) p → a < cells
-  first-inside e h f = rw f (first-below e h)
+    is-second : {a c : ℕ} → a < cells → c ≡ secondIn word rows cells a → c ≡ secondAt (clashNet cells n rows) (reserved n t) p a
+    is-second {a} h g = g ∙ ap (λ x. secondIn x rows cells a) whole ∙ second-word (clashNet cells n rows) rows refl (reserved n t) p a h
 
-module _ (cells n : ℕ) (loads reach t : List ℕ) where
-  same-clash : lowestClash (netIn cells n [] reach) (reserved n t) ≡ lowestClash (netIn cells n loads reach) (reserved n t)
+    pub first-inside : {a : ℕ} → p ≡ lowestClash (clashNet cells n rows) (reserved n t) → p < n → a ≡ firstIn word rows cells → a < cells
+    first-inside e h f = rw (is-first f) (first-below e h)
+
+  pub second-most : (word a : ℕ) → a < cells → secondIn word rows cells a ≤ cells
+  unfolding secondIn
+  second-most word a h = first-most _ (a + 1) cells (omega arith)
+
+module _ (cells n : ℕ) (loads rows t : List ℕ) where
+  -- the whole problem, with the rows as its clash relation
+  abbrev pub whole : Net
+  whole = netIn cells n loads (bitIn rows) unblocked
+
+  same-clash : lowestClash (clashNet cells n rows) (reserved n t) ≡ lowestClash whole (reserved n t)
   unfolding lowestClash firstAt clashesAt secondAt
   same-clash = refl
 
-  same-first : (p : ℕ) → firstAt (netIn cells n [] reach) (reserved n t) p ≡ firstAt (netIn cells n loads reach) (reserved n t) p
+  same-first : (p : ℕ) → firstAt (clashNet cells n rows) (reserved n t) p ≡ firstAt whole (reserved n t) p
   unfolding firstAt clashesAt secondAt
   same-first p = refl
 
-  same-second : (p a : ℕ) → secondAt (netIn cells n [] reach) (reserved n t) p a ≡ secondAt (netIn cells n loads reach) (reserved n t) p a
+  same-second : (p a : ℕ) → secondAt (clashNet cells n rows) (reserved n t) p a ≡ secondAt whole (reserved n t) p a
   unfolding secondAt
   same-second p a = refl
 
-  same-wrong : lowestWrong (netIn cells n loads []) (reserved n t) ≡ lowestWrong (netIn cells n loads reach) (reserved n t)
+  same-wrong : lowestWrong (loadNet cells n loads) (reserved n t) ≡ lowestWrong whole (reserved n t)
   unfolding lowestWrong wrongIn
   same-wrong = refl
 
-  module _ {p : ℕ} (lowest : p ≡ lowestClash (netIn cells n [] reach) (reserved n t)) where
-    pub is-clash : {a c : ℕ} → p < n → a ≡ firstAt (netIn cells n [] reach) (reserved n t) p
-        → c ≡ secondAt (netIn cells n [] reach) (reserved n t) p a
-        → Clash p (a + 1) (c + 1) ≡ verdictOf (tableVerdict (netIn cells n loads reach) (reserved n t))
+  module _ {p : ℕ} (lowest : p ≡ lowestClash (clashNet cells n rows) (reserved n t)) where
+    pub is-clash : {word a c : ℕ} → p < n → word ≡ wordAt cells (reserved n t) p → a ≡ firstIn word rows cells → c ≡ secondIn word rows cells a
+        → Clash p (a + 1) (c + 1) ≡ verdictOf (tableVerdict whole (reserved n t))
     unfolding tableVerdict verdictOf
-    is-clash {a} {c} h f g =
-        let e : clash p a c ≡ tableVerdict (netIn cells n loads reach) (reserved n t) =
-        rw (sym (lowest ∙ same-clash), lt-ltb p n h, sym (f ∙ same-first p), sym (g ∙ same-second p a)) in
+    is-clash {word} {a} {c} h w f g =
+        let at : a < cells = first-inside cells n rows t p w lowest h f in
+        let e : clash p a c ≡ tableVerdict whole (reserved n t) =
+        rw (sym (lowest ∙ same-clash), lt-ltb p n h, sym (is-first cells n rows t p w f ∙ same-first p), sym (is-second cells n rows t p w at g ∙ same-second p a)) in
         ap verdictOf e
 
-    module _ (none : n ≤ p) {i : ℕ} (low : i ≡ lowestWrong (netIn cells n loads []) (reserved n t)) where
-      pub is-count : {m : ℕ} → i < cells → m ≡ count (reserved n t i) n
-          → Count (i + 1) m ≡ verdictOf (tableVerdict (netIn cells n loads reach) (reserved n t))
+    module _ (none : n ≤ p) {i : ℕ} (low : i ≡ lowestWrong (loadNet cells n loads) (reserved n t)) where
+      pub is-count : {m : ℕ} → i < cells → m ≡ count (reserved n t i) n → Count (i + 1) m ≡ verdictOf (tableVerdict whole (reserved n t))
       unfolding tableVerdict verdictOf
       is-count {m} h e =
-          let v : wrong i m ≡ tableVerdict (netIn cells n loads reach) (reserved n t) =
+          let v : wrong i m ≡ tableVerdict whole (reserved n t) =
           rw (sym (lowest ∙ same-clash), le-ltb p n none, sym (low ∙ same-wrong), lt-ltb i cells h, sym e) in
           ap verdictOf v
 
-      pub is-valid : cells ≤ i → Valid ≡ verdictOf (tableVerdict (netIn cells n loads reach) (reserved n t))
+      pub is-valid : cells ≤ i → Valid ≡ verdictOf (tableVerdict whole (reserved n t))
       unfolding tableVerdict verdictOf
       is-valid h =
-          let v : valid ≡ tableVerdict (netIn cells n loads reach) (reserved n t) =
+          let v : valid ≡ tableVerdict whole (reserved n t) =
           rw (sym (lowest ∙ same-clash), le-ltb p n none, sym (low ∙ same-wrong), le-ltb i cells h) in
           ap verdictOf v
 

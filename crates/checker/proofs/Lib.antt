@@ -1,5 +1,5 @@
 -- The laws of crate `checker`, module by module.
-pub mod Masks
+pub mod Marks
 pub mod Rows
 pub mod Lowest
 pub mod Judged

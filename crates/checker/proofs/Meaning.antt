@@ -14,7 +14,6 @@ use lib.Dec.{ltb}
 use lib.ListN.{length}
 use borrow.Author.Tests.{ltb-false}
 use Rattle.laws.specs.Choice.{pick}
-use Rattle.laws.proofs.Choice.{was-second}
 use Rattle.theory.specs.Net as net
 use Rattle.theory.specs.Greedy.{reserved}
 use Rattle.theory.specs.Verdict.{TableVerdict, valid, clash, wrong, tableVerdict}
@@ -22,6 +21,7 @@ use Rattle.theory.specs.Named.{FirstClash, FirstWrong}
 use Rattle.theory.proofs.TableLaws.{check-valid, valid-check, check-names-clash, check-names-wrong}
 use Rattle.site.specs.Record.{positions, size, faultOf, isFine}
 use Rattle.site.specs.Reach.{netOf}
+use Rattle.site.proofs.PassedOn.{passed-on}
 use Rattle.site.specs.declared.Site.{Site}
 use Rattle.site.specs.declared.Fault.{Fault}
 use Rattle.site.specs.declared.Fault.the-variants.{Fine, Size, Load, Reach}
@@ -69,14 +69,8 @@ no-refusal false (wrong i n) f e = let z : _≡_ {A = ℕ} 0 1 = cc in omega ari
 
 pub check-refused : (s : Site) (t : List ℕ) (f : Fault) → checkAnswer s t ≡ Refused f ↔ ((f ≡ faultOf s) × (isFine f ≡ false))
 unfolding checkAnswer
-check-refused s t f = (
-  λ e.
-      let w = was-second (isFine (faultOf s)) _ _ (no-refusal (ltb (length t) (size s)) (tableVerdict (netOf s) (reserved (positions s) t)) f) e in
-      let e′ : Refused (faultOf s) ≡ Refused f = w .1 in
-      let same : f ≡ faultOf s = cc in
-      (same, ap isFine same ∙ w .0),
-  λ h. rw (← h .0, h .1),
-)
+check-refused s t =
+    passed-on Refused (λ f g e. cc) (faultOf s) _ (no-refusal (ltb (length t) (size s)) (tableVerdict (netOf s) (reserved (positions s) t)))
 
 was-valid : (v : TableVerdict) → verdictOf v ≡ Valid → v ≡ valid
 unfolding verdictOf

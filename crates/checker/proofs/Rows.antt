@@ -1,7 +1,7 @@
 -- What is counted: the copy of a row holds as often as the row does, and where a count is not the load. Assumes nothing.
 use mathlib.Core.Path.{_≡_, ap, _∙_}
 use mathlib.Core.Bool.{true, false, not}
-use mathlib.Core.List.{List, []}
+use mathlib.Core.List.{List}
 use Prim.Native.Nat.{ℕ, _+_, _-_, _*_, _≤_}
 use native.Mathlib.Nat.{sub-zero}
 use native.Mathlib.Omega.{arith}
@@ -12,10 +12,10 @@ use Rattle.laws.specs.Sum.{bit, count}
 use Rattle.laws.proofs.Sums.{sum-eq}
 use Rattle.theory.specs.Greedy.{sends, reserved, held}
 use Rattle.theory.specs.Verdict.{wrongIn}
-use Rattle.site.specs.Reach.{netIn}
 use lib.Seq.{sets}
 use Rattle.laws.specs.Part.{listOf}
 use Rattle.laws.proofs.Stores.{sets-long, sets-at}
+use Rattle.checker.specs.Marks.{loadNet}
 
 -- w is a row with cell i's bytes copied to its start
 pub copied : (n i : ℕ) (t row w : List ℕ) → n ≤ length row → w ≡ sets row 0 (listOf (λ k. getD t (i * n + k) 0) n)
@@ -29,10 +29,10 @@ copied n i t row w h e =
 
 -- a count against a load
 module _ (cells n : ℕ) (loads t : List ℕ) (i : ℕ) {c : ℕ} (counted : c ≡ count (reserved n t i) n) where
-  pub is-wrong : (c ≡ getD loads i 0 → ⊥) → wrongIn (netIn cells n loads []) (reserved n t) i ≡ true
+  pub is-wrong : (c ≡ getD loads i 0 → ⊥) → wrongIn (loadNet cells n loads) (reserved n t) i ≡ true
   unfolding wrongIn
   is-wrong h = rw (← counted) (ap not (ne-eqb c (getD loads i 0) h))
 
-  pub is-right : c ≡ getD loads i 0 → wrongIn (netIn cells n loads []) (reserved n t) i ≡ false
+  pub is-right : c ≡ getD loads i 0 → wrongIn (loadNet cells n loads) (reserved n t) i ≡ false
   unfolding wrongIn
   is-right h = rw (← counted) (ap not (eq-eqb c (getD loads i 0) h))

@@ -1,4 +1,4 @@
 -- The definitions of crate `checker`, module by module.
-pub mod Masks
+pub mod Marks
 pub mod Check
 pub mod Given

@@ -1,25 +1,23 @@
 // The checker of finished tables: the first clash, then the first wrong number of reservations.
 //
-// What it costs, for I cells and N positions: each row is read once to gather a word for each position (I times N steps), each cell that clashes
-// with a cell above it is tried against the words (at most I times N steps, and none for a cell without such clashes), and each row is copied and
-// counted (I times N steps each). All of these are passes over neighbouring places without a branch. Pairs of cells are looked at once for each
-// call, and at one position, the one that the answer names; never at each position.
+// What it costs, for I cells and N positions: each row is read once to join its cell to a word for each position and to try it there against the cells joined
+// before it (I times N steps), and each row is copied and counted (I times N steps each). All of these are passes over neighbouring places without a branch,
+// and the search for a clash ends at the first 64 positions that have one. Pairs of cells are looked at at one position, the one that the answer names.
 ghost use mathlib.Core.Path.{_≡_};
-ghost use mathlib.Core.Bool.{_&&_, not};
-ghost use mathlib.Core.List.{[]};
+ghost use mathlib.Core.Bool.{not};
 ghost use Prim.Native.Nat.{_+_, _*_, _≤_, _<_};
 ghost use lib.Dec.{eqb};
 ghost use lib.ListN.{length, getD};
 ghost use lib.Seq.{sets};
-ghost use Rattle.laws.specs.Choice.{pick};
-ghost use Rattle.laws.specs.Bits.{setBit};
+ghost use Rattle.laws.specs.Bits.{bitIn};
 ghost use Rattle.laws.specs.Part.{listOf};
 ghost use Rattle.laws.specs.Search.{first};
 ghost use Rattle.laws.specs.Sum.{bit, count};
+ghost use Rattle.theory.specs.Net.{unblocked};
 ghost use Rattle.theory.specs.Greedy.{sends, reserved, held};
-ghost use Rattle.theory.specs.Verdict.{secondAt, clashesAt, firstAt, lowestClash, lowestWrong, tableVerdict};
-ghost use Rattle.site.specs.Reach.{clashIn, netIn};
-ghost use Rattle.checker.specs.Masks.{maskOf, meets, markedAt, markAt};
+ghost use Rattle.theory.specs.Verdict.{lowestClash, lowestWrong, tableVerdict};
+ghost use Rattle.site.specs.Reach.{netIn};
+ghost use Rattle.checker.specs.Marks.{clashNet, loadNet, clashing, Zeros, Marks};
 ghost use Rattle.checker.specs.Check.{verdictOf, checkAnswer};
 use site::Fault;
 use site::Site;
@@ -34,70 +32,26 @@ pub enum CheckAnswer {
     Refused(Fault),
 }
 
-// The mask with cell c joined, where it is to be.
-fn joined(mask: u32, with: bool, c: usize) -> u32
-    requires { ⌜ c < 32 ⌝ }
-    ensures { λ r. ⌜ r ≡ pick with (setBit mask c) mask ⌝ }
+// Marks each of m positions, from `from` on, that has a clash: there the mark is not 0. Cells are joined from the highest down, so each meets those
+// above it. The words and marks that are lent are 0.
+fn mark_clashes(
+    words: &mut [u32],
+    marks: &mut [u32],
+    table: &[u8],
+    n: usize,
+    from: usize,
+    m: usize,
+    clash: &[u32; 32],
+    cells: usize,
+)
+    requires { ⌜ (cells ≤ 32) × (m ≤ length (now words)) × (m ≤ length (now marks)) × (from + m ≤ n) × (cells * n ≤ length (now table)) ⌝ }
+    requires { ⌜ Zeros m (now words) × Zeros m (now marks) ⌝ }
+    ensures { λ _. ⌜ Marks (clashNet cells n (now (clash .entry))) (reserved n (now (table .entry))) from m 0 (now (marks .exit)) ⌝ }
 {
-    if with {
-        return mask | (1 << c);
-    }
-    mask
-}
-
-// The word of the cells above a that clash with it.
-fn mask_of(reach: &[u32; 32], cells: usize, a: usize) -> u32
-    requires { ⌜ (cells ≤ 32) × (a < cells) ⌝ }
-    ensures { λ r. ⌜ r ≡ maskOf (clashIn (now (reach .entry))) cells a ⌝ }
-{
-    let mut mask: u32 = 0;
-    for c in a + 1..cells {
-        mask = joined(mask, site::clashes(reach, a, c), c);
-    }
-    mask
-}
-
-// 1 where cell a is in the word together with a cell of the mask, else 0.
-fn met(word: u32, mask: u32, a: usize) -> u32
-    requires { ⌜ a < 32 ⌝ }
-    ensures { λ r. ⌜ r ≡ bit (meets word mask a) ⌝ }
-{
-    if word & mask == 0 {
-        return 0;
-    }
-    (word >> a) % 2
-}
-
-// Marks each position where cell a is in the word together with a cell of the mask.
-fn mark_row(marks: &mut [u32], words: &[u32], n: usize, mask: u32, a: usize)
-    requires { ⌜ (a < 32) × (n ≤ length (now marks)) × (n ≤ length (now words)) ⌝ }
-    ensures { λ _. ⌜ now (marks .exit) ≡ sets (now (marks .entry)) 0 (listOf (markedAt (now (marks .entry)) (now (words .entry)) mask a) n) ⌝ }
-{
-    for p in 0..n {
-        marks[p] = marks[p] | met(words[p], mask, a);
-    }
-}
-
-// Marks each position where cell a clashes with a cell above it. Where there is no such cell nothing is looked at.
-fn mark_cell(marks: &mut [u32], words: &[u32], n: usize, reach: &[u32; 32], cells: usize, a: usize)
-    requires { ⌜ (cells ≤ 32) × (a < cells) × (n ≤ length (now marks)) × (n ≤ length (now words)) ⌝ }
-    ensures { λ _. ⌜ now (marks .exit) ≡ sets (now (marks .entry)) 0 (listOf (markedAt (now (marks .entry)) (now (words .entry)) (maskOf (clashIn (now (reach .entry))) cells a) a) n) ⌝ }
-{
-    let mask = mask_of(reach, cells, a);
-    if mask == 0 {
-        return;
-    }
-    mark_row(marks, words, n, mask, a);
-}
-
-// Marks each position with a clash.
-fn mark_all(marks: &mut [u32], words: &[u32], n: usize, reach: &[u32; 32], cells: usize)
-    requires { ⌜ (cells ≤ 32) × (n ≤ length (now marks)) × (n ≤ length (now words)) ⌝ }
-    ensures { λ _. ⌜ now (marks .exit) ≡ sets (now (marks .entry)) 0 (listOf (markAt (clashIn (now (reach .entry))) cells (now (words .entry)) cells) n) ⌝ }
-{
-    words::clear(marks, n);
-    for a in 0..cells {
-        mark_cell(marks, words, n, reach, cells, a);
+    let mut a = cells;
+    while 0 < a {
+        a -= 1;
+        words::join_row(words, marks, table, a * n + from, m, 1 << a, clash[a]);
     }
 }
 
@@ -116,67 +70,43 @@ fn lowest_marked(marks: &[u32], n: usize) -> usize
     p
 }
 
+// The lowest of m positions, from `from` on, that has a clash, counted from `from`; m where there is none.
+fn clash_in(table: &[u8], n: usize, from: usize, m: usize, clash: &[u32; 32], cells: usize) -> usize
+    requires { ⌜ (cells ≤ 32) × (m ≤ 64) × (from + m ≤ n) × (cells * n ≤ length (now table)) ⌝ }
+    ensures { λ r. ⌜ r ≡ first (λ k. clashing (clashNet cells n (now (clash .entry))) (reserved n (now (table .entry))) (from + k)) 0 m ⌝ }
+{
+    let mut words = [0u32; 64];
+    let mut marks = [0u32; 64];
+    mark_clashes(&mut words, &mut marks, table, n, from, m, clash, cells);
+    lowest_marked(&marks, m)
+}
+
+// How many of the positions that are left are looked at together.
+fn together(left: usize) -> usize
+    requires { ⌜ 0 < left ⌝ }
+    ensures { λ r. ⌜ (r ≤ left) × (r ≤ 64) × (0 < r) ⌝ }
+{
+    if left < 64 {
+        return left;
+    }
+    64
+}
+
 // The lowest position with a clash; n where there is none.
-fn lowest_clash(table: &[u8], n: usize, reach: &[u32; 32], cells: usize) -> usize
-    requires { ⌜ (cells ≤ 32) × (n ≤ 2048) × (cells * n ≤ length (now table)) ⌝ }
-    ensures { λ r. ⌜ r ≡ lowestClash (netIn cells n [] (now (reach .entry))) (reserved n (now (table .entry))) ⌝ }
+fn lowest_clash(table: &[u8], n: usize, clash: &[u32; 32], cells: usize) -> usize
+    requires { ⌜ (cells ≤ 32) × (cells * n ≤ length (now table)) ⌝ }
+    ensures { λ r. ⌜ r ≡ lowestClash (clashNet cells n (now (clash .entry))) (reserved n (now (table .entry))) ⌝ }
 {
-    let mut words = [0u32; 2048];
-    words::gather(&mut words, table, n, cells);
-    let mut marks = [0u32; 2048];
-    mark_all(&mut marks, &words, n, reach, cells);
-    lowest_marked(&marks, n)
-}
-
-// Whether a byte of cell c is a reservation and c clashes with a.
-fn against(byte: u8, reach: &[u32; 32], a: usize, c: usize) -> bool
-    ensures { λ r. ⌜ r ≡ (clashIn (now (reach .entry)) a c && sends byte) ⌝ }
-{
-    if byte != 1 {
-        return false;
-    }
-    site::clashes(reach, a, c)
-}
-
-// At position p: the first cell above a that clashes with it and is reserved; the number of cells where there is none.
-fn second_at(table: &[u8], n: usize, reach: &[u32; 32], cells: usize, p: usize, a: usize) -> usize
-    requires { ⌜ (cells ≤ 32) × (cells * n ≤ length (now table)) × (p < n) × (a < cells) ⌝ }
-    ensures { λ r. ⌜ r ≡ secondAt (netIn cells n [] (now (reach .entry))) (reserved n (now (table .entry))) p a ⌝ }
-{
-    let mut c = a + 1;
-    while c < cells {
-        if against(table[c * n + p], reach, a, c) {
-            return c;
+    let mut from: usize = 0;
+    while from < n {
+        let m = together(n - from);
+        let p = clash_in(table, n, from, m, clash, cells);
+        if p < m {
+            return from + p;
         }
-        c += 1;
+        from += m;
     }
-    c
-}
-
-// Whether cell a is reserved at position p and clashes there with a cell above it.
-fn clashes_at(table: &[u8], n: usize, reach: &[u32; 32], cells: usize, p: usize, a: usize) -> bool
-    requires { ⌜ (cells ≤ 32) × (cells * n ≤ length (now table)) × (p < n) × (a < cells) ⌝ }
-    ensures { λ r. ⌜ r ≡ clashesAt (netIn cells n [] (now (reach .entry))) (reserved n (now (table .entry))) p a ⌝ }
-{
-    if table[a * n + p] != 1 {
-        return false;
-    }
-    second_at(table, n, reach, cells, p, a) < cells
-}
-
-// The first cell with a clash at position p; the number of cells where there is none.
-fn first_at(table: &[u8], n: usize, reach: &[u32; 32], cells: usize, p: usize) -> usize
-    requires { ⌜ (cells ≤ 32) × (cells * n ≤ length (now table)) × (p < n) ⌝ }
-    ensures { λ r. ⌜ r ≡ firstAt (netIn cells n [] (now (reach .entry))) (reserved n (now (table .entry))) p ⌝ }
-{
-    let mut a = 0;
-    while a < cells {
-        if clashes_at(table, n, reach, cells, p, a) {
-            return a;
-        }
-        a += 1;
-    }
-    a
+    from
 }
 
 // Copies the n bytes of a table from `from` on to the start of a row.
@@ -211,20 +141,32 @@ fn count_row(row: &[u8]) -> usize
     count as usize
 }
 
-// How often cell i is reserved. Its row is copied, and the copy is counted.
+// How often cell i is reserved. Its row is copied to the row that is lent, and the copy is counted.
+fn count_copy(row: &mut [u8], table: &[u8], n: usize, i: usize) -> usize
+    requires { ⌜ (n ≤ 2048) × (n ≤ length (now row)) × (i * n + n ≤ length (now table)) ⌝ }
+    ensures { λ r. ⌜ r ≡ count (reserved n (now (table .entry)) i) n ⌝ }
+{
+    copy_row(row, table, i * n, n);
+    count_row(&row[0..n])
+}
+
+// How often cell i is reserved. A row of few positions has a small copy.
 fn row_count(table: &[u8], n: usize, i: usize) -> usize
     requires { ⌜ (n ≤ 2048) × (i * n + n ≤ length (now table)) ⌝ }
     ensures { λ r. ⌜ r ≡ count (reserved n (now (table .entry)) i) n ⌝ }
 {
+    if n <= 128 {
+        let mut row = [0u8; 128];
+        return count_copy(&mut row, table, n, i);
+    }
     let mut row = [0u8; 2048];
-    copy_row(&mut row, table, i * n, n);
-    count_row(&row[0..n])
+    count_copy(&mut row, table, n, i)
 }
 
 // The lowest cell that is not reserved as often as its load says; the number of cells where there is none.
 fn lowest_wrong(table: &[u8], n: usize, loads: [u16; 32], cells: usize) -> usize
     requires { ⌜ (cells ≤ 32) × (n ≤ 2048) × (cells * n ≤ length (now table)) ⌝ }
-    ensures { λ r. ⌜ r ≡ lowestWrong (netIn cells n loads []) (reserved n (now (table .entry))) ⌝ }
+    ensures { λ r. ⌜ r ≡ lowestWrong (loadNet cells n loads) (reserved n (now (table .entry))) ⌝ }
 {
     let mut i = 0;
     while i < cells {
@@ -239,14 +181,15 @@ fn lowest_wrong(table: &[u8], n: usize, loads: [u16; 32], cells: usize) -> usize
 }
 
 // The verdict on a table that is long enough: its first clash, else its first wrong count.
-fn judge(table: &[u8], n: usize, reach: &[u32; 32], loads: [u16; 32], cells: usize) -> CheckAnswer
+fn judge(table: &[u8], n: usize, clash: &[u32; 32], loads: [u16; 32], cells: usize) -> CheckAnswer
     requires { ⌜ (cells ≤ 32) × (n ≤ 2048) × (cells * n ≤ length (now table)) ⌝ }
-    ensures { λ r. ⌜ r ≡ verdictOf (tableVerdict (netIn cells n loads (now (reach .entry))) (reserved n (now (table .entry)))) ⌝ }
+    ensures { λ r. ⌜ r ≡ verdictOf (tableVerdict (netIn cells n loads (bitIn (now (clash .entry))) unblocked) (reserved n (now (table .entry)))) ⌝ }
 {
-    let p = lowest_clash(table, n, reach, cells);
+    let p = lowest_clash(table, n, clash, cells);
     if p < n {
-        let a = first_at(table, n, reach, cells, p);
-        let c = second_at(table, n, reach, cells, p, a);
+        let word = words::word_at(table, n, cells, p);
+        let a = words::first_in(word, clash, cells);
+        let c = words::second_in(word, clash, cells, a);
         return CheckAnswer::Clash(p, a + 1, c + 1);
     }
     let i = lowest_wrong(table, n, loads, cells);
@@ -269,7 +212,7 @@ pub fn check(site: Site, table: &[u8]) -> CheckAnswer
     if table.len() < cells * n {
         return CheckAnswer::TableShort;
     }
-    let reach = site.reach;
+    let clash = site.clash_rows();
     let loads = site.loads;
-    judge(table, n, &reach, loads, cells)
+    judge(table, n, &clash, loads, cells)
 }

@@ -2,22 +2,25 @@
 -- Assumes nothing.
 use Prim.Native.Nat.{ℕ}
 use mathlib.Core.Path.{_≡_, refl, sym, ap, _∙_}
-use mathlib.Core.Bool.{true, not, false≢true}
+use mathlib.Core.Bool.{true, false≢true}
 use mathlib.Core.List.{List, [], _∷_, map}
 use lib.Dec.{eqb}
 use lib.ListN.{length, getD}
 use Rattle.laws.specs.Choice.{pick}
+use Rattle.theory.specs.Verdict.{LoadVerdict, holds, over, loadVerdict, ChainVerdict, chained, broken, chainVerdict}
+use Rattle.site.specs.Record.{faultOf}
+use Rattle.site.specs.Reach.{netOf}
 use Rattle.site.specs.Given.{Given}
 use Rattle.site.specs.declared.Site.{Site}
 use Rattle.site.specs.declared.Fault.the-variants.{Fine, Size, Load, Reach}
 use Rattle.site.proofs.Given.{faultFrom}
-use Rattle.judges.specs.Judges.{loadAnswer, chainAnswer}
+use Rattle.site.proofs.PassedOn.{proper-call}
+use Rattle.judges.specs.Judges.{counted, loadOf, loadAnswer, chainOf, chainAnswer}
 use Rattle.judges.specs.Given.{loadGiven, loadProper, chainGiven, chainProper}
 use Rattle.judges.specs.declared.LoadAnswer.{LoadAnswer}
 use Rattle.judges.specs.declared.LoadAnswer.the-variants as load
 use Rattle.judges.specs.declared.ChainAnswer.{ChainAnswer}
 use Rattle.judges.specs.declared.ChainAnswer.the-variants as chain
-use Rattle.judges.proofs.Meaning.{load-refused, chain-refused}
 
 -- ---- the load test
 
@@ -37,13 +40,13 @@ pub load-apart : (a b : LoadAnswer) → loadProper a ≡ true → loadProper b �
 load-apart a b p q e = sym (load-back a p) ∙ ap loadFrom e ∙ load-back b q
 
 -- no call answers a refusal with no fault
-load-proper-at : (s : Site) (a : LoadAnswer) → loadAnswer s ≡ a → loadProper a ≡ true
-load-proper-at s load.Holds e = refl
-load-proper-at s (load.Over cell excess) e = refl
-load-proper-at s (load.Refused f) e = ap not (load-refused s f .0 e .1)
+load-verdict-proper : (v : LoadVerdict) → loadProper (loadOf v) ≡ true
+load-verdict-proper holds = refl
+load-verdict-proper (over i m) = refl
 
 pub load-proper : (s : Site) → loadProper (loadAnswer s) ≡ true
-load-proper s = load-proper-at s (loadAnswer s) refl
+unfolding loadAnswer
+load-proper s = proper-call loadProper load.Refused (λ g. refl) (faultOf s) _ (load-verdict-proper (loadVerdict (netOf s) (counted s)))
 
 -- the numbers and the values, in their order, of an answer of each kind
 abbrev loads : (cell excess row : ℕ) → List LoadAnswer
@@ -71,13 +74,13 @@ pub chain-apart : (a b : ChainAnswer) → chainProper a ≡ true → chainProper
 chain-apart a b p q e = sym (chain-back a p) ∙ ap chainFrom e ∙ chain-back b q
 
 -- no call answers a refusal with no fault
-chain-proper-at : (s : Site) (a : ChainAnswer) → chainAnswer s ≡ a → chainProper a ≡ true
-chain-proper-at s chain.Chained e = refl
-chain-proper-at s (chain.Broken a b c) e = refl
-chain-proper-at s (chain.Refused f) e = ap not (chain-refused s f .0 e .1)
+chain-verdict-proper : (v : ChainVerdict) → chainProper (chainOf v) ≡ true
+chain-verdict-proper chained = refl
+chain-verdict-proper (broken a b c) = refl
 
 pub chain-proper : (s : Site) → chainProper (chainAnswer s) ≡ true
-chain-proper s = chain-proper-at s (chainAnswer s) refl
+unfolding chainAnswer
+chain-proper s = proper-call chainProper chain.Refused (λ g. refl) (faultOf s) _ (chain-verdict-proper (chainVerdict (netOf s) (counted s)))
 
 -- the numbers and the values, in their order, of an answer of each kind
 abbrev chains : (a b c cell row : ℕ) → List ChainAnswer

@@ -5,8 +5,9 @@ use mathlib.Core.Logic.{_↔_}
 use mathlib.Core.Path.{_≡_, refl, sym, ap, _∙_}
 use native.Mathlib.Omega.{arith}
 use mathlib.Core.Bool.{false}
-use Rattle.laws.proofs.Choice.{went-first, was-second}
-use Rattle.theory.specs.Net.{LoadTest, Chained}
+use Rattle.laws.proofs.Choice.{went-first}
+use Rattle.theory.specs.Net.{Covers, LoadTest, Chained}
+use Rattle.theory.proofs.Exact.{covers-everyone}
 use Rattle.theory.specs.Verdict.{LoadVerdict, holds, over, loadVerdict, ChainVerdict, chained, broken, chainVerdict}
 use Rattle.theory.specs.Named.{FirstOver, FirstBreaks}
 use Rattle.theory.proofs.LoadLaws.{load-holds, load-names}
@@ -17,11 +18,16 @@ use Rattle.site.specs.declared.Site.{Site}
 use Rattle.site.specs.declared.Fault.{Fault}
 use Rattle.site.specs.declared.Fault.the-variants.{Fine}
 use Rattle.site.proofs.Faults.{fine-is}
+use Rattle.site.proofs.PassedOn.{passed-on}
 use Rattle.judges.specs.Judges.{counted, loadOf, loadAnswer, chainOf, chainAnswer}
 use Rattle.judges.specs.declared.LoadAnswer.{LoadAnswer}
 use Rattle.judges.specs.declared.LoadAnswer.the-variants as load
 use Rattle.judges.specs.declared.ChainAnswer.{ChainAnswer}
 use Rattle.judges.specs.declared.ChainAnswer.the-variants as chain
+
+-- no loaded cell is left out of the rules, so that what they say of a site is said of its plans
+pub covers-counted : (s : Site) → Covers (netOf s) (counted s)
+covers-counted s = covers-everyone (netOf s)
 
 -- the answer that a verdict was made into
 load-is-holds : (v : LoadVerdict) → loadOf v ≡ load.Holds → v ≡ holds
@@ -72,14 +78,7 @@ load-no-refusal (over i m) f e = let z : _≡_ {A = ℕ} 0 1 = cc in omega arith
 
 pub load-refused : (s : Site) (f : Fault) → loadAnswer s ≡ load.Refused f ↔ ((f ≡ faultOf s) × (isFine f ≡ false))
 unfolding loadAnswer
-load-refused s f = (
-  λ e.
-      let w = was-second (isFine (faultOf s)) _ _ (load-no-refusal (loadVerdict (netOf s) (counted s)) f) e in
-      let e′ : load.Refused (faultOf s) ≡ load.Refused f = w .1 in
-      let same : f ≡ faultOf s = cc in
-      (same, ap isFine same ∙ w .0),
-  λ h. rw (← h .0, h .1),
-)
+load-refused s = passed-on load.Refused (λ f g e. cc) (faultOf s) _ (load-no-refusal (loadVerdict (netOf s) (counted s)))
 
 chain-no-refusal : (v : ChainVerdict) (f : Fault) → chainOf v ≡ chain.Refused f → ⊥
 chain-no-refusal chained f e = let z : _≡_ {A = ℕ} 0 1 = cc in omega arith
@@ -87,14 +86,7 @@ chain-no-refusal (broken a b c) f e = let z : _≡_ {A = ℕ} 0 1 = cc in omega 
 
 pub chain-refused : (s : Site) (f : Fault) → chainAnswer s ≡ chain.Refused f ↔ ((f ≡ faultOf s) × (isFine f ≡ false))
 unfolding chainAnswer
-chain-refused s f = (
-  λ e.
-      let w = was-second (isFine (faultOf s)) _ _ (chain-no-refusal (chainVerdict (netOf s) (counted s)) f) e in
-      let e′ : chain.Refused (faultOf s) ≡ chain.Refused f = w .1 in
-      let same : f ≡ faultOf s = cc in
-      (same, ap isFine same ∙ w .0),
-  λ h. rw (← h .0, h .1),
-)
+chain-refused s = passed-on chain.Refused (λ f g e. cc) (faultOf s) _ (chain-no-refusal (chainVerdict (netOf s) (counted s)))
 
 -- "The load test holds when, for each cell, its load plus the loads of its lower-numbered clashing cells is at most N"
 pub holds-means : (s : Site) → loadAnswer s ≡ load.Holds ↔ ((faultOf s ≡ Fine) × LoadTest (netOf s) (counted s))

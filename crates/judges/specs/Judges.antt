@@ -2,6 +2,7 @@
 -- "Load test and chain judge are verdicts; they refuse only with 1 to 3." Cells are named by number, from 1.
 use Prim.Native.Nat.{ℕ, _+_}
 use mathlib.Core.Bool.{Bool}
+use mathlib.Core.List.{List}
 use Rattle.laws.specs.Choice.{pick}
 use Rattle.theory.specs.Net.{everyone}
 use Rattle.theory.specs.Verdict.{LoadVerdict, holds, over, loadVerdict, ChainVerdict, chained, broken, chainVerdict}
@@ -13,9 +14,12 @@ use Rattle.judges.specs.declared.LoadAnswer.the-variants as load
 use Rattle.judges.specs.declared.ChainAnswer.{ChainAnswer}
 use Rattle.judges.specs.declared.ChainAnswer.the-variants as chain
 
--- the cells that the two rules are about: "for each cell", "for every clashing pair"
+-- the cells that the two rules are about, by the loads: "for each cell", "for every clashing pair"
+abbrev pub countedIn : List ℕ → ℕ → Bool
+countedIn loads = everyone
+
 abbrev pub counted : Site → ℕ → Bool
-counted s = everyone
+counted s = countedIn (s .loads)
 
 -- "If not, it names the lowest cell that is over and by how much."
 abbrev pub loadOf : LoadVerdict → LoadAnswer

@@ -1,3 +1,4 @@
 -- The definitions of crate `judges`, module by module.
 pub mod Judges
 pub mod Given
+pub mod Words

@@ -1,16 +1,14 @@
-// The verdicts on a site: the load test, and the judge of the chain. Loads and rows are copied out of the record once, and lent to the loops.
+// The verdicts on a site: the load test, and the judge of the chain. Both ask the clash rows and the word of the cells that count, and go from one cell of a word to the
+// next without a look at those between.
 ghost use mathlib.Core.Path.{_≡_};
-ghost use Prim.Native.Nat.{_*_, _≤_, _<_};
+ghost use Prim.Native.Nat.{_≤_, _<_};
 ghost use lib.ListN.{getD};
-ghost use mathlib.Core.List.{[]};
-ghost use mathlib.Core.Bool.{_||_};
-ghost use Rattle.laws.specs.Bits.{bitAt};
+ghost use Rattle.laws.specs.Bits.{bitAt, bitIn, wordOf};
 ghost use Rattle.laws.specs.Choice.{pick};
 ghost use Rattle.laws.specs.Search.{first};
-ghost use Rattle.site.specs.Reach.{clashIn, netIn};
-ghost use Rattle.theory.specs.Net.{everyone, lower, demand};
-ghost use Rattle.theory.specs.Verdict.{lowestOver, gap, breakOf, firstBreak};
-ghost use Rattle.judges.specs.Judges.{loadAnswer, chainAnswer};
+ghost use Rattle.theory.specs.Verdict.{gap, breakOf, firstBreak};
+ghost use Rattle.judges.specs.Judges.{countedIn, loadAnswer, chainAnswer};
+ghost use Rattle.judges.specs.Words.{loadsIn, demandIn, overIn, chainIn};
 use site::Fault;
 use site::Site;
 
@@ -28,55 +26,102 @@ pub enum ChainAnswer {
     Refused(Fault),
 }
 
-// A number of two bytes as a `usize`, with its bound.
-fn wide(x: u16) -> usize
+// A load as a number that sums of loads fit, with its bound.
+fn wide(x: u16) -> u32
     ensures { λ r. ⌜ (r ≡ x) × (r ≤ 65535) ⌝ }
 {
-    x as usize
+    x as u32
 }
 
-// What cell j adds to the demand of cell i.
-fn share(loads: &[u16; 32], reach: &[u32; 32], i: usize, j: usize) -> usize
+// The word of the cells, of so many, that the two rules are about.
+fn counted(loads: &[u16; 32], cells: usize) -> u32
+    requires { ⌜ cells ≤ 32 ⌝ }
+    ensures { λ r. ⌜ r ≡ wordOf (countedIn (now (loads .entry))) cells ⌝ }
+{
+    ((1u64 << cells) - 1) as u32
+}
+
+// Whether a word has cell i.
+fn has(word: u32, i: usize) -> bool
+    requires { ⌜ i < 32 ⌝ }
+    ensures { λ r. ⌜ r ≡ bitAt word i ⌝ }
+{
+    (word >> i) % 2 == 1
+}
+
+// The lowest cell that a word has from `from` on and below `end`; `end` where there is none, since the zeros are counted up to a bit that is set there.
+fn lowest(word: u32, from: usize, end: usize) -> usize
+    requires { ⌜ (from ≤ end) × (end ≤ 32) ⌝ }
+    ensures { λ r. ⌜ r ≡ first (bitAt word) from end ⌝ }
+{
+    let left = (word as u64 | (1u64 << end)) >> from;
+    from + u64::trailing_zeros(left) as usize
+}
+
+// The load of cell j where a word has it, else 0.
+fn load_at(load: u16, word: u32, j: usize) -> u32
     requires { ⌜ j < 32 ⌝ }
-    ensures { λ r. ⌜ (r ≡ pick (clashIn (now (reach .entry)) j i) (getD (now (loads .entry)) j 0) 0) × (r ≤ 65535) ⌝ }
+    ensures { λ r. ⌜ (r ≡ pick (bitAt word j) load 0) × (r ≤ 65535) ⌝ }
 {
-    let load = wide(loads[j]);
-    if site::clashes(reach, j, i) {
-        return load;
-    }
-    0
+    (word >> j) % 2 * (load as u32)
 }
 
-// The loads of the cells below i that clash with i.
-fn lower(loads: &[u16; 32], reach: &[u32; 32], i: usize) -> usize
-    requires { ⌜ i ≤ 32 ⌝ }
-    ensures { λ r. ⌜ (r ≡ lower (netIn 0 0 (now (loads .entry)) (now (reach .entry))) i) × (r ≤ 2097120) ⌝ }
+// The loads of the cells of a word, each cell asked: fast for a word with many.
+fn loads_of_many(loads: &[u16; 32], word: u32) -> u32
+    ensures { λ r. ⌜ (r ≡ loadsIn (now (loads .entry)) word) × (r ≤ 2097120) ⌝ }
 {
-    let mut sum: usize = 0;
-    let mut j = 0;
-    while j < i {
-        sum += share(loads, reach, i, j);
-        j += 1;
+    let mut sum: u32 = 0;
+    for j in 0..32 {
+        sum += load_at(loads[j], word, j);
     }
     sum
 }
 
-// The load of cell i, and the loads of its lower clashing cells.
-fn demand(loads: &[u16; 32], reach: &[u32; 32], i: usize) -> usize
-    requires { ⌜ i < 32 ⌝ }
-    ensures { λ r. ⌜ r ≡ demand (netIn 0 0 (now (loads .entry)) (now (reach .entry))) i ⌝ }
+// The loads of the cells of a word: those of up to three cells one by one.
+fn loads_of(loads: &[u16; 32], word: u32) -> u32
+    ensures { λ r. ⌜ (r ≡ loadsIn (now (loads .entry)) word) × (r ≤ 2097120) ⌝ }
 {
-    wide(loads[i]) + lower(loads, reach, i)
+    let mut sum: u32 = 0;
+    let mut summed: usize = 0;
+    let mut j = lowest(word, 0, 32);
+    while j < 32 {
+        if 3 <= summed {
+            return loads_of_many(loads, word);
+        }
+        sum += wide(loads[j]);
+        summed += 1;
+        j = lowest(word, j + 1, 32);
+    }
+    sum
 }
 
-// The lowest cell whose demand is above the room; the number of cells where there is none.
-fn first_over(loads: &[u16; 32], reach: &[u32; 32], cells: usize, room: usize) -> usize
+// The load of cell i, and the loads of the cells below i in its clash row.
+fn demand(loads: &[u16; 32], row: u32, i: usize) -> u32
+    requires { ⌜ i < 32 ⌝ }
+    ensures { λ r. ⌜ r ≡ demandIn (now (loads .entry)) row i ⌝ }
+{
+    wide(loads[i]) + loads_of(loads, row & ((1 << i) - 1))
+}
+
+// Whether cell i counts, and its demand is above the room.
+fn is_over(loads: &[u16; 32], row: u32, who: u32, room: u32, i: usize) -> bool
+    requires { ⌜ i < 32 ⌝ }
+    ensures { λ r. ⌜ r ≡ overIn (now (loads .entry)) row who room i ⌝ }
+{
+    if !has(who, i) {
+        return false;
+    }
+    room < demand(loads, row, i)
+}
+
+// The lowest cell that counts and whose demand is above the room; the number of cells where there is none.
+fn first_over(loads: &[u16; 32], clash: &[u32; 32], who: u32, cells: usize, room: u32) -> usize
     requires { ⌜ cells ≤ 32 ⌝ }
-    ensures { λ r. ⌜ r ≡ lowestOver (netIn cells room (now (loads .entry)) (now (reach .entry))) everyone ⌝ }
+    ensures { λ r. ⌜ r ≡ first (λ i. overIn (now (loads .entry)) (getD (now (clash .entry)) i 0) who room i) 0 cells ⌝ }
 {
     let mut i = 0;
     while i < cells {
-        if room < demand(loads, reach, i) {
+        if is_over(loads, clash[i], who, room, i) {
             return i;
         }
         i += 1;
@@ -93,73 +138,46 @@ pub fn load_test(site: Site) -> LoadAnswer
         return LoadAnswer::Refused(f);
     };
     let cells = site.cells as usize;
-    let room = site.slots as usize * site.channels as usize;
+    let room = site.slots as u32 * site.channels as u32;
     let loads = site.loads;
-    let reach = site.reach;
-    let i = first_over(&loads, &reach, cells, room);
+    let clash = site.clash_rows();
+    let who = counted(&loads, cells);
+    let i = first_over(&loads, &clash, who, cells, room);
     if i < cells {
-        let d = demand(&loads, &reach, i);
-        return LoadAnswer::Over(i + 1, d - room);
+        let d = demand(&loads, clash[i], i);
+        return LoadAnswer::Over(i + 1, (d - room) as usize);
     }
     LoadAnswer::Holds
 }
 
-// The first cell between a and c that does not clash with a; c where there is none.
-fn gap(reach: &[u32; 32], a: usize, c: usize) -> usize
-    requires { ⌜ (a < 32) × (c ≤ 32) ⌝ }
-    ensures { λ r. ⌜ r ≡ gap (netIn 0 0 [] (now (reach .entry))) everyone a c ⌝ }
+// The first cell between a and c that counts and is not in the clash row of a; c where there is none.
+fn gap(row: u32, who: u32, a: usize, c: usize) -> usize
+    requires { ⌜ (a < c) × (c ≤ 32) ⌝ }
+    ensures { λ r. ⌜ r ≡ gap (chainIn c (λ _. bitAt row)) (bitAt who) a c ⌝ }
 {
-    let mut b = a + 1;
-    while b < c {
-        if !site::clashes(reach, a, b) {
-            return b;
-        }
-        b += 1;
-    }
-    b
+    lowest(who & !row, a + 1, c)
 }
 
-// Whether two different cells with the reach rows x and y clash.
-fn pair(x: u32, y: u32, a: usize, b: usize) -> bool
-    requires { ⌜ (a < 32) × (b < 32) ⌝ }
-    ensures { λ r. ⌜ r ≡ (bitAt x b || bitAt y a) ⌝ }
-{
-    ((x >> b) | (y >> a)) % 2 == 1
-}
-
-// The first cell from `from` on, above a, that clashes with a; the number of cells where there is none.
-fn met(reach: &[u32; 32], a: usize, from: usize, cells: usize) -> usize
-    requires { ⌜ (a < 32) × ((a < from) × (cells ≤ 32)) ⌝ }
-    ensures { λ r. ⌜ r ≡ first (clashIn (now (reach .entry)) a) from cells ⌝ }
-{
-    let row = reach[a];
-    let mut c = from;
-    while c < cells {
-        if pair(row, reach[c], a, c) {
-            return c;
-        }
-        c += 1;
-    }
-    c
-}
-
-// The first cell above a that breaks the chain with it: the first that clashes with a past the first that does not.
-fn break_of(reach: &[u32; 32], a: usize, cells: usize) -> usize
+// The first cell above a that breaks the chain with it: the first that clashes with a past the first that does not. The number of cells where there is none.
+fn break_of(row: u32, who: u32, a: usize, cells: usize) -> usize
     requires { ⌜ (a < cells) × (cells ≤ 32) ⌝ }
-    ensures { λ r. ⌜ r ≡ breakOf (netIn cells 0 [] (now (reach .entry))) everyone a ⌝ }
+    ensures { λ r. ⌜ r ≡ breakOf (chainIn cells (λ _. bitAt row)) (bitAt who) a ⌝ }
 {
-    let b = gap(reach, a, cells);
-    met(reach, a, b, cells)
+    if !has(who, a) {
+        return cells;
+    }
+    let b = gap(row, who, a, cells);
+    lowest(who & row, b, cells)
 }
 
 // The first cell that some cell breaks the chain with; the number of cells where there is none.
-fn first_break(reach: &[u32; 32], cells: usize) -> usize
+fn first_break(clash: &[u32; 32], who: u32, cells: usize) -> usize
     requires { ⌜ cells ≤ 32 ⌝ }
-    ensures { λ r. ⌜ r ≡ firstBreak (netIn cells 0 [] (now (reach .entry))) everyone ⌝ }
+    ensures { λ r. ⌜ r ≡ firstBreak (chainIn cells (bitIn (now (clash .entry)))) (bitAt who) ⌝ }
 {
     let mut a = 0;
     while a < cells {
-        if break_of(reach, a, cells) < cells {
+        if break_of(clash[a], who, a, cells) < cells {
             return a;
         }
         a += 1;
@@ -176,11 +194,13 @@ pub fn chain(site: Site) -> ChainAnswer
         return ChainAnswer::Refused(f);
     };
     let cells = site.cells as usize;
-    let reach = site.reach;
-    let a = first_break(&reach, cells);
+    let loads = site.loads;
+    let clash = site.clash_rows();
+    let who = counted(&loads, cells);
+    let a = first_break(&clash, who, cells);
     if a < cells {
-        let c = break_of(&reach, a, cells);
-        let b = gap(&reach, a, c);
+        let c = break_of(clash[a], who, a, cells);
+        let b = gap(clash[a], who, a, c);
         return ChainAnswer::Broken(a + 1, b + 1, c + 1);
     }
     ChainAnswer::Chained

@@ -1,5 +1,6 @@
 -- The definitions of crate `planfile`, module by module.
 pub mod Bits
+pub mod Block
 pub mod Read
 pub mod Write
 pub mod Given

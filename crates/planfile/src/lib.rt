@@ -1,4 +1,4 @@
-// The plan file, read and written: a head, and one bit for each cell and position. A file byte holds the bits of eight table bytes, and the long loops go by file byte.
+// The plan file, read and written: a head, and one bit for each cell and position. A file byte holds the bits of eight table bytes. The reader goes by file byte, the writer by blocks of 32.
 use records::AFTER_HEAD;
 use records::Length;
 use records::Opened;
@@ -14,10 +14,11 @@ use site::Site;
 ghost use mathlib.Core.Path.{_≡_};
 ghost use mathlib.Core.List.{[], _∷_};
 ghost use Prim.Native.Nat.{_+_, _-_, _*_, _≤_, _<_};
-ghost use lib.ListN.{length};
+ghost use lib.ListN.{length, take};
 ghost use lib.Seq.{sets};
 ghost use Rattle.site.specs.Record.{entries};
 ghost use Rattle.planfile.specs.Bits.{bytesFor, one, bitsFrom, leftOver, ones, packedFrom};
+ghost use Rattle.planfile.specs.Block.{Runs, Below, Joined};
 ghost use Rattle.planfile.specs.Read.{HeadRead, refusedPlan, readPlan, planTableRead};
 ghost use Rattle.planfile.specs.Write.{planWritten, planOut};
 
@@ -153,17 +154,136 @@ fn last_of(table: &[u8], k: usize) -> u8
     v
 }
 
-// Stores the first m bytes of the table's bits, from `at` on.
-fn put_whole(table: &[u8], out: &mut [u8], at: usize, m: usize)
-    requires { ⌜ (8 * m ≤ length (now table)) × (at + m ≤ length (now out)) ⌝ }
-    ensures { λ _. ⌜ now (out .exit) ≡ sets (now (out .entry)) at (packedFrom (now (table .entry)) 0 m) ⌝ }
+// The bits of 256 table bytes, from index k on.
+fn take_bits(bits: &mut [u8], table: &[u8], k: usize)
+    requires { ⌜ (k + 256 ≤ length (now table)) × (256 ≤ length (now bits)) ⌝ }
+    ensures { λ _. ⌜ Runs (now (table .entry)) k 1 256 (now (bits .exit)) ⌝ }
+{
+    let mut i: usize = 0;
+    while i < 256 {
+        let x = is_one(table[k + i]);
+        bits[i] = x;
+        i += 1;
+    }
+}
+
+// Two bits as one number. Through a word of two bytes, since the compiler reads a run of those at once.
+fn joined_bits(low: u8, high: u8) -> u8
+    requires { ⌜ (low < 2) × (high < 2) ⌝ }
+    ensures { λ r. ⌜ r ≡ low + 2 * high ⌝ }
+{
+    let x = low as u16 + 256 * (high as u16);
+    ((x + x / 128) % 256) as u8
+}
+
+// 256 bits as 128 numbers of two bits.
+fn take_twos(twos: &mut [u8], bits: &[u8])
+    requires { ⌜ (Below 2 256 (now bits)) × (256 ≤ length (now bits)) × (128 ≤ length (now twos)) ⌝ }
+    ensures { λ _. ⌜ Joined 2 128 (now (bits .entry)) (now (twos .exit)) ⌝ }
+{
+    let mut i: usize = 0;
+    while i < 128 {
+        let x = joined_bits(bits[2 * i], bits[2 * i + 1]);
+        twos[i] = x;
+        i += 1;
+    }
+}
+
+// Two numbers of two bits as one, through a word of two bytes again.
+fn joined_twos(low: u8, high: u8) -> u8
+    requires { ⌜ (low < 4) × (high < 4) ⌝ }
+    ensures { λ r. ⌜ r ≡ low + 4 * high ⌝ }
+{
+    let x = low as u16 + 256 * (high as u16);
+    ((x + x / 64) % 256) as u8
+}
+
+// 128 numbers of two bits as 64 of four bits.
+fn take_fours(fours: &mut [u8], twos: &[u8])
+    requires { ⌜ (Below 4 128 (now twos)) × (128 ≤ length (now twos)) × (64 ≤ length (now fours)) ⌝ }
+    ensures { λ _. ⌜ Joined 4 64 (now (twos .entry)) (now (fours .exit)) ⌝ }
+{
+    let mut i: usize = 0;
+    while i < 64 {
+        let x = joined_twos(twos[2 * i], twos[2 * i + 1]);
+        fours[i] = x;
+        i += 1;
+    }
+}
+
+// 64 numbers of four bits as 32 bytes.
+fn take_bytes(bytes: &mut [u8], fours: &[u8])
+    requires { ⌜ (Below 16 64 (now fours)) × (64 ≤ length (now fours)) × (32 ≤ length (now bytes)) ⌝ }
+    ensures { λ _. ⌜ Joined 16 32 (now (fours .entry)) (now (bytes .exit)) ⌝ }
+{
+    let mut i: usize = 0;
+    while i < 32 {
+        bytes[i] = fours[2 * i] + 16 * fours[2 * i + 1];
+        i += 1;
+    }
+}
+
+// Stores the first 32 bytes from `at` on.
+fn put_bytes(out: &mut [u8], at: usize, bytes: &[u8])
+    requires { ⌜ (32 ≤ length (now bytes)) × (at + 32 ≤ length (now out)) ⌝ }
+    ensures { λ _. ⌜ now (out .exit) ≡ sets (now (out .entry)) at (take 32 (now (bytes .entry))) ⌝ }
+{
+    let mut i: usize = 0;
+    while i < 32 {
+        out[at + i] = bytes[i];
+        i += 1;
+    }
+}
+
+// Stores 32 bytes of the table's bits, from byte j on, at `at + j`. Each pass joins two neighbours, and each is vector code.
+fn put_block(out: &mut [u8], at: usize, table: &[u8], j: usize)
+    requires { ⌜ (8 * j + 256 ≤ length (now table)) × (at + j + 32 ≤ length (now out)) ⌝ }
+    ensures { λ _. ⌜ now (out .exit) ≡ sets (now (out .entry)) (at + j) (packedFrom (now (table .entry)) (8 * j) 32) ⌝ }
+{
+    let mut bits = [0u8; 256];
+    take_bits(&mut bits, table, 8 * j);
+    let mut twos = [0u8; 128];
+    take_twos(&mut twos, &bits);
+    let mut fours = [0u8; 64];
+    take_fours(&mut fours, &twos);
+    let mut bytes = [0u8; 32];
+    take_bytes(&mut bytes, &fours);
+    put_bytes(out, at + j, &bytes);
+}
+
+// Stores the first b blocks of the table's bits, 32 bytes each, from `at` on.
+fn put_blocks(out: &mut [u8], at: usize, table: &[u8], b: usize)
+    requires { ⌜ (256 * b ≤ length (now table)) × (at + 32 * b ≤ length (now out)) ⌝ }
+    ensures { λ _. ⌜ now (out .exit) ≡ sets (now (out .entry)) at (packedFrom (now (table .entry)) 0 (32 * b)) ⌝ }
 {
     let mut j: usize = 0;
+    while j < b {
+        put_block(out, at, table, 32 * j);
+        j += 1;
+    }
+}
+
+// Stores the bytes of the table's bits from byte `from` to m, at `at + from` on, one by one.
+fn put_rest(table: &[u8], out: &mut [u8], at: usize, from: usize, m: usize)
+    requires { ⌜ (from ≤ m) × (8 * m ≤ length (now table)) × (at + m ≤ length (now out)) ⌝ }
+    ensures { λ _. ⌜ now (out .exit) ≡ sets (now (out .entry)) (at + from) (packedFrom (now (table .entry)) (8 * from) (m - from)) ⌝ }
+{
+    let mut j = from;
     while j < m {
         let x = byte_of(table, 8 * j);
         out[at + j] = x;
         j += 1;
     }
+}
+
+// Stores the first m bytes of the table's bits, from `at` on.
+fn put_whole(table: &[u8], out: &mut [u8], at: usize, m: usize)
+    requires { ⌜ (8 * m ≤ length (now table)) × (at + m ≤ length (now out)) ⌝ }
+    ensures { λ _. ⌜ now (out .exit) ≡ sets (now (out .entry)) at (packedFrom (now (table .entry)) 0 m) ⌝ }
+{
+    let b = m / 32;
+    put_blocks(out, at, table, b);
+    put_rest(table, out, at, 32 * b, m);
 }
 
 // Stores the bits of the whole table, from `at` on.

@@ -1,46 +1,47 @@
--- A cell more of the greedy run, over a table whose first rows are its rows so far: the run goes on with the table, or ends short. Assumes nothing.
+-- A cell more of the greedy run, over a table whose first rows are its rows so far: the run goes on with the table, or ends short. Where it is done, the rows that it
+-- began with stand as they were. Assumes nothing.
+use mathlib.Core.Bool.{Bool}
 use mathlib.Core.Path.{_≡_, refl, sym, ap, _∙_}
-use mathlib.Core.Bool.{true}
-use mathlib.Core.List.{List, [], _++_}
+use mathlib.Core.List.{List, _++_}
 use Prim.Native.Nat.{ℕ, _+_, _-_, _*_, _≤_, _<_}
 use native.Mathlib.Numerals.{add-one}
-use native.Mathlib.Nat.{suc-mul, zero-mul}
+use native.Mathlib.Nat.{suc-mul, zero-mul, mul-le-mul-right}
 use native.Mathlib.Omega.{arith}
-use lib.Seq.{length-take-le}
+use lib.Seq.{length-take-le, take-take}
 use lib.ListN.{length, take, drop, getD, replicate, take-append-drop}
-use Rattle.laws.specs.Part.{put}
 use Rattle.laws.proofs.Part.{length-put, take-put-end, drop-put-after}
-use Rattle.theory.specs.Net.{Net}
+use Rattle.theory.specs.Net.{Net, unblocked}
 use Rattle.theory.specs.Greedy.{marked, fill, unmet, row, held, Outcome, planned, noRoom, run}
 use Rattle.theory.proofs.Loops.{run-next, run-stop, run-stays}
 use Rattle.theory.proofs.Row.{row-length, row-short}
-use Rattle.planner.specs.Plan.{tableOf}
-use Rattle.site.specs.Reach.{netIn}
+use Rattle.theory.proofs.Run.{run-begins}
+use Rattle.theory.proofs.Exact.{greedy-fair}
+use Rattle.planner.specs.Plan.{tableOf, netBy, marksIn, rowPlanned, rowShort, PlannedTo}
 use Rattle.planner.proofs.Marked.{marked-take, marked-alike}
 
 -- cell i, with its load, over the table t
-module _ (cells n : ℕ) (loads reach : List ℕ) (i : ℕ) (t : List ℕ) (fits : i * n + n ≤ length t) {load : ℕ} (own : load ≡ getD loads i 0) where
+module _ (cells n : ℕ) (loads : List ℕ) (clash : ℕ → ℕ → Bool) (i : ℕ) (t : List ℕ) (fits : i * n + n ≤ length t) {load : ℕ} (own : load ≡ getD loads i 0) where
   abbrev net : Net
-  net = netIn cells n loads reach
+  net = netBy cells n loads clash
 
   abbrev marks : List ℕ
-  marks = marked (netIn 0 n [] reach) t i i
+  marks = marksIn n clash t i
 
   same-marks : marked net (take (i * n) t) i i ≡ marks
-  same-marks = marked-take net i t (omega arith) i (omega arith) ∙ sym (marked-alike cells n loads reach t i i)
+  same-marks = marked-take net i t (omega arith) i (omega arith) ∙ sym (marked-alike cells n loads clash t i i)
 
   -- the row of cell i, from the rows that stand in the table
-  same-row : row net (take (i * n) t) i ≡ fill (λ _. true) 0 load marks
-  same-row = (λ x. fill (λ _. true) 0 (sym own x) (same-marks x))
+  same-row : row net (take (i * n) t) i ≡ fill unblocked 0 load marks
+  same-row = (λ x. fill unblocked 0 (sym own x) (same-marks x))
 
-  filled-long : length (fill (λ _. true) 0 load marks) ≡ n
+  filled-long : length (fill unblocked 0 load marks) ≡ n
   filled-long = sym (ap length same-row) ∙ row-length net (take (i * n) t) i
 
   -- what the row filler finds no place for
-  lacks : unmet (λ _. true) 0 load marks ≡ getD loads i 0 - held n (row net (take (i * n) t) i)
-  lacks = (λ x. unmet (λ _. true) 0 (own x) (sym same-marks x)) ∙ row-short net (take (i * n) t) i
+  lacks : rowShort n clash i load t ≡ getD loads i 0 - held n (row net (take (i * n) t) i)
+  lacks = (λ x. unmet unblocked 0 (own x) (sym same-marks x)) ∙ row-short net (take (i * n) t) i
 
-  module _ {u : List ℕ} (is : u ≡ put (i * n) n (fill (λ _. true) 0 load (marked (netIn 0 n [] reach) t i i)) t) where
+  module _ {u : List ℕ} (is : u ≡ rowPlanned n clash i load t) where
     pub more-long : length u ≡ length t
     more-long = ap length is ∙ length-put (i * n) n _ t filled-long fits
 
@@ -50,21 +51,30 @@ module _ (cells n : ℕ) (loads reach : List ℕ) (i : ℕ) (t : List ℕ) (fits
     more-take : take ((i + 1) * n) u ≡ take (i * n) t ++ row net (take (i * n) t) i
     more-take = rw (add-one, suc-mul, is, take-put-end (i * n) n _ t filled-long fits, same-row) refl
 
-    module _ (so-far : run (netIn cells n loads reach) (row (netIn cells n loads reach)) i ≡ planned (take (i * n) t)) {short : ℕ}
-        (over : short ≡ unmet (λ _. true) 0 load (marked (netIn 0 n [] reach) t i i)) where
-      pub more-planned : short ≡ 0 → run (netIn cells n loads reach) (row (netIn cells n loads reach)) (i + 1) ≡ planned (take ((i + 1) * n) u)
+    module _ (so-far : PlannedTo (netBy cells n loads clash) i t) {short : ℕ}
+        (over : short ≡ rowShort n clash i load t) where
+      pub more-planned : short ≡ 0 → PlannedTo (netBy cells n loads clash) (i + 1) u
       more-planned z = run-next net (row net) i (take (i * n) t) so-far (omega (arith, lacks)) ∙ ap planned (sym more-take)
 
-      pub more-short : 0 < short → (k : ℕ) → i < k → run (netIn cells n loads reach) (row (netIn cells n loads reach)) k ≡ noRoom i short
+      pub more-short : 0 < short → (k : ℕ) → i < k → run (netBy cells n loads clash) (row (netBy cells n loads clash)) k ≡ noRoom i short
       more-short h k below =
           let e : short ≡ getD loads i 0 - held n (row net (take (i * n) t) i) = over ∙ lacks in
           run-stays net (row net) (i + 1) i short
           (run-stop net (row net) i (take (i * n) t) so-far (omega arith) ∙ ap (noRoom i) (sym e)) k (omega arith)
 
 -- no row is planned before the first
-pub no-rows : (s : Net) (n : ℕ) (t : List ℕ) → run s (row s) 0 ≡ planned (take (0 * n) t)
+pub no-rows : (s : Net) (t : List ℕ) → PlannedTo s 0 t
 unfolding run
-no-rows s n t = rw zero-mul refl
+no-rows s t = rw zero-mul refl
+
+-- a finished run has left the rows before cell i as they were, where they were planned
+pub rows-kept : (s : Net) (i : ℕ) (t t₀ : List ℕ) → PlannedTo s i t₀ → PlannedTo s (s .cells) t → i ≤ s .cells → take (i * s .width) t ≡ take (i * s .width) t₀
+rows-kept s i t t₀ before done h =
+    let e = run-begins s (row s) (greedy-fair s) (s .cells) (take (s .cells * s .width) t) done i h in
+    let within : i * s .width ≤ s .cells * s .width = mul-le-mul-right (s .width) h in
+    let q : planned (take (i * s .width) (take (s .cells * s .width) t)) ≡ planned (take (i * s .width) t₀) = sym e ∙ before in
+    let r : take (i * s .width) (take (s .cells * s .width) t) ≡ take (i * s .width) t₀ = cc in
+    sym (take-take (i * s .width) (s .cells * s .width) t within) ∙ r
 
 -- what the table holds at the end of a finished run, and of one that ended short, where z is what `clear` left of the first m bytes
 pub end-done : {o : Outcome} (m : ℕ) (t t₀ : List ℕ) → o ≡ planned (take m t) → drop m t ≡ drop m t₀ → t ≡ tableOf m o ++ drop m t₀

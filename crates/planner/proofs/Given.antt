@@ -1,22 +1,25 @@
 -- The numbers given back tell the planner's answers apart, but for a refusal with no fault, and no call answers that. An answer is read back from its number
 -- and values. Assumes nothing.
 use mathlib.Core.Path.{_≡_, refl, sym, ap, _∙_}
-use mathlib.Core.Bool.{true, not, false≢true}
+use mathlib.Core.Bool.{true, false≢true}
 use mathlib.Core.List.{List, [], _∷_, map}
 use Prim.Native.Nat.{ℕ}
-use lib.Dec.{eqb}
-use lib.ListN.{getD}
+use lib.Dec.{eqb, ltb}
+use lib.ListN.{length, getD}
 use Rattle.laws.specs.Choice.{pick}
+use Rattle.theory.specs.Greedy.{Outcome, planned, noRoom, greedy}
+use Rattle.site.specs.Record.{faultOf, size}
+use Rattle.site.specs.Reach.{netOf}
 use Rattle.site.specs.Given.{Given}
 use Rattle.site.proofs.Given.{faultFrom}
+use Rattle.site.proofs.PassedOn.{proper-call, proper-either}
 use Rattle.site.specs.declared.Site.{Site}
 use Rattle.site.specs.declared.Fault.{Fault}
 use Rattle.site.specs.declared.Fault.the-variants.{Fine, Size, Load, Reach}
-use Rattle.planner.specs.Plan.{planAnswer}
+use Rattle.planner.specs.Plan.{answerOf, planAnswer}
 use Rattle.planner.specs.Given.{planGiven, planProper}
 use Rattle.planner.specs.declared.PlanAnswer.{PlanAnswer}
 use Rattle.planner.specs.declared.PlanAnswer.the-variants.{Done, TableShort, NoRoom, Refused}
-use Rattle.planner.proofs.Meaning.{plan-refused}
 
 -- the answer with this number and these values
 abbrev readBack : Given → PlanAnswer
@@ -41,14 +44,15 @@ pub plan-apart : (a b : PlanAnswer) → planProper a ≡ true → planProper b �
 plan-apart a b p q e = sym (read-back a p) ∙ ap readBack e ∙ read-back b q
 
 -- no call answers a refusal with no fault
-proper-at : (s : Site) (t : List ℕ) (a : PlanAnswer) → planAnswer s t ≡ a → planProper a ≡ true
-proper-at s t Done e = refl
-proper-at s t TableShort e = refl
-proper-at s t (NoRoom c m) e = refl
-proper-at s t (Refused f) e = ap not (plan-refused s t f .0 e .1)
+run-proper : (o : Outcome) → planProper (answerOf o) ≡ true
+run-proper (planned t) = refl
+run-proper (noRoom c m) = refl
 
 pub plan-proper : (s : Site) (t : List ℕ) → planProper (planAnswer s t) ≡ true
-plan-proper s t = proper-at s t (planAnswer s t) refl
+unfolding planAnswer
+plan-proper s t =
+    proper-call planProper Refused (λ g. refl) (faultOf s) _
+    (proper-either planProper (ltb (length t) (size s)) TableShort (answerOf (greedy (netOf s))) refl (run-proper (greedy (netOf s))))
 
 -- the numbers and the values, in their order, of an answer of each kind
 abbrev plans : (cell short row : ℕ) → List PlanAnswer

@@ -1,7 +1,7 @@
 -- A table while one row of it is marked by the earlier clashing rows (`marks`), and while it is cleared, marked and filled. The rows before stay as they
 -- were, and they are all that marking looks at. Assumes nothing.
 use mathlib.Core.Path.{_≡_, refl, sym, ap, _∙_}
-use mathlib.Core.Bool.{true, false}
+use mathlib.Core.Bool.{Bool, true, false}
 use mathlib.Core.List.{List, []}
 use Prim.Native.Nat.{ℕ, zero, suc, _+_, _-_, _*_, _≤_, _<_}
 use native.Mathlib.Numerals.{add-one}
@@ -12,10 +12,10 @@ use Rattle.laws.specs.Choice.{pick}
 use Rattle.laws.specs.Part.{part, put}
 use Rattle.laws.proofs.Part.{put-part, length-put, part-put, part-put-before, put-put, part-take, length-part, take-put, lent, back}
 use Rattle.laws.proofs.Grid.{row-before}
-use Rattle.theory.specs.Net.{Net}
+use Rattle.theory.specs.Net.{Net, unblocked}
 use Rattle.theory.specs.Greedy.{forbid, marked, fill, unmet}
 use Rattle.theory.proofs.Row.{marked-length}
-use Rattle.site.specs.Reach.{clashIn, netIn}
+use Rattle.planner.specs.Plan.{netBy}
 
 -- only the rows before are looked at
 pub marked-take : (s : Net) (i : ℕ) (t : List ℕ) → i * s .width ≤ length t → (j : ℕ) → j ≤ i → marked s (take (i * s .width) t) i j ≡ marked s t i j
@@ -28,14 +28,15 @@ marked-take s i t fits (suc j) h =
     (marked-take s i t fits j (omega arith) x))
 
 -- marking looks at no load
-pub marked-alike : (cells n : ℕ) (loads reach t : List ℕ) (i j : ℕ) → marked (netIn 0 n [] reach) t i j ≡ marked (netIn cells n loads reach) t i j
+pub marked-alike : (cells n : ℕ) (loads : List ℕ) (clash : ℕ → ℕ → Bool) (t : List ℕ) (i j : ℕ)
+    → marked (netBy 0 n [] clash) t i j ≡ marked (netBy cells n loads clash) t i j
 unfolding marked
-marked-alike cells n loads reach t i zero = refl
-marked-alike cells n loads reach t i (suc j) =
+marked-alike cells n loads clash t i zero = refl
+marked-alike cells n loads clash t i (suc j) =
     (λ x.
-    pick (clashIn reach j i)
-    (forbid (part (j * n) n t) (marked-alike cells n loads reach t i j x))
-    (marked-alike cells n loads reach t i j x))
+    pick (clash j i)
+    (forbid (part (j * n) n t) (marked-alike cells n loads clash t i j x))
+    (marked-alike cells n loads clash t i j x))
 
 -- t with row i as the first j cells leave it
 abbrev pub marks : Net → ℕ → ℕ → List ℕ → List ℕ
@@ -107,13 +108,13 @@ module _ (s : Net) (i : ℕ) (t : List ℕ) (fits : i * s .width + s .width ≤ 
         ∙ ap (part (i * s .width) (s .width)) row-marked
         ∙ part-put (i * s .width) (s .width) (marked s t i i) t (marked-length s t i i) fits
 
-    pub row-filled : {r : List ℕ} (load : ℕ) → r ≡ fill (λ _. true) 0 load (midOf (i * s .width) (i * s .width + s .width - i * s .width) t₂)
-        → putMid (i * s .width) (i * s .width + s .width - i * s .width) t₂ r ≡ put (i * s .width) (s .width) (fill (λ _. true) 0 load (marked s t i i)) t
+    pub row-filled : {r : List ℕ} (load : ℕ) → r ≡ fill unblocked 0 load (midOf (i * s .width) (i * s .width + s .width - i * s .width) t₂)
+        → putMid (i * s .width) (i * s .width + s .width - i * s .width) t₂ r ≡ put (i * s .width) (s .width) (fill unblocked 0 load (marked s t i i)) t
     row-filled {r} load f =
         back (i * s .width) (s .width) t₂ r
-        ∙ (λ x. put (i * s .width) (s .width) ((f ∙ ap (fill (λ _. true) 0 load) lent-marked) x) (row-marked x))
-        ∙ put-put (i * s .width) (s .width) (marked s t i i) t (marked-length s t i i) fits (fill (λ _. true) 0 load (marked s t i i))
+        ∙ (λ x. put (i * s .width) (s .width) ((f ∙ ap (fill unblocked 0 load) lent-marked) x) (row-marked x))
+        ∙ put-put (i * s .width) (s .width) (marked s t i i) t (marked-length s t i i) fits (fill unblocked 0 load (marked s t i i))
 
-    pub short-filled : {m : ℕ} (load : ℕ) → m ≡ unmet (λ _. true) 0 load (midOf (i * s .width) (i * s .width + s .width - i * s .width) t₂)
-        → m ≡ unmet (λ _. true) 0 load (marked s t i i)
-    short-filled load f = f ∙ ap (unmet (λ _. true) 0 load) lent-marked
+    pub short-filled : {m : ℕ} (load : ℕ) → m ≡ unmet unblocked 0 load (midOf (i * s .width) (i * s .width + s .width - i * s .width) t₂)
+        → m ≡ unmet unblocked 0 load (marked s t i i)
+    short-filled load f = f ∙ ap (unmet unblocked 0 load) lent-marked

@@ -16,24 +16,24 @@ use lib.Dec.{ltb}
 use lib.ListN.{length, drop}
 use borrow.Author.Tests.{ltb-false}
 use Rattle.laws.specs.Choice.{pick}
-use Rattle.laws.proofs.Choice.{was-second}
-use Rattle.theory.specs.Net.{Valid, LoadTest, everyone}
+use Rattle.theory.specs.Net.{Valid, Covers, LoadTest}
 use Rattle.theory.specs.Greedy.{reserved, row, Outcome, planned, noRoom, greedy, Plans}
 use Rattle.theory.specs.Figure.{figureOne}
 use Rattle.theory.proofs.Row.{kept}
 use Rattle.theory.specs.Named.{Fails}
 use Rattle.theory.proofs.Run.{run-fails}
-use Rattle.theory.proofs.Exact.{planned-valid, planned-size, valid-agree, test-plans, covers-everyone}
+use Rattle.theory.proofs.Exact.{planned-valid, planned-size, valid-agree, test-plans}
 use Rattle.theory.proofs.Figure.{figure-greedy}
 use Rattle.site.specs.Record.{positions, faultOf, isFine, size}
 use Rattle.site.specs.Reach.{netOf}
+use Rattle.site.proofs.PassedOn.{passed-on}
 use Rattle.site.specs.declared.Site.{Site}
 use Rattle.site.specs.declared.Fault.{Fault}
 use Rattle.site.specs.declared.Fault.the-variants.{Fine, Size, Load, Reach}
 use Rattle.planner.specs.Plan.{answerOf, tableOf, planAnswer, planTable}
 use Rattle.planner.specs.declared.PlanAnswer.{PlanAnswer}
 use Rattle.planner.specs.declared.PlanAnswer.the-variants.{Done, TableShort, NoRoom, Refused}
-use Rattle.planner.proofs.Answer.{refused-answer, run-answer, run-table}
+use Rattle.planner.proofs.Answer.{run-answer, run-table}
 
 -- a call that went on to the run
 pub record Ran (s : Site) (t : List ℕ) (a : PlanAnswer) : Type 0 where
@@ -71,14 +71,7 @@ no-refusal false (noRoom c m) f e = let z : _≡_ {A = ℕ} 0 1 = cc in omega ar
 
 pub plan-refused : (s : Site) (t : List ℕ) (f : Fault) → planAnswer s t ≡ Refused f ↔ ((f ≡ faultOf s) × (isFine f ≡ false))
 unfolding planAnswer
-plan-refused s t f = (
-  λ e.
-      let w = was-second (isFine (faultOf s)) _ _ (no-refusal (ltb (length t) (size s)) (greedy (netOf s)) f) e in
-      let e′ : Refused (faultOf s) ≡ Refused f = w .1 in
-      let same : f ≡ faultOf s = cc in
-      (same, ap isFine same ∙ w .0),
-  λ h. refused-answer s t f (sym (h .0)) (h .1),
-)
+plan-refused s t = passed-on Refused (λ f g e. cc) (faultOf s) _ (no-refusal (ltb (length t) (size s)) (greedy (netOf s)))
 
 done-planned : (o : Outcome) → answerOf o ≡ Done → (t : List ℕ) × (o ≡ planned t)
 done-planned (planned t) e = (t, refl)
@@ -121,8 +114,8 @@ short-means s t c m e =
 -- ---- the load test, and the paper's figure
 
 module _ (s : Site) (t : List ℕ) (fine : faultOf s ≡ Fine) (long : size s ≤ length t) where
-  pub test-done : LoadTest (netOf s) everyone → planAnswer s t ≡ Done
-  test-done h = done-means s t .1 (fine, long, test-plans (netOf s) everyone (covers-everyone (netOf s)) h)
+  pub test-done : (who : ℕ → Bool) → Covers (netOf s) who → LoadTest (netOf s) who → planAnswer s t ≡ Done
+  test-done who covers h = done-means s t .1 (fine, long, test-plans (netOf s) who covers h)
 
   pub figure-answer : planAnswer s t ≡ answerOf (figureOne (netOf s) (s .slots) (s .channels))
   figure-answer = run-answer s t fine long ∙ ap answerOf (sym (figure-greedy (netOf s) (s .slots) (s .channels) refl))

@@ -1,14 +1,14 @@
 -- What the planner answers and what it leaves in the lent table, for any site and any table.
 use Prim.Native.Nat.{ℕ, _+_, _*_}
 use mathlib.Core.Path.{_≡_}
-use mathlib.Core.Bool.{true}
+use mathlib.Core.Bool.{Bool}
 use mathlib.Core.List.{List, [], _++_}
 use lib.Dec.{ltb}
 use lib.ListN.{length, take, drop, replicate}
 use Rattle.laws.specs.Choice.{pick}
 use Rattle.laws.specs.Part.{put}
-use Rattle.theory.specs.Net.{Net}
-use Rattle.theory.specs.Greedy.{marked, fill, row, run, Outcome, planned, noRoom, greedy}
+use Rattle.theory.specs.Net.{Net, unblocked}
+use Rattle.theory.specs.Greedy.{marked, fill, unmet, row, run, Outcome, planned, noRoom, greedy}
 use Rattle.site.specs.Record.{size, faultOf, isFine}
 use Rattle.site.specs.Reach.{netIn, netOf}
 use Rattle.site.specs.declared.Site.{Site}
@@ -25,9 +25,9 @@ abbrev pub tableOf : ℕ → Outcome → List ℕ
 tableOf m (planned t) = t
 tableOf m (noRoom c l) = replicate m 0
 
--- "Table bytes past IN .. are never written": what a run over the first m bytes of t leaves
-abbrev pub leaves : ℕ → Outcome → List ℕ → List ℕ
-leaves m o t = tableOf m o ++ drop m t
+-- "Table bytes past IN .. are never written": what the greedy run leaves of t
+abbrev pub leaves : Net → List ℕ → List ℕ
+leaves s t = tableOf (s .cells * s .width) (greedy s) ++ drop (s .cells * s .width) t
 
 -- "Order: record 1, 2, 3, .. then 4, then 5": 4 "lent table shorter than IN"
 unfoldable pub planAnswer : Site → List ℕ → PlanAnswer
@@ -35,15 +35,23 @@ planAnswer s t = pick (isFine (faultOf s)) (pick (ltb (length t) (size s)) Table
 
 -- "The planner's refusal 5 leaves the first IN bytes 0; no other refusal writes. Table bytes past IN .. are never written."
 unfoldable pub planTable : Site → List ℕ → List ℕ
-planTable s t = pick (isFine (faultOf s)) (pick (ltb (length t) (size s)) t (leaves (size s) (greedy (netOf s)) t)) t
+planTable s t = pick (isFine (faultOf s)) (pick (ltb (length t) (size s)) t (leaves (netOf s) t)) t
 
--- row i of t as the earlier clashing rows leave it, all idle at first: n positions, by the reach rows
-abbrev pub marksIn : ℕ → List ℕ → List ℕ → ℕ → List ℕ
-marksIn n reach t i = marked (netIn 0 n [] reach) t i i
+-- the planning problem of so many cells and positions, with these loads and who clashes: no position is blocked
+abbrev pub netBy : ℕ → ℕ → List ℕ → (ℕ → ℕ → Bool) → Net
+netBy cells n loads clash = netIn cells n loads clash unblocked
+
+-- row i of t as the earlier clashing rows leave it, all idle at first: n positions, by who clashes
+abbrev pub marksIn : ℕ → (ℕ → ℕ → Bool) → List ℕ → ℕ → List ℕ
+marksIn n clash t i = marked (netBy 0 n [] clash) t i i
 
 -- t with row i planned: "Each takes its idle positions in rising position until its load is met"
-abbrev pub rowPlanned : ℕ → List ℕ → ℕ → ℕ → List ℕ → List ℕ
-rowPlanned n reach i load t = put (i * n) n (fill (λ _. true) 0 load (marksIn n reach t i)) t
+abbrev pub rowPlanned : ℕ → (ℕ → ℕ → Bool) → ℕ → ℕ → List ℕ → List ℕ
+rowPlanned n clash i load t = put (i * n) n (fill unblocked 0 load (marksIn n clash t i)) t
+
+-- how many of its fragments find no room there
+abbrev pub rowShort : ℕ → (ℕ → ℕ → Bool) → ℕ → ℕ → List ℕ → ℕ
+rowShort n clash i load t = unmet unblocked 0 load (marksIn n clash t i)
 
 -- the greedy rows of the first i cells stand at the start of t
 abbrev pub PlannedTo : Net → ℕ → List ℕ → Type 0

@@ -2,13 +2,13 @@
 use site::Fault;
 use site::Site;
 ghost use mathlib.Core.Path.{_≡_};
-ghost use mathlib.Core.Bool.{true};
 ghost use Prim.Native.Nat.{_+_, _*_, _≤_, _<_};
-ghost use lib.ListN.{length, getD, replicate};
+ghost use lib.ListN.{length, getD, take, replicate};
+ghost use Rattle.laws.specs.Bits.{bitIn};
 ghost use Rattle.laws.specs.Part.{part, put};
-ghost use Rattle.theory.specs.Greedy.{unmet, greedy};
-ghost use Rattle.site.specs.Reach.{netIn};
-ghost use Rattle.planner.specs.Plan.{planAnswer, planTable, answerOf, leaves, marksIn, rowPlanned, PlannedTo};
+ghost use Rattle.theory.specs.Greedy.{greedy};
+ghost use Rattle.planner.specs.Plan.{planAnswer, planTable, answerOf, leaves, netBy, marksIn, rowPlanned, rowShort, PlannedTo};
+ghost use Rattle.planner.specs.declared.PlanAnswer.the-variants.{Done};
 
 // What the planner answers: done; 4, the table is short; 5, a cell's number and how many of its fragments found no room; or what is wrong with the record.
 pub enum PlanAnswer {
@@ -18,14 +18,22 @@ pub enum PlanAnswer {
     Refused(Fault),
 }
 
+// Whether the cells at indices `j` and `i` clash.
+fn clashes(clash: &[u32; 32], j: usize, i: usize) -> bool
+    requires { ⌜ (j < 32) × (i < 32) ⌝ }
+    ensures { λ r. ⌜ r ≡ bitIn (now (clash .entry)) j i ⌝ }
+{
+    (clash[j] >> i) % 2 == 1
+}
+
 // Forbids in row `i`, which is idle, all that the earlier clashing rows reserve.
-fn mark_row(table: &mut [u8], n: usize, i: usize, reach: &[u32; 32])
-    requires { ⌜ i * n + n ≤ length (now table) ⌝ }
+fn mark_row(table: &mut [u8], n: usize, i: usize, clash: &[u32; 32])
+    requires { ⌜ (i < 32) × (i * n + n ≤ length (now table)) ⌝ }
     requires { ⌜ part (i * n) n (now table) ≡ replicate n 0 ⌝ }
-    ensures { λ _. ⌜ now (table .exit) ≡ put (i * n) n (marksIn n (now (reach .entry)) (now (table .entry)) i) (now (table .entry)) ⌝ }
+    ensures { λ _. ⌜ now (table .exit) ≡ put (i * n) n (marksIn n (bitIn (now (clash .entry))) (now (table .entry)) i) (now (table .entry)) ⌝ }
 {
     for j in 0..i {
-        if site::clashes(reach, j, i) {
+        if clashes(clash, j, i) {
             rows::forbid_row(table, n, j, i);
         }
     }
@@ -38,17 +46,17 @@ fn plan_row(
     channels: usize,
     i: usize,
     load: usize,
-    reach: &[u32; 32],
+    clash: &[u32; 32],
 ) -> usize
-    requires { ⌜ i * (slots * channels) + slots * channels ≤ length (now table) ⌝ }
-    ensures row { λ _. ⌜ now (table .exit) ≡ rowPlanned (slots * channels) (now (reach .entry)) i load (now (table .entry)) ⌝ }
-    ensures short { λ r. ⌜ r ≡ unmet (λ _. true) 0 load (marksIn (slots * channels) (now (reach .entry)) (now (table .entry)) i) ⌝ }
+    requires { ⌜ (i < 32) × (channels ≤ 16) × (i * (slots * channels) + slots * channels ≤ length (now table)) ⌝ }
+    ensures row { λ _. ⌜ now (table .exit) ≡ rowPlanned (slots * channels) (bitIn (now (clash .entry))) i load (now (table .entry)) ⌝ }
+    ensures short { λ r. ⌜ r ≡ rowShort (slots * channels) (bitIn (now (clash .entry))) i load (now (table .entry)) ⌝ }
 {
     let n = slots * channels;
     let from = i * n;
     let to = from + n;
     rows::clear(&mut table[from..to]);
-    mark_row(table, n, i, reach);
+    mark_row(table, n, i, clash);
     rows::fill_row(&mut table[from..to], slots, channels, load)
 }
 
@@ -60,8 +68,8 @@ fn load_of(loads: &[u16; 32], i: usize) -> u16
     loads[i]
 }
 
-// The greedy plan from cell `first` on, by index, where the rows before it are planned. The site's bytes are the first cells * slots * channels of
-// the table; where a cell finds no room they are made idle.
+// The greedy plan from cell `first` on, by index, where the rows before it are planned: they stay as they are. The site's bytes are the first
+// cells * slots * channels of the table; where a cell finds no room they are made idle.
 fn plan_from(
     table: &mut [u8],
     first: usize,
@@ -69,17 +77,18 @@ fn plan_from(
     slots: usize,
     channels: usize,
     loads: &[u16; 32],
-    reach: &[u32; 32],
+    clash: &[u32; 32],
 ) -> PlanAnswer
-    requires { ⌜ (first ≤ cells) × (cells ≤ 32) ⌝ }
+    requires { ⌜ (first ≤ cells) × (cells ≤ 32) × (channels ≤ 16) ⌝ }
     requires { ⌜ cells * (slots * channels) ≤ length (now table) ⌝ }
-    requires { ⌜ PlannedTo (netIn cells (slots * channels) (now loads) (now reach)) first (now table) ⌝ }
-    ensures answer { λ r. ⌜ r ≡ answerOf (greedy (netIn cells (slots * channels) (now (loads .entry)) (now (reach .entry)))) ⌝ }
-    ensures table { λ _. ⌜ now (table .exit) ≡ leaves (cells * (slots * channels)) (greedy (netIn cells (slots * channels) (now (loads .entry)) (now (reach .entry)))) (now (table .entry)) ⌝ }
+    requires { ⌜ PlannedTo (netBy cells (slots * channels) (now loads) (bitIn (now clash))) first (now table) ⌝ }
+    ensures answer { λ r. ⌜ r ≡ answerOf (greedy (netBy cells (slots * channels) (now (loads .entry)) (bitIn (now (clash .entry))))) ⌝ }
+    ensures table { λ _. ⌜ now (table .exit) ≡ leaves (netBy cells (slots * channels) (now (loads .entry)) (bitIn (now (clash .entry)))) (now (table .entry)) ⌝ }
+    ensures kept { λ r. ⌜ (r ≡ Done → take (first * (slots * channels)) (now (table .exit)) ≡ take (first * (slots * channels)) (now (table .entry))) ⌝ }
 {
     for i in first..cells {
         let load = load_of(loads, i) as usize;
-        let short = plan_row(table, slots, channels, i, load, reach);
+        let short = plan_row(table, slots, channels, i, load, clash);
         if 0 < short {
             let end = cells * (slots * channels);
             rows::clear(&mut table[..end]);
@@ -107,6 +116,6 @@ pub fn plan(site: Site, table: &mut [u8]) -> PlanAnswer
         return PlanAnswer::TableShort;
     }
     let loads = site.loads;
-    let reach = site.reach;
-    plan_from(table, 0, cells, slots, channels, &loads, &reach)
+    let clash = site.clash_rows();
+    plan_from(table, 0, cells, slots, channels, &loads, &clash)
 }

@@ -7,7 +7,7 @@ use Prim.Native.Nat.{ℕ, _<_}
 use native.Mathlib.Omega.{arith}
 use lib.ListN.{drop, length-append}
 use Rattle.laws.proofs.Sums.{count-most}
-use Rattle.theory.specs.Net.{Valid, LoadTest, Chained, everyone}
+use Rattle.theory.specs.Net.{Valid, LoadTest, Chained}
 use Rattle.theory.specs.Greedy.{reserved}
 use Rattle.theory.specs.Figure.{figureOne}
 use Rattle.site.specs.Record.{positions, size, loadAt}
@@ -19,7 +19,7 @@ use Rattle.planner.specs.Given.{planGiven}
 use Rattle.planner.proofs.Meaning.{done-means, done-valid, figure-answer, figure-table}
 use Rattle.planner.proofs.Answer.{run-table}
 use Rattle.theory.proofs.Exact.{planned-size, apart-any}
-use Rattle.judges.specs.Judges.{loadAnswer, chainAnswer}
+use Rattle.judges.specs.Judges.{counted, loadAnswer, chainAnswer}
 use Rattle.judges.specs.Given.{loadGiven, chainGiven}
 use Rattle.judges.proofs.Meaning.{holds-means, chained-means}
 use Rattle.checker.specs.Check.{checkAnswer}
@@ -71,7 +71,7 @@ load-above-refused s i l above t e =
     omega (arith, done-valid s t (plan-number s t .0 e) .exact i l, count-most (reserved (positions s) (planTable s t) i) (positions s))
 
 -- "The load test is the paper's."
-pub load-is-C1 : (s : Site) → loadGiven (loadAnswer s) ≡ done ↔ ((Accepted s) × (LoadTest (netOf s) everyone))
+pub load-is-C1 : (s : Site) → loadGiven (loadAnswer s) ≡ done ↔ ((Accepted s) × (LoadTest (netOf s) (counted s)))
 load-is-C1 s = (
   λ e.
       let h = holds-means s .0 (load-number s .0 e) in
@@ -80,7 +80,7 @@ load-is-C1 s = (
 )
 
 -- The chain judge says yes exactly to chained sites.
-pub judge-is-chained : (s : Site) → chainGiven (chainAnswer s) ≡ done ↔ ((Accepted s) × (Chained (netOf s) everyone))
+pub judge-is-chained : (s : Site) → chainGiven (chainAnswer s) ≡ done ↔ ((Accepted s) × (Chained (netOf s) (counted s)))
 judge-is-chained s = (
   λ e.
       let c = chained-means s .0 (chain-number s .0 e) in

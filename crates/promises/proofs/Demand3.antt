@@ -6,11 +6,11 @@ use mathlib.Core.Logic.{_↔_}
 use Prim.Native.Nat.{ℕ, _+_, _<_}
 use native.Mathlib.Omega.{arith}
 use native.Mathlib.Nat.{le-refl}
-use Rattle.theory.specs.Net.{Valid, Chained, Eases, everyone}
+use Rattle.theory.specs.Net.{Valid, Chained, Eases}
 use Rattle.theory.specs.Full.{Mutual, weight, around}
 use Rattle.theory.proofs.Full.{over-full}
 use Rattle.theory.specs.Greedy.{reserved}
-use Rattle.theory.proofs.Exact.{covers-everyone, chained-class, demand-three, class-exact}
+use Rattle.theory.proofs.Exact.{chained-class, demand-three, class-exact}
 use Rattle.site.specs.Record.{positions}
 use Rattle.site.specs.Reach.{netOf}
 use Rattle.site.specs.Given.{Given}
@@ -19,9 +19,9 @@ use Rattle.site.proofs.Accepted.{net-open}
 use Rattle.planner.specs.Plan.{planAnswer}
 use Rattle.planner.proofs.Meaning.{done-means, test-done}
 use Rattle.planner.specs.Given.{planGiven}
-use Rattle.judges.specs.Judges.{loadAnswer, chainAnswer}
+use Rattle.judges.specs.Judges.{counted, loadAnswer, chainAnswer}
 use Rattle.judges.specs.Given.{loadGiven, chainGiven}
-use Rattle.judges.proofs.Meaning.{over-means}
+use Rattle.judges.proofs.Meaning.{covers-counted, over-means}
 use Rattle.checker.specs.Check.{checkAnswer}
 use Rattle.checker.specs.Given.{checkGiven}
 use Rattle.promises.specs.Numbers.{done, doneWith, refused}
@@ -38,15 +38,15 @@ eases second first h = record {
 }
 
 -- "If any valid plan of the first exists, however found, the planner plans the second." Over the valid-table definition.
-pub demand-three-sites : (first second : Site) → Accepted first → Accepted second → Easier second first → Chained (netOf second) everyone
+pub demand-three-sites : (first second : Site) → Accepted first → Accepted second → Easier second first → Chained (netOf second) (counted second)
     → (found : List ℕ) → Valid (netOf first) (reserved (positions first) found)
     → (lent : List ℕ) → LongEnough second lent → planGiven (planAnswer second lent) ≡ done
 demand-three-sites first second _ fine easier ch found v lent long =
     plan-number second lent .1 (done-means second lent .1 (
       accepted-number second .0 fine,
       long,
-      demand-three (netOf first) (reserved (positions first) found) v (netOf second) (eases second first easier) everyone
-          (covers-everyone (netOf second)) (chained-class (netOf second) everyone ch),
+      demand-three (netOf first) (reserved (positions first) found) v (netOf second) (eases second first easier) (counted second)
+          (covers-counted second) (chained-class (netOf second) (counted second) ch),
     ))
 
 -- The same over what the calls say: the judge says "chained", the checker says "valid", and the planner is done.
@@ -63,7 +63,7 @@ pub chained-exact : (s : Site) → chainGiven (chainAnswer s) ≡ done → (lent
     → loadGiven (loadAnswer s) ≡ done ↔ planGiven (planAnswer s lent) ≡ done
 chained-exact s ch lent long =
     let c = judge-is-chained s .0 ch in
-    let x = class-exact (netOf s) everyone (covers-everyone (netOf s)) (chained-class (netOf s) everyone (c .1)) in (
+    let x = class-exact (netOf s) (counted s) (covers-counted s) (chained-class (netOf s) (counted s) (c .1)) in (
       λ e. plan-number s lent .1 (done-means s lent .1 (accepted-number s .0 (c .0), long, x .0 (load-is-C1 s .0 e .1))),
       λ e. load-is-C1 s .1 (c .0, x .1 (done-means s lent .0 (plan-number s lent .0 e) .2)),
     )
@@ -72,7 +72,7 @@ chained-exact s ch lent long =
 pub holds-plans : (s : Site) → loadGiven (loadAnswer s) ≡ done → (lent : List ℕ) → LongEnough s lent → planGiven (planAnswer s lent) ≡ done
 holds-plans s e lent long =
     let h = load-is-C1 s .0 e in
-    plan-number s lent .1 (test-done s lent (accepted-number s .0 (h .0)) long (h .1))
+    plan-number s lent .1 (test-done s lent (accepted-number s .0 (h .0)) long (counted s) (covers-counted s) (h .1))
 
 -- ---- what these mean on the ground
 
@@ -91,5 +91,5 @@ chained-why s ch cell m e =
     let c = judge-is-chained s .0 ch in
     let o = over-means s cell m (over-number s cell m e) in
     let f = o .1 .2 in
-    let w = over-full (netOf s) (o .1 .0) everyone (covers-everyone (netOf s)) (chained-class (netOf s) everyone (c .1)) (f .inside) (f .counts) (f .exceeds) in
+    let w = over-full (netOf s) (o .1 .0) (counted s) (covers-counted s) (chained-class (netOf s) (counted s) (c .1)) (f .inside) (f .counts) (f .exceeds) in
     (o .1 .0, o .1 .1, w .0, rw (← net-open s) (w .1))

@@ -7,6 +7,7 @@ pub mod Names
 pub mod Demand3
 pub mod Files
 pub mod InC
+pub mod SquareOne
 pub mod SiteOne
 pub mod JudgesOne
 pub mod RowsOne

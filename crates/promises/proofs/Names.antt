@@ -2,7 +2,6 @@
 use mathlib.Core.Path.{_≡_}
 use mathlib.Core.List.{List, [], _∷_}
 use Prim.Native.Nat.{ℕ, _+_}
-use Rattle.theory.specs.Net.{everyone}
 use Rattle.theory.specs.Greedy.{reserved, row}
 use Rattle.theory.specs.Named.{FirstOver, FirstBreaks, FirstClash, FirstWrong, Fails}
 use Rattle.site.specs.Record.{positions}
@@ -11,7 +10,7 @@ use Rattle.site.specs.declared.Site.{Site}
 use Rattle.planner.specs.Plan.{planAnswer}
 use Rattle.planner.specs.Given.{planGiven}
 use Rattle.planner.proofs.Meaning.{short-means}
-use Rattle.judges.specs.Judges.{loadAnswer, chainAnswer}
+use Rattle.judges.specs.Judges.{counted, loadAnswer, chainAnswer}
 use Rattle.judges.specs.Given.{loadGiven, chainGiven}
 use Rattle.judges.proofs.Meaning.{over-means, broken-means}
 use Rattle.checker.specs.Check.{checkAnswer}
@@ -21,12 +20,12 @@ use Rattle.promises.specs.Numbers.{doneWith, refused}
 use Rattle.promises.proofs.Numbers.{no-room-number, over-number, broken-number, clash-number, count-number}
 
 -- "If not, it names the lowest cell that is over and by how much."
-pub over-names : (s : Site) (cell m : ℕ) → loadGiven (loadAnswer s) ≡ doneWith (cell ∷ m ∷ []) → (i : ℕ) × (cell ≡ i + 1) × FirstOver (netOf s) everyone i m
+pub over-names : (s : Site) (cell m : ℕ) → loadGiven (loadAnswer s) ≡ doneWith (cell ∷ m ∷ []) → (i : ℕ) × (cell ≡ i + 1) × FirstOver (netOf s) (counted s) i m
 over-names s cell m e = over-means s cell m (over-number s cell m e) .1
 
 -- "If not chained, the judge names the first triple a, b, c in rising order of a, then c, then b."
 pub triple-names : (s : Site) (a b c : ℕ) → chainGiven (chainAnswer s) ≡ doneWith (a ∷ b ∷ c ∷ [])
-    → (x y z : ℕ) × (a ≡ x + 1) × (b ≡ y + 1) × (c ≡ z + 1) × FirstBreaks (netOf s) everyone x y z
+    → (x y z : ℕ) × (a ≡ x + 1) × (b ≡ y + 1) × (c ≡ z + 1) × FirstBreaks (netOf s) (counted s) x y z
 triple-names s a b c e = broken-means s a b c (broken-number s a b c e) .1
 
 -- "5 planner finds no room: cell, fragments short"

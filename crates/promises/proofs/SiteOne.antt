@@ -4,7 +4,7 @@ use mathlib.Core.Path.{_≡_, sym, _∙_}
 use mathlib.Core.Bool.{Bool}
 use mathlib.Core.List.{List}
 use Prim.Native.Nat.{ℕ}
-use Rattle.promises.specs.SiteSays.{Clashes, SiteClash, SiteClearReach, SiteFaultIn, SiteSetLoad, SiteSetReach, SiteZeros, SizeOk, Within}
+use Rattle.promises.specs.SiteSays.{SiteClash, SiteClashRows, SiteClearReach, SiteFaultIn, SiteSetLoad, SiteSetReach, SiteZeros, SizeOk, Within}
 use Rattle.site.specs.declared.ClashAnswer.{ClashAnswer}
 use Rattle.site.specs.declared.Edited.{Edited}
 use Rattle.site.specs.declared.Fault.{Fault}
@@ -18,10 +18,6 @@ within-one x most r q says also = says .answer ∙ sym (also .answer)
 pub sizeOk-one : (cells : ℕ) (slots : ℕ) (channels : ℕ) (r q : Bool) → SizeOk cells slots channels r → SizeOk cells slots channels q → (r ≡ q)
 sizeOk-one cells slots channels r q says also = says .answer ∙ sym (also .answer)
 
--- site::clashes
-pub clashes-one : (reach : List ℕ) (a : ℕ) (b : ℕ) (r q : Bool) → Clashes reach a b r → Clashes reach a b q → (r ≡ q)
-clashes-one reach a b r q says also = says .answer ∙ sym (also .answer)
-
 -- site::Site::zeros
 pub siteZeros-one : (r q : Site) → SiteZeros r → SiteZeros q → (r ≡ q)
 siteZeros-one r q says also = says .answer ∙ sym (also .answer)
@@ -29,6 +25,10 @@ siteZeros-one r q says also = says .answer ∙ sym (also .answer)
 -- site::Site::fault_in
 pub siteFaultIn-one : (self : Site) (r q : Fault) → SiteFaultIn self r → SiteFaultIn self q → (r ≡ q)
 siteFaultIn-one self r q says also = says .answer ∙ sym (also .answer)
+
+-- site::Site::clash_rows
+pub siteClashRows-one : (self : Site) (r q : List ℕ) → SiteClashRows self r → SiteClashRows self q → (r ≡ q)
+siteClashRows-one self r q says also = says .answer ∙ sym (also .answer)
 
 -- site::Site::clash
 pub siteClash-one : (self : Site) (a : ℕ) (b : ℕ) (r q : ClashAnswer) → SiteClash self a b r → SiteClash self a b q → (r ≡ q)

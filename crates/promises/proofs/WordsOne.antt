@@ -3,12 +3,20 @@
 use mathlib.Core.Path.{_≡_, sym, _∙_}
 use mathlib.Core.List.{List}
 use Prim.Native.Nat.{ℕ}
-use Rattle.promises.specs.WordsSays.{WordsClear, WordsGather}
+use Rattle.promises.specs.WordsSays.{WordsFirstIn, WordsJoinRow, WordsSecondIn, WordsWordAt}
 
--- words::clear
-pub wordsClear-one : (words : List ℕ) (n : ℕ) (words′ words″ : List ℕ) → WordsClear words n words′ → WordsClear words n words″ → (words′ ≡ words″)
-wordsClear-one words n words′ words″ says also = says .words-after ∙ sym (also .words-after)
+-- words::join_row
+pub wordsJoinRow-one : (words : List ℕ) (marks : List ℕ) (table : List ℕ) (from : ℕ) (n : ℕ) (bit : ℕ) (row : ℕ) (words′ words″ : List ℕ) (marks′ marks″ : List ℕ) → WordsJoinRow words marks table from n bit row words′ marks′ → WordsJoinRow words marks table from n bit row words″ marks″ → (words′ ≡ words″) × (marks′ ≡ marks″)
+wordsJoinRow-one words marks table from n bit row words′ words″ marks′ marks″ says also = (says .words-after ∙ sym (also .words-after), says .marks-after ∙ sym (also .marks-after))
 
--- words::gather
-pub wordsGather-one : (words : List ℕ) (table : List ℕ) (n : ℕ) (cells : ℕ) (words′ words″ : List ℕ) → WordsGather words table n cells words′ → WordsGather words table n cells words″ → (words′ ≡ words″)
-wordsGather-one words table n cells words′ words″ says also = says .words-after ∙ sym (also .words-after)
+-- words::word_at
+pub wordsWordAt-one : (table : List ℕ) (n : ℕ) (cells : ℕ) (p : ℕ) (r q : ℕ) → WordsWordAt table n cells p r → WordsWordAt table n cells p q → (r ≡ q)
+wordsWordAt-one table n cells p r q says also = says .answer ∙ sym (also .answer)
+
+-- words::second_in
+pub wordsSecondIn-one : (word : ℕ) (clash : List ℕ) (cells : ℕ) (a : ℕ) (r q : ℕ) → WordsSecondIn word clash cells a r → WordsSecondIn word clash cells a q → (r ≡ q)
+wordsSecondIn-one word clash cells a r q says also = says .answer ∙ sym (also .answer)
+
+-- words::first_in
+pub wordsFirstIn-one : (word : ℕ) (clash : List ℕ) (cells : ℕ) (r q : ℕ) → WordsFirstIn word clash cells r → WordsFirstIn word clash cells q → (r ≡ q)
+wordsFirstIn-one word clash cells r q says also = says .answer ∙ sym (also .answer)

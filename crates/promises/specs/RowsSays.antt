@@ -1,16 +1,16 @@
 -- The equalities that the contracts of crate `rows` state: r is the answer, and x′ what a lent x holds afterwards. Made by tools/surface from the source.
 use mathlib.Core.Path.{_≡_}
-use mathlib.Core.Bool.{true}
 use mathlib.Core.List.{List}
 use Prim.Native.Nat.{_*_, ℕ}
 use Rattle.laws.specs.Part.{part, put}
 use Rattle.theory.specs.Greedy.{fill, forbid, unmet}
+use Rattle.theory.specs.Net.{unblocked}
 use lib.ListN.{length, replicate}
 
 -- rows::fill_row
 pub record RowsFillRow (row : List ℕ) (slots : ℕ) (channels : ℕ) (load : ℕ) (r : ℕ) (row′ : List ℕ) : Type 0 where
-  pub answer : r ≡ unmet (λ _. true) 0 load row
-  pub row-after : row′ ≡ fill (λ _. true) 0 load row
+  pub answer : r ≡ unmet unblocked 0 load row
+  pub row-after : row′ ≡ fill unblocked 0 load row
 
 -- rows::forbid_row
 pub record RowsForbidRow (table : List ℕ) (n : ℕ) (j : ℕ) (i : ℕ) (table′ : List ℕ) : Type 0 where

@@ -4,7 +4,7 @@ use mathlib.Core.Bool.{Bool}
 use mathlib.Core.List.{List}
 use Prim.Native.Nat.{ℕ}
 use Rattle.site.specs.Edit.{clearReachOf, setLoadOf, setReachOf}
-use Rattle.site.specs.Reach.{clashAnswer, clashIn}
+use Rattle.site.specs.Reach.{clashAnswer, clashRows}
 use Rattle.site.specs.Record.{faultOf, sizeOk, upTo, zeroSite}
 use Rattle.site.specs.declared.ClashAnswer.{ClashAnswer}
 use Rattle.site.specs.declared.Edited.{Edited}
@@ -19,10 +19,6 @@ pub record Within (x : ℕ) (most : ℕ) (r : Bool) : Type 0 where
 pub record SizeOk (cells : ℕ) (slots : ℕ) (channels : ℕ) (r : Bool) : Type 0 where
   pub answer : r ≡ sizeOk cells slots channels
 
--- site::clashes
-pub record Clashes (reach : List ℕ) (a : ℕ) (b : ℕ) (r : Bool) : Type 0 where
-  pub answer : r ≡ clashIn reach a b
-
 -- site::Site::zeros
 pub record SiteZeros (r : Site) : Type 0 where
   pub answer : r ≡ zeroSite
@@ -30,6 +26,10 @@ pub record SiteZeros (r : Site) : Type 0 where
 -- site::Site::fault_in
 pub record SiteFaultIn (self : Site) (r : Fault) : Type 0 where
   pub answer : r ≡ faultOf self
+
+-- site::Site::clash_rows
+pub record SiteClashRows (self : Site) (r : List ℕ) : Type 0 where
+  pub answer : r ≡ clashRows self
 
 -- site::Site::clash
 pub record SiteClash (self : Site) (a : ℕ) (b : ℕ) (r : ClashAnswer) : Type 0 where

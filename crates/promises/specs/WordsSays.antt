@@ -4,13 +4,23 @@ use mathlib.Core.List.{List}
 use Prim.Native.Nat.{ℕ}
 use Rattle.laws.specs.Part.{listOf}
 use Rattle.theory.specs.Greedy.{reserved}
-use Rattle.words.specs.Words.{wordAt}
+use Rattle.words.specs.Clashes.{firstIn, secondIn}
+use Rattle.words.specs.Words.{joinedAt, markedAt, wordAt}
 use lib.Seq.{sets}
 
--- words::clear
-pub record WordsClear (words : List ℕ) (n : ℕ) (words′ : List ℕ) : Type 0 where
-  pub words-after : words′ ≡ sets words 0 (listOf (λ k. 0) n)
+-- words::join_row
+pub record WordsJoinRow (words : List ℕ) (marks : List ℕ) (table : List ℕ) (from : ℕ) (n : ℕ) (bit : ℕ) (row : ℕ) (words′ : List ℕ) (marks′ : List ℕ) : Type 0 where
+  pub words-after : words′ ≡ sets words 0 (listOf (joinedAt words table from bit) n)
+  pub marks-after : marks′ ≡ sets marks 0 (listOf (markedAt marks words table from row) n)
 
--- words::gather
-pub record WordsGather (words : List ℕ) (table : List ℕ) (n : ℕ) (cells : ℕ) (words′ : List ℕ) : Type 0 where
-  pub words-after : words′ ≡ sets words 0 (listOf (wordAt cells (reserved n table)) n)
+-- words::word_at
+pub record WordsWordAt (table : List ℕ) (n : ℕ) (cells : ℕ) (p : ℕ) (r : ℕ) : Type 0 where
+  pub answer : r ≡ wordAt cells (reserved n table) p
+
+-- words::second_in
+pub record WordsSecondIn (word : ℕ) (clash : List ℕ) (cells : ℕ) (a : ℕ) (r : ℕ) : Type 0 where
+  pub answer : r ≡ secondIn word clash cells a
+
+-- words::first_in
+pub record WordsFirstIn (word : ℕ) (clash : List ℕ) (cells : ℕ) (r : ℕ) : Type 0 where
+  pub answer : r ≡ firstIn word clash cells

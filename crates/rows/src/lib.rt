@@ -1,31 +1,93 @@
 // The bytes of a row: its idle positions are reserved, those that an earlier row reserves are forbidden, all are made idle.
 ghost use mathlib.Core.Path.{_≡_};
-ghost use mathlib.Core.Bool.{true};
+ghost use mathlib.Core.Bool.{_&&_};
+ghost use mathlib.Core.List.{_++_};
 ghost use Prim.Native.Nat.{_+_, _*_, _≤_, _<_};
 ghost use lib.Dec.{eqb};
-ghost use lib.ListN.{length, replicate};
+ghost use lib.ListN.{length, getD, take, drop, replicate};
 ghost use Rattle.laws.specs.Choice.{pick};
-ghost use Rattle.laws.specs.Sum.{bit};
+ghost use Rattle.laws.specs.Sum.{bit, count};
 ghost use Rattle.laws.specs.Part.{part, put};
+ghost use Rattle.theory.specs.Net.{unblocked};
 ghost use Rattle.theory.specs.Greedy.{sends, forbid, fill, unmet};
 
-// 1 for an idle byte, and 0 for any other.
+// 1 for an idle byte, and 0 for any other: whether a fragment may be placed there.
 fn idle(byte: u8) -> u8
     ensures { λ r. ⌜ r ≡ bit (eqb byte 0) ⌝ }
 {
     (byte == 0) as u8
 }
 
-// Reserves the first `load` idle positions of a row, and answers how many fragments found no place.
-// Each byte is raised by what it takes, 1 or 0, and so is stored without a branch: in a row of mixed bytes a branch would often be guessed wrong.
-pub fn fill_row(row: &mut [u8], slots: usize, channels: usize, load: usize) -> usize
-    requires { ⌜ length (now row) ≡ slots * channels ⌝ }
-    ensures filled { λ _. ⌜ now (row .exit) ≡ fill (λ _. true) 0 load (now (row .entry)) ⌝ }
-    ensures short { λ r. ⌜ r ≡ unmet (λ _. true) 0 load (now (row .entry)) ⌝ }
+// How many positions of a stretch are idle. The count is as narrow as the bytes, so that many are counted at once.
+fn count_idle(stretch: &[u8]) -> usize
+    requires { ⌜ length (now stretch) ≤ 128 ⌝ }
+    ensures { λ r. ⌜ r ≡ count (λ k. unblocked k && eqb (getD (now (stretch .entry)) k 0) 0) (length (now (stretch .entry))) ⌝ }
 {
+    let mut count: u8 = 0;
+    for p in 0..stretch.len() {
+        count += idle(stretch[p]);
+    }
+    count as usize
+}
+
+// Reserves every idle position of a stretch: it is filled with as many fragments as it has positions.
+fn reserve_idle(stretch: &mut [u8])
+    ensures { λ _. ⌜ now (stretch .exit) ≡ fill unblocked 0 (length (now (stretch .entry))) (now (stretch .entry)) ⌝ }
+{
+    for p in 0..stretch.len() {
+        let byte = stretch[p];
+        let taken = idle(byte);
+        stretch[p] = byte + taken;
+    }
+}
+
+// How far a row is filled: the slots that are done, and the fragments that are left.
+struct Front {
+    slots: usize,
+    left: usize,
+}
+
+// Fills the first slots of a row, eight at a time, as long as more fragments are left than these eight have idle positions. No position of them is looked at
+// by itself.
+fn fill_front(row: &mut [u8], slots: usize, channels: usize, load: usize) -> Front
+    requires { ⌜ (channels ≤ 16) × (length (now row) ≡ slots * channels) ⌝ }
+    ensures within { λ r. ⌜ r .slots ≤ slots ⌝ }
+    ensures filled { λ r. ⌜ now (row .exit) ≡ fill unblocked 0 load (take (r .slots * channels) (now (row .entry))) ++ drop (r .slots * channels) (now (row .entry)) ⌝ }
+    ensures left { λ r. ⌜ r .left ≡ unmet unblocked 0 load (take (r .slots * channels) (now (row .entry))) ⌝ }
+{
+    let size = 8 * channels;
     let mut left = load;
     let mut at: usize = 0;
     let mut slot: usize = 0;
+    while 8 <= slots - slot {
+        let to = at + size;
+        let count = count_idle(&row[at..to]);
+        if left <= count {
+            break;
+        }
+        reserve_idle(&mut row[at..to]);
+        left -= count;
+        at = to;
+        slot += 8;
+    }
+    Front {
+        slots: slot,
+        left: left,
+    }
+}
+
+// Reserves the first `load` idle positions of a row, and answers how many fragments found no place.
+// The first slots go eight at a time, so that at most eight are looked at here. Each byte is raised by what it takes, 1 or 0, and so is stored without a branch: in a
+// row of mixed bytes a branch would often be guessed wrong.
+pub fn fill_row(row: &mut [u8], slots: usize, channels: usize, load: usize) -> usize
+    requires { ⌜ (channels ≤ 16) × (length (now row) ≡ slots * channels) ⌝ }
+    ensures filled { λ _. ⌜ now (row .exit) ≡ fill unblocked 0 load (now (row .entry)) ⌝ }
+    ensures short { λ r. ⌜ r ≡ unmet unblocked 0 load (now (row .entry)) ⌝ }
+{
+    let front = fill_front(row, slots, channels, load);
+    let mut left = front.left;
+    let mut slot = front.slots;
+    let mut at = slot * channels;
     'slots: while slot < slots {
         let mut channel: usize = 0;
         while channel < channels {

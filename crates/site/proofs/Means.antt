@@ -27,6 +27,7 @@ use Rattle.site.specs.declared.ClashAnswer.{ClashAnswer}
 use Rattle.site.specs.declared.ClashAnswer.the-variants.{Clear, Clash, Refused}
 use Rattle.site.proofs.Faults.{fine-is, up-to, up-to-is, sized, sizes-is}
 use Rattle.site.proofs.Accepted.{row-ok, ok-row, row-none}
+use Rattle.site.proofs.PassedOn.{clash-refused}
 
 -- ---- a site of zeros
 
@@ -221,7 +222,7 @@ module _ (s : Site) (a b : ℕ) where
   unfolding clashAnswer
   clash-only Clash (p, c) = simp (p, clashing-is c)
   clash-only Clear (p, n) = simp (p, refute (clashNamed s a b) (λ e. n (is-clashing e)))
-  clash-only (Refused f) (p, n) = simp (p, no-fine f n)
+  clash-only (Refused f) (p, n) = clash-refused s a b f .1 (sym p, no-fine f n)
 
 -- ---- edits
 

@@ -21,7 +21,7 @@ use Rattle.records.proofs.Bytes.{bytes-drop, bytes-take, words-length, words-of
 use Rattle.records.proofs.Reasons.{andThen, both-done, done-none}
 use Rattle.records.proofs.Head.{HeadGood, head-read, head-done}
 use Rattle.records.proofs.RecordTrip.{record-body, rest-back, record-back, body-length, record-again, head-again}
-use Rattle.site.specs.Record.{sizeOk}
+use Rattle.site.specs.Record.{sizeOk, siteOf}
 use Rattle.site.specs.declared.Site.{Site}
 use Rattle.site.proofs.Faults.{Sizes, sizes, sizes-is}
 use Rattle.sitefile.specs.Reasons.{loadsAt, reachAt, loadsReasons, pairReasons}
@@ -164,15 +164,7 @@ module _ (s : Site) (good : GoodSite s) where
 
   pub written-stated : siteIn B ≡ s
   unfolding siteIn
-  written-stated =
-      λ j.
-      record {
-        cells = cells-back j;
-        slots = slots-back j;
-        channels = channels-back j;
-        loads = words-back j;
-        reach = (ap reachIn reach-body ∙ pairs-back 0 .1) j;
-      }
+  written-stated = λ j. siteOf (cells-back j) (slots-back j) (channels-back j) (words-back j) ((ap reachIn reach-body ∙ pairs-back 0 .1) j)
 
 -- what an accepted file tells: each record is open, its contents are in order, and nothing follows the last
 pub record Accepted (b : List ℕ) : Type 0 where

@@ -17,7 +17,7 @@ use Rattle.sitefile.specs.Held.{Held}
 use Rattle.sitefile.proofs.PairLaws.{PairOk, pair-ok, pair-is}
 use Rattle.laws.proofs.Bits.{some-left, no-bits}
 use Rattle.site.proofs.Faults.{sizes, sizes-is}
-use Rattle.sitefile.proofs.Rows.{bitIn}
+use Rattle.sitefile.proofs.Rows.{digitIn}
 use Rattle.sitefile.proofs.PairTrip.{Named}
 use Rattle.sitefile.proofs.FileTrip.{GoodSite}
 
@@ -47,7 +47,7 @@ module _ (s : Site) (held : Held s) (fine : faultOf s ≡ Fine) where
       go (no l) = List·getD-eq-default (s .loads) 0 {n = k} (omega (arith, held .loads))
 
   all-named : Named (s .cells) (s .reach)
-  unfolding Named bitIn
+  unfolding Named digitIn
   all-named q l h =
       let r = row-names (s .cells) (rowOf s (q / 32)) (q / 32) (q % 32) (fine-sound s fine .rows (q / 32) (omega arith)) h in
       pair-is (s .cells) (q / 32 + 1) (q % 32 + 1)
@@ -65,7 +65,7 @@ module _ (s : Site) (held : Held s) (fine : faultOf s ≡ Fine) where
 
 module _ (s : Site) (good : GoodSite s) where
   named-bit : (k t : ℕ) → k < 32 → t < 32 → rowOf s k / 2 ^ t % 2 ≡ 1 → PairOk (s .cells) (k + 1) (t + 1)
-  unfolding Named bitIn
+  unfolding Named digitIn
   named-bit k t l m h =
       let ek : (k * 32 + t) / 32 ≡ k = omega arith in
       let et : (k * 32 + t) % 32 ≡ t = omega arith in

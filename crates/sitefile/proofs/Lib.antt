@@ -3,6 +3,7 @@ pub mod PairLaws
 pub mod PairReasons
 pub mod ReadLaws
 pub mod RowLaws
+pub mod LowestBit
 pub mod WriteLaws
 pub mod Rows
 pub mod PairTrip

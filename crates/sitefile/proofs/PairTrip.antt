@@ -19,29 +19,29 @@ use Rattle.sitefile.specs.Write.{pairBytes}
 use Rattle.sitefile.specs.declared.PairsRead.{PairsRead}
 use Rattle.sitefile.proofs.PairLaws.{High, high-none, high-mark, pair-ok, PairOk, readPairs}
 use Rattle.sitefile.proofs.RowLaws.{pair-set, pair-clear}
-use Rattle.sitefile.proofs.Rows.{bitIn, Rows, rows-ext, mark-same, mark-other, mark-rows, high-zero}
+use Rattle.sitefile.proofs.Rows.{digitIn, Rows, rows-ext, mark-same, mark-other, mark-rows, high-zero}
 
 abbrev pub rowsRead : List ℕ → PairsRead
 rowsRead rows = record { reach = rows; answer = Done }
 
 -- the bytes of a place
-set-bytes : (rows : List ℕ) (q : ℕ) → bitIn rows q ≡ 1 → pairOf (getD rows (q / 32) 0) q ≡ (q / 32 + 1) ∷ (q % 32 + 1) ∷ []
-unfolding bitIn
+set-bytes : (rows : List ℕ) (q : ℕ) → digitIn rows q ≡ 1 → pairOf (getD rows (q / 32) 0) q ≡ (q / 32 + 1) ∷ (q % 32 + 1) ∷ []
+unfolding digitIn
 set-bytes rows q e = pair-set (getD rows (q / 32) 0) q (eq-eqb _ 1 e)
 
-clear-bytes : (rows : List ℕ) (q : ℕ) → (bitIn rows q ≡ 1 → ⊥) → pairOf (getD rows (q / 32) 0) q ≡ []
-unfolding bitIn
+clear-bytes : (rows : List ℕ) (q : ℕ) → (digitIn rows q ≡ 1 → ⊥) → pairOf (getD rows (q / 32) 0) q ≡ []
+unfolding digitIn
 clear-bytes rows q n = pair-clear (getD rows (q / 32) 0) q (ne-eqb _ 1 n)
 
 -- every pair of a row's bits is in order
 unfoldable pub Named : ℕ → List ℕ → Type 0
-Named cells rows = (q : ℕ) → q < 1024 → bitIn rows q ≡ 1 → pairOk cells (q / 32 + 1) (q % 32 + 1) ≡ true
+Named cells rows = (q : ℕ) → q < 1024 → digitIn rows q ≡ 1 → pairOk cells (q / 32 + 1) (q % 32 + 1) ≡ true
 
 -- what is read at q: the bits below q, and none above
 record Part (rows part : List ℕ) (q : ℕ) : Type 0 where
   whole : Rows part
   none : High q part
-  low : (p : ℕ) → p < q → bitIn part p ≡ bitIn rows p
+  low : (p : ℕ) → p < q → digitIn part p ≡ digitIn rows p
 
 one-more : (P : ℕ → Type 0) (q : ℕ) → ((p : ℕ) → p < q → P p) → P q → (p : ℕ) → p < q + 1 → P p
 one-more P q all here p h = go (ℕ-discrete p q)
@@ -58,8 +58,8 @@ three-ways {P} p q less same more = go (decLt p q) (decLt q p)
     go (no n) (yes m) = more m
     go (no n) (no m) = same (omega arith)
 
-bit-two : (rows : List ℕ) (q : ℕ) → bitIn rows q < 2
-unfolding bitIn
+bit-two : (rows : List ℕ) (q : ℕ) → digitIn rows q < 2
+unfolding digitIn
 bit-two rows q = omega arith
 
 pub no-rows : Rows none
@@ -73,21 +73,21 @@ module _ (cells at : ℕ) (rows : List ℕ) (whole : Rows rows) (named : Named c
   read-from zero q e part s next h =
       ap rowsRead (rows-ext part rows (s .whole) whole (λ p l. s .low p (omega arith)))
   read-from (suc n) q e part s next h =
-      go (λ part′ s′ next′ h′. read-from n (q + 1) (omega arith) part′ s′ next′ h′) (ℕ-discrete (bitIn rows q) 1)
+      go (λ part′ s′ next′ h′. read-from n (q + 1) (omega arith) part′ s′ next′ h′) (ℕ-discrete (digitIn rows q) 1)
     where
       below : q < 1024
       below = omega arith
 
       go :
           ((part′ : List ℕ) → Part rows part′ (q + 1) → (next′ : ℕ) → next′ ≤ q + 1 → readPairs cells at next′ part′ (pairsFrom rows (q + 1) n) ≡ rowsRead rows) →
-          Dec (bitIn rows q ≡ 1) → readPairs cells at next part (pairsFrom rows q (suc n)) ≡ rowsRead rows
+          Dec (digitIn rows q ≡ 1) → readPairs cells at next part (pairsFrom rows q (suc n)) ≡ rowsRead rows
       go ih (yes b) =
           let ep : place (q / 32 + 1) (q % 32 + 1) ≡ q = omega arith in
           let s′ : Part rows (mark part q) (q + 1) = record {
             whole = mark-rows part q (s .whole .size) below (s .whole);
             none = high-mark q q part (s .whole .size) (omega arith) below (s .none);
             low =
-                one-more (λ p. bitIn (mark part q) p ≡ bitIn rows p) q
+                one-more (λ p. digitIn (mark part q) p ≡ digitIn rows p) q
                 (λ p l. mark-other part q (s .whole .size) below p (omega arith) ∙ s .low p l)
                 (mark-same part q (s .whole .size) below ∙ sym b);
           } in
@@ -98,7 +98,7 @@ module _ (cells at : ℕ) (rows : List ℕ) (whole : Rows rows) (named : Named c
             whole = s .whole;
             none = λ p l m. s .none p (omega arith) m;
             low =
-                one-more (λ p. bitIn part p ≡ bitIn rows p) q (s .low)
+                one-more (λ p. digitIn part p ≡ digitIn rows p) q (s .low)
                 (high-zero q part (s .none) q (omega arith) below ∙ sym (omega (arith, bit-two rows q)));
           } in
           rw (clear-bytes rows q b) (ih part s′ next (omega arith))
@@ -109,21 +109,21 @@ module _ (cells at : ℕ) (rows : List ℕ) (whole : Rows rows) (named : Named c
 
 -- places with no bit have no bytes
 skip :
-    (rows : List ℕ) (d p n : ℕ) → ((x : ℕ) → p ≤ x → x < p + d → bitIn rows x ≡ 0) →
+    (rows : List ℕ) (d p n : ℕ) → ((x : ℕ) → p ≤ x → x < p + d → digitIn rows x ≡ 0) →
     pairsFrom rows p (d + n) ≡ pairsFrom rows (p + d) n
 unfolding pairsFrom
 skip rows zero p n h = rw (add-zero p, zero-add n)
 skip rows (suc d) p n h =
     let e : p + suc d ≡ p + 1 + d = omega arith in
-    let z : bitIn rows p ≡ 0 = h p (omega arith) (omega arith) in
+    let z : digitIn rows p ≡ 0 = h p (omega arith) (omega arith) in
     rw (suc-add d n, clear-bytes rows p (λ b. omega arith), e)
     (skip rows d (p + 1) n (λ x l m. h x (omega arith) (omega arith)))
 
 -- what reading a body from next on tells of the rows
 pub record Trip (cells next : ℕ) (part rows body : List ℕ) : Type 0 where
   pub bytes : pairsFrom rows next (1024 - next) ≡ body
-  pub agree : (p : ℕ) → p < next → bitIn rows p ≡ bitIn part p
-  pub named : (p : ℕ) → next ≤ p → p < 1024 → bitIn rows p ≡ 1 → pairOk cells (p / 32 + 1) (p % 32 + 1) ≡ true
+  pub agree : (p : ℕ) → p < next → digitIn rows p ≡ digitIn part p
+  pub named : (p : ℕ) → next ≤ p → p < 1024 → digitIn rows p ≡ 1 → pairOk cells (p / 32 + 1) (p % 32 + 1) ≡ true
   pub whole : Rows rows
 
 module _ (cells at : ℕ) (most : cells ≤ 32) (rows : List ℕ) where
@@ -133,11 +133,11 @@ module _ (cells at : ℕ) (most : cells ≤ 32) (rows : List ℕ) where
   unfolding pairsFrom
   written-end next part l high whole e =
       let same : part ≡ rows = ap (λ (x : PairsRead). x .reach) e in
-      let zeros : (p : ℕ) → next ≤ p → p < 1024 → bitIn rows p ≡ 0 = λ p a b. rw same at (high-zero next part high p a b) in
+      let zeros : (p : ℕ) → next ≤ p → p < 1024 → digitIn rows p ≡ 0 = λ p a b. rw same at (high-zero next part high p a b) in
       let all : 1024 - next ≡ 1024 - next + 0 = omega arith in
       record {
         bytes = rw all (skip rows (1024 - next) next 0 (λ x a b. zeros x a (omega arith)));
-        agree = λ p a. ap (λ (x : List ℕ). bitIn x p) (sym same);
+        agree = λ p a. ap (λ (x : List ℕ). digitIn x p) (sym same);
         named = λ p a b c. let z = zeros p a b in absurd (omega arith);
         whole = rw same at whole;
       }
@@ -151,10 +151,10 @@ module _ (cells at : ℕ) (most : cells ≤ 32) (rows : List ℕ) where
       let below : q < 1024 = omega arith in
       let ef : q / 32 + 1 ≡ f = omega arith in
       let et : q % 32 + 1 ≡ t = omega arith in
-      let bit : bitIn rows q ≡ 1 = trip .agree q (omega arith) ∙ mark-same part q (whole .size) below in
-      let under : (p : ℕ) → p < q → bitIn rows p ≡ bitIn part p =
+      let bit : digitIn rows q ≡ 1 = trip .agree q (omega arith) ∙ mark-same part q (whole .size) below in
+      let under : (p : ℕ) → p < q → digitIn rows p ≡ digitIn part p =
       λ p l. trip .agree p (omega arith) ∙ mark-other part q (whole .size) below p (omega arith) in
-      let zeros : (p : ℕ) → next ≤ p → p < q → bitIn rows p ≡ 0 = λ p a l. under p l ∙ high-zero next part high p a (omega arith) in
+      let zeros : (p : ℕ) → next ≤ p → p < q → digitIn rows p ≡ 0 = λ p a l. under p l ∙ high-zero next part high p a (omega arith) in
       let count : 1024 - next ≡ q - next + suc (1024 - (q + 1)) = omega arith in
       let there : next + (q - next) ≡ q = omega arith in
       record {

@@ -27,7 +27,7 @@ module _ (row q : ℕ) where
   unfolding pairOf
   pair-clear h = rw h
 
-  pub pair-length : length (pairOf row q) ≡ 2 * (row / 2 ^ (q % 32) % 2)
+  pair-length : length (pairOf row q) ≡ 2 * (row / 2 ^ (q % 32) % 2)
   unfolding pairOf
   pair-length = go (row / 2 ^ (q % 32) % 2) (omega arith)
     where
@@ -35,26 +35,6 @@ module _ (row q : ℕ) where
       go zero h = refl
       go (suc zero) h = refl
       go (suc (suc d)) h = absurd (omega arith)
-
--- a row from bit b on, with `left` what is left of it there
-pub row-unroll :
-    (row q e : ℕ) → q < e → rowFrom row q (e - q) ≡ pairOf row q ++ rowFrom row (q + 1) (e - (q + 1))
-unfolding rowFrom
-row-unroll row q e h =
-    let k : e - q ≡ suc (e - (q + 1)) = omega arith in
-    rw k
-
-pub row-put :
-    (out : List ℕ) (k row q e : ℕ) → q < e →
-    sets (sets out k (pairOf row q)) (k + length (pairOf row q)) (rowFrom row (q + 1) (e - (q + 1)))
-    ≡ sets out k (rowFrom row q (e - q))
-row-put out k row q e h =
-    sym (sets-append out k (pairOf row q) (rowFrom row (q + 1) (e - (q + 1)))) ∙ ap (sets out k) (sym (row-unroll row q e h))
-
-pub row-unroll-length :
-    (row q e : ℕ) → q < e →
-    length (rowFrom row q (e - q)) ≡ length (pairOf row q) + length (rowFrom row (q + 1) (e - (q + 1)))
-row-unroll-length row q e h = ap length (row-unroll row q e h) ∙ simp length-append
 
 -- what is left a bit later
 pub left-half : (row b : ℕ) → row / 2 ^ b / 2 ≡ row / 2 ^ (b + 1)

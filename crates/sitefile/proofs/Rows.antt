@@ -43,15 +43,15 @@ same-low x y (suc k) h =
     let b : x / 2 ^ k % 2 ≡ y / 2 ^ k % 2 = h k (omega arith) in
     rw (← one-add k, mod-pow-add x 1 k, mod-pow-add y 1 k, e, b)
 
-unfoldable pub bitIn : List ℕ → ℕ → ℕ
-bitIn rows q = getD rows (q / 32) 0 / 2 ^ (q % 32) % 2
+unfoldable pub digitIn : List ℕ → ℕ → ℕ
+digitIn rows q = getD rows (q / 32) 0 / 2 ^ (q % 32) % 2
 
 pub record Rows (rows : List ℕ) : Type 0 where
   pub size : length rows ≡ 32
   pub fits : (k : ℕ) → k < 32 → getD rows k 0 < 2 ^ 32
 
-pub rows-ext : (a b : List ℕ) → Rows a → Rows b → ((q : ℕ) → q < 1024 → bitIn a q ≡ bitIn b q) → a ≡ b
-unfolding bitIn
+pub rows-ext : (a b : List ℕ) → Rows a → Rows b → ((q : ℕ) → q < 1024 → digitIn a q ≡ digitIn b q) → a ≡ b
+unfolding digitIn
 rows-ext a b ra rb h = ext-getD 0 a b (ra .size ∙ sym (rb .size)) (λ k l. row k (omega (arith, ra .size)))
   where
     bits : (k : ℕ) → k < 32 → (t : ℕ) → t < 32 → getD a k 0 / 2 ^ t % 2 ≡ getD b k 0 / 2 ^ t % 2
@@ -65,17 +65,17 @@ rows-ext a b ra rb h = ext-getD 0 a b (ra .size ∙ sym (rb .size)) (λ k l. row
 
 -- a mark sets its own bit and no other
 module _ (rows : List ℕ) (q : ℕ) (size : length rows ≡ 32) (l : q < 1024) where
-  pub mark-same : bitIn (mark rows q) q ≡ 1
-  unfolding bitIn
+  pub mark-same : digitIn (mark rows q) q ≡ 1
+  unfolding digitIn
   mark-same =
       rw (getD-set-same rows (q / 32) (setBit (getD rows (q / 32) 0) (q % 32)) 0 (omega arith))
       (bit-new (getD rows (q / 32) 0) (q % 32))
 
-  pub mark-other : (p : ℕ) → (p ≡ q → ⊥) → bitIn (mark rows q) p ≡ bitIn rows p
-  unfolding bitIn
+  pub mark-other : (p : ℕ) → (p ≡ q → ⊥) → digitIn (mark rows q) p ≡ digitIn rows p
+  unfolding digitIn
   mark-other p n = go (ℕ-discrete (p / 32) (q / 32))
     where
-      go : Dec (p / 32 ≡ q / 32) → bitIn (mark rows q) p ≡ bitIn rows p
+      go : Dec (p / 32 ≡ q / 32) → digitIn (mark rows q) p ≡ digitIn rows p
       go (yes e) =
           rw (e, getD-set-same rows (q / 32) (setBit (getD rows (q / 32) 0) (q % 32)) 0 (omega arith))
           (bit-other (getD rows (q / 32) 0) (q % 32) (p % 32) (λ f. n (omega arith)))
@@ -94,6 +94,6 @@ module _ (rows : List ℕ) (q : ℕ) (size : length rows ≡ 32) (l : q < 1024) 
           go (no f) = rw (getD-set-other rows (q / 32) k (setBit (getD rows (q / 32) 0) (q % 32)) 0 f) (r .fits k m)
 
 -- no bit at next or above it
-pub high-zero : (next : ℕ) (rows : List ℕ) → High next rows → (q : ℕ) → next ≤ q → q < 1024 → bitIn rows q ≡ 0
-unfolding bitIn
+pub high-zero : (next : ℕ) (rows : List ℕ) → High next rows → (q : ℕ) → next ≤ q → q < 1024 → digitIn rows q ≡ 0
+unfolding digitIn
 high-zero next rows h q n l = rw (div-eq-of-lt (h q n l))

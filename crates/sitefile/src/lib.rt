@@ -15,13 +15,14 @@ use site::Fault;
 use site::Site;
 use site::within;
 ghost use mathlib.Core.Path.{_≡_};
-ghost use Prim.Native.Nat.{_+_, _*_, _/_, _%_, _^_, _≤_, _<_};
+ghost use mathlib.Core.List.{[], _∷_};
+ghost use Prim.Native.Nat.{_+_, _*_, _≤_, _<_};
 ghost use lib.ListN.{length, take};
 ghost use lib.Seq.{sets};
 ghost use Rattle.laws.specs.Bits.{setBit};
 ghost use Rattle.records.specs.Bytes.{words};
 ghost use Rattle.records.specs.Write.{laidOver};
-ghost use Rattle.sitefile.specs.Pairs.{pairOk, place, pairOf, rowFrom};
+ghost use Rattle.sitefile.specs.Pairs.{pairOk, place, rowFrom};
 ghost use Rattle.sitefile.specs.Read.{loadsIn, noRows, pairsRead, reachRead, refusedSite, readSite};
 ghost use Rattle.sitefile.specs.Write.{siteBytes, pairBytes, written, siteWritten, siteOut};
 
@@ -184,16 +185,13 @@ pub fn read_site(bytes: &[u8]) -> SiteRead
     let ReadAnswer::Done = answer else {
         return refused(answer);
     };
-    SiteRead {
-        site: Site {
-            cells,
-            slots: word(bytes, 6),
-            channels: word(bytes, 8),
-            loads,
-            reach,
-        },
-        answer,
-    }
+    let mut site = Site::zeros();
+    site.cells = cells;
+    site.slots = word(bytes, 6);
+    site.channels = word(bytes, 8);
+    site.loads = loads;
+    site.reach = reach;
+    SiteRead { site, answer }
 }
 
 // Stores the first n loads, two bytes each.
@@ -228,20 +226,17 @@ fn pairs_len(reach: [u32; 32]) -> usize
     n
 }
 
-// The pair at q, if its bit, the lowest of `left`, is set. Gives where the next one goes.
-fn put_pair(out: &mut [u8], at: usize, row: u32, left: u32, q: usize) -> usize
-    requires { ⌜ (q < 1024) × (left ≡ row / 2 ^ (q % 32)) × (at + length (pairOf row q) ≤ length (now out)) ⌝ }
-    ensures { λ r. ⌜ r ≡ at + length (pairOf row q) ⌝ }
-    ensures { λ _. ⌜ now (out .exit) ≡ sets (now (out .entry)) at (pairOf row q) ⌝ }
+// The pair of row a and bit b. Gives where the next one goes.
+fn put_pair(out: &mut [u8], at: usize, a: usize, b: u32) -> usize
+    requires { ⌜ (a < 32) × (b < 32) × (at + 2 ≤ length (now out)) ⌝ }
+    ensures { λ r. ⌜ r ≡ at + 2 ⌝ }
+    ensures { λ _. ⌜ now (out .exit) ≡ sets (now (out .entry)) at ((a + 1) ∷ (b + 1) ∷ []) ⌝ }
 {
-    if left % 2 == 1 {
-        put_two(out, at, (q / 32 + 1) as u8, (q % 32 + 1) as u8);
-        return at + 2;
-    }
-    at
+    put_two(out, at, (a + 1) as u8, (b + 1) as u8);
+    at + 2
 }
 
-// The pairs of row a. No place past its last bit is looked at.
+// The pairs of row a: that of the lowest bit that is left, which is then cleared, until none is.
 fn put_row(out: &mut [u8], at: usize, row: u32, a: usize) -> usize
     requires { ⌜ (a < 32) × (at + length (rowFrom row (32 * a) 32) ≤ length (now out)) ⌝ }
     ensures { λ r. ⌜ r ≡ at + length (rowFrom row (32 * a) 32) ⌝ }
@@ -249,23 +244,21 @@ fn put_row(out: &mut [u8], at: usize, row: u32, a: usize) -> usize
 {
     let mut k = at;
     let mut left = row;
-    let mut q = 32 * a;
     while left != 0 {
-        k = put_pair(out, k, row, left, q);
-        left = left >> 1;
-        q += 1;
+        k = put_pair(out, k, a, u32::trailing_zeros(left));
+        left = left & (left - 1);
     }
     k
 }
 
-// Stores the pairs of all rows, in rising order.
-fn put_pairs(out: &mut [u8], at: usize, reach: [u32; 32])
-    requires { ⌜ at + length (pairBytes reach) ≤ length (now out) ⌝ }
-    ensures { λ _. ⌜ now (out .exit) ≡ sets (now (out .entry)) at (pairBytes reach) ⌝ }
+// Stores the pairs of all rows, in rising order, from `at` to `end`. No row past the last pair is looked at.
+fn put_pairs(out: &mut [u8], at: usize, reach: &[u32; 32], end: usize)
+    requires { ⌜ (end ≡ at + length (pairBytes (now reach))) × (end ≤ length (now out)) ⌝ }
+    ensures { λ _. ⌜ now (out .exit) ≡ sets (now (out .entry)) at (pairBytes (now (reach .entry))) ⌝ }
 {
     let mut k = at;
     let mut a: usize = 0;
-    while a < 32 {
+    while k < end {
         k = put_row(out, k, reach[a], a);
         a += 1;
     }
@@ -292,7 +285,7 @@ fn put_site(s: Site, out: &mut [u8]) -> SiteWritten
     put_start(out, AFTER_HEAD, 2 + 2 * cells, 2);
     put_loads(out, from, loads, n);
     put_start(out, at, (2 + m) as u16, 3);
-    put_pairs(out, at + 4, reach);
+    put_pairs(out, at + 4, &reach, need);
     SiteWritten::Done(need)
 }
 

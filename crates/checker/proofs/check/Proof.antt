@@ -1,11 +1,15 @@
 -- `checker::check` meets its contract: a case for each way out. Assumes nothing.
 use borrow.Author.Tests.{lt-ltb}
-use Rattle.site.specs.Record.{faultOf}
+use Rattle.theory.specs.Net.{unblocked}
+use Rattle.theory.specs.Greedy.{reserved}
+use Rattle.theory.specs.Verdict.{tableVerdict}
+use Rattle.site.specs.Record.{positions, faultOf}
+use Rattle.site.specs.Reach.{netIn}
 use Rattle.site.specs.declared.Fault.the-variants.{Fine}
 use Rattle.site.proofs.Faults.{not-fine, fine-sized, Sized, few-positions, few-bytes}
-use Rattle.checker.specs.Check.{checkAnswer}
+use Rattle.checker.specs.Check.{verdictOf, checkAnswer}
 use Rattle.checker.proofs.Judged.{check-judged}
-use mathlib.Core.Path.{_≡_, sym, _∙_}
+use mathlib.Core.Path.{_≡_, sym, ap, _∙_}
 use native.Mathlib.Omega.{arith}
 use borrow.Author.Needs.{needs}
 use Rattle.checker.proofs.check.Statement.{statement}
@@ -47,6 +51,9 @@ returns-2 : tie.Need-returns-2
 unfolding checkAnswer
 returns-2 c = simp (fine (c .before .before .before .before), lt-ltb _ _ (c .if1 .taken))
 
+clash-rows-requires : tie.Need-clash-rows-requires
+clash-rows-requires c κs = search needs
+
 judge-requires : tie.Need-judge-requires
 judge-requires c κs =
     let e = c .before .before .before in
@@ -57,7 +64,12 @@ returns-3 : tie.Need-returns-3
 returns-3 c =
     let e = c .before .before .before .before in
     let a = e .before .before .before .before .before .before .before .before .args in
-    c .judge .ensures ∙ check-judged (a .site) (a .table .now) (fine (e .before .before .before .before)) (e .if1 .left)
+    let s = a .site in
+    let ok : faultOf s ≡ Fine = fine (e .before .before .before .before) in
+    c .judge .ensures
+    ∙ ap (λ clash. verdictOf (tableVerdict (netIn (s .cells) (positions s) (s .loads) clash unblocked) (reserved (positions s) (a .table .now))))
+    (c .before .before .before .clash-rows .ensures .1 ok)
+    ∙ check-judged s (a .table .now) ok (e .if1 .left)
 
 pub check-spec : {M : Type 1} → statement M
 check-spec =
@@ -72,5 +84,6 @@ check-spec =
     mul-n
     mul-if1
     returns-2
+    clash-rows-requires
     judge-requires
     returns-3)

@@ -1,49 +1,85 @@
--- `checker::lowest_clash` meets its contract: the marks are those of the words, and the words those of the table. Assumes nothing.
-use mathlib.Core.Path.{_∙_}
-use Rattle.checker.proofs.Lowest.{lowest}
+-- `checker::lowest_clash` meets its contract: a search: what is left gives the answer. Assumes nothing.
+use mathlib.Core.Path.{_≡_, refl}
+use mathlib.Core.Bool.{Bool}
+use mathlib.Core.List.{List}
+use Prim.Native.Nat.{ℕ, _-_, _≤_}
+use native.Mathlib.Omega.{arith}
+use Rattle.laws.specs.Search.{first}
+use Rattle.laws.proofs.Search.{ended}
+use Rattle.theory.specs.Greedy.{reserved}
+use Rattle.theory.specs.Verdict.{lowestClash}
+use Rattle.checker.specs.Marks.{clashNet, clashing}
+use Rattle.checker.proofs.Lowest.{part-found, part-missed}
 use borrow.Author.Needs.{needs}
 use Rattle.checker.proofs.lowest_clash.Statement.{statement}
 use Rattle.checker.proofs.lowest_clash.Tie as tie
 
-slice-aggregate-gather : tie.Need-slice-aggregate-gather
-slice-aggregate-gather c = search needs
+abbrev test : List ℕ → ℕ → List ℕ → ℕ → ℕ → Bool
+test table n clash cells = clashing (clashNet cells n clash) (reserved n table)
 
-gather-requires : tie.Need-gather-requires
-gather-requires c κs = search needs
+abbrev Inv-loop : tie.InvT-loop
+Inv-loop table n clash cells from₀ from = (from ≤ n) × (lowestClash (clashNet cells n clash) (reserved n table) ≡ first (test table n clash cells) from n)
 
-slice-aggregate-mark-all : tie.Need-slice-aggregate-mark-all
-slice-aggregate-mark-all c = search needs
+abbrev μ-loop : tie.MeasureT-loop
+μ-loop table n clash cells from₀ from = n - from
 
-slice-aggregate-mark-all-2 : tie.Need-slice-aggregate-mark-all-2
-slice-aggregate-mark-all-2 c = search needs
+loop-holds : tie.Need-loop-holds Inv-loop μ-loop
+unfolding lowestClash
+loop-holds c = (omega arith, refl)
 
-mark-all-requires : tie.Need-mark-all-requires
-mark-all-requires c κs = search needs
+sub-together : tie.Need-sub-together Inv-loop μ-loop
+sub-together c = search needs
 
-slice-aggregate-lowest-marked : tie.Need-slice-aggregate-lowest-marked
-slice-aggregate-lowest-marked c = search needs
+together-requires : tie.Need-together-requires Inv-loop μ-loop
+together-requires c κs = search needs
 
-lowest-marked-requires : tie.Need-lowest-marked-requires
-lowest-marked-requires c κs = search needs
+clash-in-requires : tie.Need-clash-in-requires Inv-loop μ-loop
+clash-in-requires c κs = search needs
 
-returns : tie.Need-returns
+add-result : tie.Need-add-result Inv-loop μ-loop
+add-result c = omega arith
+
+returns : tie.Need-returns Inv-loop μ-loop
 returns c =
-    let m = c .before .before .before in
-    let g = m .before .before .before .before in
-    let s = g .before .before .before in
-    c .lowest-marked .ensures
-    ∙ lowest (s .args .cells) (s .args .n) (s .args .reach .now) (s .args .table .now) _ (g .gather .last .0) _ (m .mark-all .last .0)
-    (s .pre .1) (s .pre .1) (g .gather .ensures) (m .mark-all .ensures)
+    let at = c .before .before .before .before in
+    let a = at .before .before .args in
+    part-found (test (a .table .now) (a .n) (a .clash .now) (a .cells)) (at .loop .from) (c .before .before .together .result) (a .n) (omega arith) (at .loop .inv .1)
+    (c .before .clash-in .ensures) (c .if1 .taken)
+
+add-from : tie.Need-add-from Inv-loop μ-loop
+add-from c = search needs
+
+loop-less : tie.Need-loop-less Inv-loop μ-loop
+loop-less c = search needs
+
+loop-again : tie.Need-loop-again Inv-loop μ-loop
+loop-again c =
+    let at = c .before .before .before .before in
+    let a = at .before .before .args in (
+      omega arith,
+      part-missed (test (a .table .now) (a .n) (a .clash .now) (a .cells)) (at .loop .from) (c .before .before .together .result) (a .n) (omega arith) (at .loop .inv .1)
+          (c .before .clash-in .ensures) (c .if1 .left),
+    )
+
+returns-2 : tie.Need-returns-2 Inv-loop μ-loop
+returns-2 c =
+    let at = c .before in
+    let a = at .before .before .args in
+    ended (test (a .table .now) (a .n) (a .clash .now) (a .cells)) (at .loop .from) (a .n) (at .loop .inv .1) (omega arith)
 
 pub lowest-clash-spec : {M : Type 1} → statement M
 lowest-clash-spec =
     tie.close
     (tie.spec
-    slice-aggregate-gather
-    gather-requires
-    slice-aggregate-mark-all
-    slice-aggregate-mark-all-2
-    mark-all-requires
-    slice-aggregate-lowest-marked
-    lowest-marked-requires
-    returns)
+    Inv-loop
+    μ-loop
+    loop-holds
+    sub-together
+    together-requires
+    clash-in-requires
+    add-result
+    returns
+    add-from
+    loop-less
+    loop-again
+    returns-2)

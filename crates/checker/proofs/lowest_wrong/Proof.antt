@@ -3,19 +3,18 @@ use Rattle.checker.proofs.Rows.{is-wrong, is-right}
 use mathlib.Core.Path.{_≡_, refl}
 use Prim.Native.Nat.{_-_}
 use native.Mathlib.Omega.{arith}
-use mathlib.Core.List.{[]}
 use Rattle.laws.specs.Search.{first}
 use Rattle.laws.proofs.Search.{found, missed, ended}
 use Rattle.laws.proofs.Grid.{row-before}
 use Rattle.theory.specs.Greedy.{reserved}
 use Rattle.theory.specs.Verdict.{wrongIn, lowestWrong}
-use Rattle.site.specs.Reach.{netIn}
+use Rattle.checker.specs.Marks.{loadNet}
 use borrow.Author.Needs.{needs}
 use Rattle.checker.proofs.lowest_wrong.Statement.{statement}
 use Rattle.checker.proofs.lowest_wrong.Tie as tie
 
 abbrev Inv-loop : tie.InvT-loop
-Inv-loop table n cells loads i₀ i = lowestWrong (netIn cells n loads []) (reserved n table) ≡ first (wrongIn (netIn cells n loads []) (reserved n table)) i cells
+Inv-loop table n cells loads i₀ i = lowestWrong (loadNet cells n loads) (reserved n table) ≡ first (wrongIn (loadNet cells n loads) (reserved n table)) i cells
 
 abbrev μ-loop : tie.MeasureT-loop
 μ-loop table n cells loads i₀ i = cells - i
@@ -42,7 +41,7 @@ returns : tie.Need-returns Inv-loop μ-loop
 returns c =
     let at = c .before .before .before in
     let a = at .before .before .args in
-    found (wrongIn (netIn (a .cells) (a .n) (a .t3) []) (reserved (a .n) (a .table .now))) (at .loop .i) (a .cells) (at .loop .inv) (omega arith)
+    found (wrongIn (loadNet (a .cells) (a .n) (a .t3)) (reserved (a .n) (a .table .now))) (at .loop .i) (a .cells) (at .loop .inv) (omega arith)
     (is-wrong (a .cells) (a .n) (a .t3) (a .table .now) (at .loop .i) (c .before .row-count .ensures) (λ e. omega (arith, c .if1 .taken)))
 
 add-i : tie.Need-add-i Inv-loop μ-loop
@@ -55,14 +54,14 @@ loop-again : tie.Need-loop-again Inv-loop μ-loop
 loop-again c =
     let at = c .before .before .before in
     let a = at .before .before .args in
-    missed (wrongIn (netIn (a .cells) (a .n) (a .t3) []) (reserved (a .n) (a .table .now))) (at .loop .i) (a .cells) (at .loop .inv) (omega arith)
+    missed (wrongIn (loadNet (a .cells) (a .n) (a .t3)) (reserved (a .n) (a .table .now))) (at .loop .i) (a .cells) (at .loop .inv) (omega arith)
     (is-right (a .cells) (a .n) (a .t3) (a .table .now) (at .loop .i) (c .before .row-count .ensures) (omega (arith, c .if1 .left)))
 
 returns-2 : tie.Need-returns-2 Inv-loop μ-loop
 returns-2 c =
     let at = c .before in
     let a = at .before .before .args in
-    ended (wrongIn (netIn (a .cells) (a .n) (a .t3) []) (reserved (a .n) (a .table .now))) (at .loop .i) (a .cells) (at .loop .inv) (omega arith)
+    ended (wrongIn (loadNet (a .cells) (a .n) (a .t3)) (reserved (a .n) (a .table .now))) (at .loop .i) (a .cells) (at .loop .inv) (omega arith)
 
 pub lowest-wrong-spec : {M : Type 1} → statement M
 lowest-wrong-spec =

@@ -1,41 +1,48 @@
 -- `judges::first_break` meets its contract: the invariant says that the search that is left gives the answer. Assumes nothing.
 use Prim.Native.Nat.{ℕ, _-_}
 use mathlib.Core.Bool.{Bool}
-use mathlib.Core.List.{List, []}
+use mathlib.Core.List.{List}
 use mathlib.Core.Path.{_≡_, refl, sym}
 use native.Mathlib.Omega.{arith}
 use borrow.Author.Tests.{lt-ltb, le-ltb}
 use lib.Dec.{ltb}
+use Rattle.laws.specs.Bits.{bitAt, bitIn}
 use Rattle.laws.specs.Search.{first}
 use Rattle.laws.proofs.Search.{found, missed, ended}
-use Rattle.theory.specs.Net.{everyone}
-use Rattle.theory.specs.Verdict.{breakOf, firstBreak}
+use Rattle.theory.specs.Verdict.{gap, breaks, breakOf, firstBreak}
+use Rattle.judges.specs.Words.{chainIn}
 use borrow.Author.Needs.{needs}
 use Rattle.judges.proofs.first_break.Statement.{statement}
-use Rattle.site.specs.Reach.{netIn}
 use Rattle.judges.proofs.first_break.Tie as tie
 
-abbrev test : List ℕ → ℕ → ℕ → Bool
-test rows cells a = ltb (breakOf (netIn cells 0 [] rows) everyone a) cells
+abbrev test : List ℕ → ℕ → ℕ → ℕ → Bool
+test rows who cells a = ltb (breakOf (chainIn cells (bitIn rows)) (bitAt who) a) cells
 
 abbrev Inv-loop : tie.InvT-loop
-Inv-loop reach cells a₀ a = firstBreak (netIn cells 0 [] reach) everyone ≡ first (test reach cells) a cells
+Inv-loop clash who cells a₀ a = firstBreak (chainIn cells (bitIn clash)) (bitAt who) ≡ first (test clash who cells) a cells
 
 abbrev μ-loop : tie.MeasureT-loop
-μ-loop reach cells a₀ a = cells - a
+μ-loop clash who cells a₀ a = cells - a
 
 loop-holds : tie.Need-loop-holds Inv-loop μ-loop
 unfolding firstBreak
 loop-holds c = refl
 
+mul-break-of : tie.Need-mul-break-of Inv-loop μ-loop
+mul-break-of c = search needs
+
+element-copy-out-break-of : tie.Need-element-copy-out-break-of Inv-loop μ-loop
+element-copy-out-break-of c = search needs
+
 break-of-requires : tie.Need-break-of-requires Inv-loop μ-loop
 break-of-requires c κs = search needs
 
 returns : tie.Need-returns Inv-loop μ-loop
+unfolding breakOf breaks gap
 returns c =
-    let at = c .before .before .before in
+    let at = c .before .before .before .before in
     let args = at .before .args in
-    found (test (args .reach .now) (args .cells)) (at .loop .a) (args .cells) (at .loop .inv) (omega arith) (simp (sym (c .before .break-of .ensures)) (lt-ltb _ _ (c .if1 .taken)))
+    found (test (args .clash .now) (args .who) (args .cells)) (at .loop .a) (args .cells) (at .loop .inv) (omega arith) (simp (sym (c .before .break-of .ensures)) (lt-ltb _ _ (c .if1 .taken)))
 
 add-a : tie.Need-add-a Inv-loop μ-loop
 add-a c = search needs
@@ -44,16 +51,17 @@ loop-less : tie.Need-loop-less Inv-loop μ-loop
 loop-less c = search needs
 
 loop-again : tie.Need-loop-again Inv-loop μ-loop
+unfolding breakOf breaks gap
 loop-again c =
-    let at = c .before .before .before in
+    let at = c .before .before .before .before in
     let args = at .before .args in
-    missed (test (args .reach .now) (args .cells)) (at .loop .a) (args .cells) (at .loop .inv) (omega arith) (simp (sym (c .before .break-of .ensures)) (le-ltb _ _ (c .if1 .left)))
+    missed (test (args .clash .now) (args .who) (args .cells)) (at .loop .a) (args .cells) (at .loop .inv) (omega arith) (simp (sym (c .before .break-of .ensures)) (le-ltb _ _ (c .if1 .left)))
 
 returns-2 : tie.Need-returns-2 Inv-loop μ-loop
 returns-2 c =
     let at = c .before in
     let args = at .before .args in
-    ended (test (args .reach .now) (args .cells)) (at .loop .a) (args .cells) (at .loop .inv) (omega arith)
+    ended (test (args .clash .now) (args .who) (args .cells)) (at .loop .a) (args .cells) (at .loop .inv) (omega arith)
 
 pub first-break-spec : {M : Type 1} → statement M
 first-break-spec =
@@ -62,6 +70,8 @@ first-break-spec =
     Inv-loop
     μ-loop
     loop-holds
+    mul-break-of
+    element-copy-out-break-of
     break-of-requires
     returns
     add-a

@@ -1,75 +1,30 @@
--- `planfile::put_whole` meets its contract. The invariant: to store the bytes that are left from j on makes the output. Assumes nothing.
-use Prim.Native.Nat.{_+_, _-_, _*_, _≤_}
-use mathlib.Core.Path.{_≡_, refl, sym, _∙_}
-use native.Mathlib.Nat.{add-zero, sub-zero}
+-- `planfile::put_whole` meets its contract: the blocks, and the rest after them. Assumes nothing.
+use borrow.Author.Needs.{needs}
+use Prim.Native.Nat.{_*_, _/_}
 use native.Mathlib.Omega.{arith}
-use lib.ListN.{length, length-set}
-use lib.Seq.{sets}
 use denote.Ref.{now}
-use Rattle.planfile.specs.Bits.{packedFrom}
-use Rattle.planfile.proofs.Bits.{put-step, put-end}
+use Rattle.planfile.proofs.Block.{put-all}
 use Rattle.planfile.proofs.put_whole.Statement.{statement}
 use Rattle.planfile.proofs.put_whole.Tie as tie
 
-abbrev Inv-loop : tie.InvT-loop
-Inv-loop table out₀ at m j₀ out j =
-    (j ≤ m) × (length out ≡ length out₀) × (sets out (at + j) (packedFrom table (8 * j) (m - j)) ≡ sets out₀ at (packedFrom table 0 m))
+put-blocks-requires : tie.Need-put-blocks-requires
+put-blocks-requires c κs = search needs
 
-abbrev μ-loop : tie.MeasureT-loop
-μ-loop table out₀ at m j₀ out j = m - j
+mul-put-rest : tie.Need-mul-put-rest
+mul-put-rest c = search needs
 
-loop-holds : tie.Need-loop-holds Inv-loop μ-loop
-loop-holds c = (omega arith, refl, rw (sub-zero (c .before .before .args .m), add-zero (c .before .before .args .at)))
+put-rest-requires : tie.Need-put-rest-requires
+put-rest-requires c κs = search needs
 
-mul-byte-of : tie.Need-mul-byte-of Inv-loop μ-loop
-mul-byte-of c = omega arith
+same-length : tie.Need-same-length
+same-length c = search needs
 
-byte-of-requires : tie.Need-byte-of-requires Inv-loop μ-loop
-byte-of-requires c κs = omega arith
-
-add-out : tie.Need-add-out Inv-loop μ-loop
-add-out c = omega arith
-
-slice-write-out : tie.Need-slice-write-out Inv-loop μ-loop
-slice-write-out c = omega arith
-
-add-j : tie.Need-add-j Inv-loop μ-loop
-add-j c = omega arith
-
-loop-less : tie.Need-loop-less Inv-loop μ-loop
-loop-less c = omega arith
-
-loop-again : tie.Need-loop-again Inv-loop μ-loop
-loop-again c =
-    let l = c .before .before .loop in
-    let a = c .before .before .before .before .before .args in (
-      omega arith,
-      length-set (l .out) _ _ ∙ l .inv .1,
-      rw (c .byte-of .ensures) (put-step (now (a .table)) (l .out) (a .at) (l .j) (a .m) (c .before .loop-test .taken) ∙ l .inv .2),
-    )
-
-same-length : tie.Need-same-length Inv-loop μ-loop
-same-length c = c .before .loop .inv .1
-
-returns : tie.Need-returns Inv-loop μ-loop
+returns : tie.Need-returns
 returns c =
-    let l = c .before .loop in
-    let a = c .before .before .before .before .args in
-    sym (put-end (now (a .table)) (l .out) (a .at) (l .j) (a .m) (c .loop-test .left)) ∙ l .inv .2
+    let r = c .before .before in
+    let b = r .before .before .before .before in
+    let a = b .before .before .before .before .args in
+    rw (r .put-rest .ensures, b .put-blocks .ensures) (put-all (now (a .table)) (now (a .out)) (a .at) (32 * (a .m / 32)) (a .m) (omega arith))
 
 pub put-whole-spec : {M : Type 1} → statement M
-put-whole-spec =
-    tie.close
-    (tie.spec
-    Inv-loop
-    μ-loop
-    loop-holds
-    mul-byte-of
-    byte-of-requires
-    add-out
-    slice-write-out
-    add-j
-    loop-less
-    loop-again
-    same-length
-    returns)
+put-whole-spec = tie.close (tie.spec put-blocks-requires mul-put-rest put-rest-requires same-length returns)

@@ -8,22 +8,23 @@ use native.Mathlib.Omega.{arith}
 use lib.ListN.{length}
 use Rattle.planner.proofs.Marked.{marks, marks-long, marks-none, marks-yes, marks-no}
 use Rattle.planner.proofs.mark_row.Statement.{statement}
-use Rattle.site.specs.Reach.{netIn}
+use Rattle.laws.specs.Bits.{bitIn}
+use Rattle.planner.specs.Plan.{netBy}
 use Rattle.planner.proofs.mark_row.Tie as tie
 
 abbrev Inv-loop : tie.InvT-loop
-Inv-loop table₀ n i reach j₀ table j = (j ≤ i) × (length table ≡ length table₀) × (table ≡ marks (netIn 0 n [] reach) i j table₀)
+Inv-loop table₀ n i clash j₀ table j = (j ≤ i) × (length table ≡ length table₀) × (table ≡ marks (netBy 0 n [] (bitIn clash)) i j table₀)
 
 abbrev μ-loop : tie.MeasureT-loop
-μ-loop table₀ n i reach j₀ table j = i - j
+μ-loop table₀ n i clash j₀ table j = i - j
 
 loop-holds : tie.Need-loop-holds Inv-loop μ-loop
 loop-holds c =
     let start = c .before in
-    (omega arith, refl, marks-none (netIn 0 (start .args .n) [] (start .args .reach .now)) _ _ (start .pre .0) (start .pre .1))
+    (omega arith, refl, marks-none (netBy 0 (start .args .n) [] (bitIn (start .args .clash .now))) _ _ (start .pre .0 .1) (start .pre .1))
 
 clashes-requires : tie.Need-clashes-requires Inv-loop μ-loop
-clashes-requires c κs = tt
+clashes-requires c κs = (omega arith, omega arith)
 
 forbid-row-requires : tie.Need-forbid-row-requires Inv-loop μ-loop
 forbid-row-requires c κs = omega arith
@@ -38,22 +39,22 @@ loop-less c = omega arith
 turned :
     (c : tie.Joined1 Inv-loop μ-loop) →
     let start = c .before .before .before .before .before in
-    c .if1 .table ≡ marks (netIn 0 (start .args .n) [] (start .args .reach .now)) (start .args .i) (c .before .before .before .loop .j + 1) (start .args .table .now)
+    c .if1 .table ≡ marks (netBy 0 (start .args .n) [] (bitIn (start .args .clash .now))) (start .args .i) (c .before .before .before .loop .j + 1) (start .args .table .now)
 turned c =
     let at = c .before .before .before in
     let start = at .before .before in
-    let net = netIn 0 (start .args .n) [] (start .args .reach .now) in
+    let net = netBy 0 (start .args .n) [] (bitIn (start .args .clash .now)) in
     let said = c .before .clashes .ensures in
     ⊎-elim
-    (λ w. marks-yes net _ _ (start .pre .0) _ (at .loop .inv .2) (c .before .before .loop-test .taken) (sym (w .0 .taken) ∙ said) (w .5 ∙ w .2 .ensures))
-    (λ w. marks-no net _ _ (start .pre .0) _ (at .loop .inv .2) (sym (w .0 .left) ∙ said) (w .1))
+    (λ w. marks-yes net _ _ (start .pre .0 .1) _ (at .loop .inv .2) (c .before .before .loop-test .taken) (sym (w .0 .taken) ∙ said) (w .5 ∙ w .2 .ensures))
+    (λ w. marks-no net _ _ (start .pre .0 .1) _ (at .loop .inv .2) (sym (w .0 .left) ∙ said) (w .1))
     (c .if1 .came)
 
 loop-again : tie.Need-loop-again Inv-loop μ-loop
 loop-again c =
     let start = c .before .before .before .before .before in (
       omega arith,
-      ap length (turned c) ∙ marks-long (netIn 0 (start .args .n) [] (start .args .reach .now)) (start .args .i) (start .args .table .now) (start .pre .0) (c .before .before .before .loop .j + 1),
+      ap length (turned c) ∙ marks-long (netBy 0 (start .args .n) [] (bitIn (start .args .clash .now))) (start .args .i) (start .args .table .now) (start .pre .0 .1) (c .before .before .before .loop .j + 1),
       turned c,
     )
 

@@ -1,11 +1,18 @@
--- `planner::plan` meets its contract: each way out is one of the three ways of proofs/Answer.antt, and no row is planned before the first. Assumes nothing.
-use mathlib.Core.Path.{_≡_, sym, _∙_}
+-- `planner::plan` meets its contract: each way out is one of the three ways of proofs/Answer.antt, and no row is planned before the first. The clash rows that are
+-- lent state the site's clash relation. Assumes nothing.
+use mathlib.Core.Path.{_≡_, sym, ap, _∙_}
+use Prim.Native.Nat.{_≤_, _<_}
+use lib.ListN.{length}
 use native.Mathlib.Omega.{arith}
 use borrow.Author.Needs.{needs}
-use Rattle.laws.proofs.Grid.{row-before}
-use Rattle.site.specs.Record.{positions, faultOf}
+use Rattle.laws.specs.Bits.{bitIn}
+use Rattle.theory.specs.Net.{Net}
+use Rattle.theory.specs.Greedy.{greedy}
+use Rattle.site.specs.Record.{positions, size, faultOf}
+use Rattle.site.specs.Reach.{netOf}
 use Rattle.site.specs.declared.Fault.the-variants.{Fine}
 use Rattle.site.proofs.Faults.{not-fine, fine-sized, few-positions, few-bytes}
+use Rattle.planner.specs.Plan.{answerOf, leaves, netBy}
 use Rattle.planner.proofs.Answer.{refused-answer, refused-table, short-answer, short-table, run-answer, run-table}
 use Rattle.planner.proofs.Cells.{no-rows}
 use Rattle.planner.proofs.plan.Statement.{statement}
@@ -51,19 +58,24 @@ mul-size-2 c =
 returns-2 : tie.Need-returns-2
 returns-2 c =
     let told = c .before .before .before .before in
-    let start = told .before .before .before .before in (
-      sym (short-answer (start .args .site) (start .args .table .now) (fine told) (c .if1 .taken)),
-      sym (short-table (start .args .site) (start .args .table .now) (fine told) (c .if1 .taken)),
+    let start = told .before .before .before .before in
+    let short : length (start .args .table .now) < size (start .args .site) = omega (arith, c .if1 .taken) in (
+      sym (short-answer (start .args .site) (start .args .table .now) (fine told) short),
+      sym (short-table (start .args .site) (start .args .table .now) (fine told) short),
     )
+
+clash-rows-requires : tie.Need-clash-rows-requires
+clash-rows-requires c κs = search needs
 
 plan-from-requires : tie.Need-plan-from-requires
 plan-from-requires c κs =
     let long = c .before .before .before .before .before in
     let told = long .before .before .before .before in
     let args = told .before .before .before .before .args in
-    let sized = fine-sized (args .site) (fine told) in
-    let one = row-before (positions (args .site)) {j = 0} (sized .cells-some) in
-    ((omega arith, omega (arith, sized .cells-most)), (omega (arith, one, long .if1 .left), no-rows _ (positions (args .site)) (args .table .now)))
+    let site = args .site in
+    let sized = fine-sized site (fine told) in
+    let net = netBy (site .cells) (positions site) (site .loads) (bitIn (c .before .before .before .clash-rows .result)) in
+    ((omega arith, sized .cells-most, sized .channels-most), (omega (arith, long .if1 .left), no-rows net (args .table .now)))
 
 same-length : tie.Need-same-length
 same-length c = search needs
@@ -71,11 +83,16 @@ same-length c = search needs
 returns-3 : tie.Need-returns-3
 returns-3 c =
     let call = c .before .before .plan-from in
+    let rows = c .before .before .before .before .before .before .clash-rows in
     let long = c .before .before .before .before .before .before .before .before in
     let told = long .before .before .before .before in
-    let start = told .before .before .before .before in (
-      call .ensures .0 ∙ sym (run-answer (start .args .site) (start .args .table .now) (fine told) (omega (arith, long .if1 .left))),
-      call .ensures .1 ∙ sym (run-table (start .args .site) (start .args .table .now) (fine told) (omega (arith, long .if1 .left))),
+    let start = told .before .before .before .before in
+    let site = start .args .site in
+    let net : netBy (site .cells) (positions site) (site .loads) (bitIn (rows .result)) ≡ netOf site
+    = ap (netBy (site .cells) (positions site) (site .loads)) (rows .ensures .1 (fine told)) in
+    let fits : size site ≤ length (start .args .table .now) = omega (arith, long .if1 .left) in (
+      call .ensures .0 ∙ ap (λ (s : Net). answerOf (greedy s)) net ∙ sym (run-answer site (start .args .table .now) (fine told) fits),
+      call .ensures .1 .0 ∙ ap (λ (s : Net). leaves s (start .args .table .now)) net ∙ sym (run-table site (start .args .table .now) (fine told) fits),
     )
 
 pub plan-spec : {M : Type 1} → statement M
@@ -91,6 +108,7 @@ plan-spec =
     mul-size
     mul-size-2
     returns-2
+    clash-rows-requires
     plan-from-requires
     same-length
     returns-3)

@@ -1,29 +1,29 @@
 -- `planner::plan_from` meets its contract. At each head of the loop the run of the first i cells has given the first i rows of the table, and
--- the bytes past the site's are as they were. Assumes nothing.
+-- the bytes past the site's are as they were. A run that is done keeps the rows that were planned (`rows-kept`). Assumes nothing.
 use mathlib.Core.Path.{_≡_, refl, sym, ap, _∙_}
+use mathlib.Core.Bool.{Bool}
 use mathlib.Core.List.{List}
 use Prim.Native.Nat.{ℕ, _+_, _*_, _-_, _≤_}
 use native.Mathlib.Omega.{arith}
 use borrow.Author.Needs.{needs}
-use lib.ListN.{length, getD, take, drop}
+use lib.ListN.{length, getD, drop}
 use lib.Seq.{length-take-le, length-front}
+use Rattle.laws.specs.Bits.{bitIn}
 use Rattle.laws.proofs.Grid.{row-before}
-use Rattle.theory.specs.Greedy.{run, row, planned}
-use Rattle.planner.specs.Plan.{answerOf}
-use Rattle.planner.proofs.Cells.{more-long, more-drop, more-planned, more-short, end-done, end-short}
+use Rattle.planner.specs.Plan.{answerOf, netBy, PlannedTo}
+use Rattle.planner.proofs.Cells.{more-long, more-drop, more-planned, more-short, end-done, end-short, rows-kept}
 use Rattle.planner.proofs.plan_from.Statement.{statement}
-use Rattle.site.specs.Reach.{netIn}
 use Rattle.planner.proofs.plan_from.Tie as tie
 
 abbrev Inv-loop : tie.InvT-loop
-Inv-loop table₀ first cells slots channels loads reach i₀ table i =
+Inv-loop table₀ first cells slots channels loads clash i₀ table i =
     (i ≤ cells)
     × (length table ≡ length table₀)
-    × (run (netIn cells (slots * channels) loads reach) (row (netIn cells (slots * channels) loads reach)) i ≡ planned (take (i * (slots * channels)) table))
+    × PlannedTo (netBy cells (slots * channels) loads (bitIn clash)) i table
     × (drop (cells * (slots * channels)) table ≡ drop (cells * (slots * channels)) table₀)
 
 abbrev μ-loop : tie.MeasureT-loop
-μ-loop table₀ first cells slots channels loads reach i₀ table i = cells - i
+μ-loop table₀ first cells slots channels loads clash i₀ table i = cells - i
 
 -- the arguments, the size of a row, and of the whole site; row i lies in the table
 abbrev start : tie.In-loop Inv-loop μ-loop → tie.Start Inv-loop μ-loop
@@ -38,8 +38,8 @@ whole c = start c .args .cells * size c
 abbrev loads : tie.In-loop Inv-loop μ-loop → List ℕ
 loads c = start c .args .loads .now
 
-abbrev reach : tie.In-loop Inv-loop μ-loop → List ℕ
-reach c = start c .args .reach .now
+abbrev clash : tie.In-loop Inv-loop μ-loop → ℕ → ℕ → Bool
+clash c = bitIn (start c .args .clash .now)
 
 inside : (c : tie.In-loop Inv-loop μ-loop) → c .before .loop .i * size c + size c ≤ whole c
 inside c = row-before (size c) (c .loop-test .taken)
@@ -56,11 +56,14 @@ module _ (c : tie.After-plan-row Inv-loop μ-loop) where
   own = c .before .before .load-of .ensures
 
   long : length (c .plan-row .last .0) ≡ length (at .before .loop .table)
-  long = more-long (start at .args .cells) (size at) (loads at) (reach at) (at .before .loop .i) (at .before .loop .table) (fits at) own (c .plan-row .ensures .0)
+  long = more-long (start at .args .cells) (size at) (loads at) (clash at) (at .before .loop .i) (at .before .loop .table) (fits at) own (c .plan-row .ensures .0)
 
-  kept : drop (whole at) (c .plan-row .last .0) ≡ drop (whole at) (start at .args .table .now)
-  kept =
-      more-drop (start at .args .cells) (size at) (loads at) (reach at) (at .before .loop .i) (at .before .loop .table) (fits at) own (c .plan-row .ensures .0) (whole at) (inside at)
+  holds : whole at ≤ length (c .plan-row .last .0)
+  holds = omega (arith, long, at .before .loop .inv .1, start at)
+
+  past : drop (whole at) (c .plan-row .last .0) ≡ drop (whole at) (start at .args .table .now)
+  past =
+      more-drop (start at .args .cells) (size at) (loads at) (clash at) (at .before .loop .i) (at .before .loop .table) (fits at) own (c .plan-row .ensures .0) (whole at) (inside at)
       ∙ at .before .loop .inv .3
 
 loop-holds : tie.Need-loop-holds Inv-loop μ-loop
@@ -73,7 +76,7 @@ cast-load : tie.Need-cast-load Inv-loop μ-loop
 cast-load c = search needs
 
 plan-row-requires : tie.Need-plan-row-requires Inv-loop μ-loop
-plan-row-requires c κs = fits (c .before .before)
+plan-row-requires c κs = (omega arith, start (c .before .before) .pre .0 .2, fits (c .before .before))
 
 mul-end : tie.Need-mul-end Inv-loop μ-loop
 mul-end c = omega (arith, inside (c .before .before .before .before .before .before), start (c .before .before .before .before .before .before))
@@ -82,7 +85,7 @@ mul-end-2 : tie.Need-mul-end-2 Inv-loop μ-loop
 mul-end-2 c = omega (arith, inside (c .before .before .before .before .before .before), start (c .before .before .before .before .before .before))
 
 slice-relend-prefix-clear : tie.Need-slice-relend-prefix-clear Inv-loop μ-loop
-slice-relend-prefix-clear c = omega (arith, inside (c .before .before .before .before .before .before), long (c .before .before .before), c .before .before .before .before .before .before .before .loop .inv .1, start (c .before .before .before .before .before .before))
+slice-relend-prefix-clear c = omega (arith, inside (c .before .before .before .before .before .before), holds (c .before .before .before))
 
 slice-aggregate-clear : tie.Need-slice-aggregate-clear Inv-loop μ-loop
 slice-aggregate-clear c =
@@ -97,18 +100,20 @@ add-cell c = omega arith
 same-length : tie.Need-same-length Inv-loop μ-loop
 same-length c =
     let planned′ = c .before .before .before .before .before .before .before in
-    length-front (planned′ .plan-row .last .0) (c .before .before .clear .last .0) (whole (at planned′)) (c .before .before .clear .kept .0)
-    ∙ long planned′
-    ∙ at planned′ .before .loop .inv .1
+    let lent = c .before .before .clear .kept .0 in
+    rw length-front (long planned′ ∙ at planned′ .before .loop .inv .1)
 
 returns : tie.Need-returns Inv-loop μ-loop
 returns c =
     let branch = c .before .before .before .before in
     let now′ = branch .before .before .before in
     let in′ = at now′ in
-    let e = more-short (start in′ .args .cells) (size in′) (loads in′) (reach in′) (in′ .before .loop .i) (in′ .before .loop .table) (fits in′) (own now′) (now′ .plan-row .ensures .0) (in′ .before .loop .inv .2) (now′ .plan-row .ensures .1) (branch .if1 .taken) (start in′ .args .cells) (in′ .loop-test .taken) in (
+    let e = more-short (start in′ .args .cells) (size in′) (loads in′) (clash in′) (in′ .before .loop .i) (in′ .before .loop .table) (fits in′) (own now′) (now′ .plan-row .ensures .0) (in′ .before .loop .inv .2) (now′ .plan-row .ensures .1) (omega (arith, branch .if1 .taken)) (start in′ .args .cells) (in′ .loop-test .taken) in (
       sym (ap answerOf e),
-      end-short (whole in′) (c .before .before .clear .last .0) (now′ .plan-row .last .0) (start in′ .args .table .now) e (slice-relend-prefix-clear branch) (c .before .before .clear .ensures) (kept now′),
+      (
+        end-short (whole in′) (c .before .before .clear .last .0) (now′ .plan-row .last .0) (start in′ .args .table .now) e (holds now′) (c .before .before .clear .ensures) (past now′),
+        λ done. let z : _≡_ {A = ℕ} 0 1 = cc in absurd (omega arith),
+      ),
     )
 
 add-i : tie.Need-add-i Inv-loop μ-loop
@@ -124,8 +129,8 @@ loop-again c =
     let none : now′ .plan-row .result ≡ 0 = omega arith in (
       omega arith,
       long now′ ∙ in′ .before .loop .inv .1,
-      more-planned (start in′ .args .cells) (size in′) (loads in′) (reach in′) (in′ .before .loop .i) (in′ .before .loop .table) (fits in′) (own now′) (now′ .plan-row .ensures .0) (in′ .before .loop .inv .2) (now′ .plan-row .ensures .1) none,
-      kept now′,
+      more-planned (start in′ .args .cells) (size in′) (loads in′) (clash in′) (in′ .before .loop .i) (in′ .before .loop .table) (fits in′) (own now′) (now′ .plan-row .ensures .0) (in′ .before .loop .inv .2) (now′ .plan-row .ensures .1) none,
+      past now′,
     )
 
 same-length-2 : tie.Need-same-length-2 Inv-loop μ-loop
@@ -137,7 +142,10 @@ returns-2 c =
     let last : c .before .loop .i ≡ args .cells = omega arith in
     let e = rw last at (c .before .loop .inv .2) in (
       sym (ap answerOf e),
-      end-done (args .cells * (args .slots * args .channels)) (c .before .loop .table) (args .table .now) e (c .before .loop .inv .3),
+      (
+        end-done (args .cells * (args .slots * args .channels)) (c .before .loop .table) (args .table .now) e (c .before .loop .inv .3),
+        λ _. rows-kept (netBy (args .cells) (args .slots * args .channels) (args .loads .now) (bitIn (args .clash .now))) (args .first) (c .before .loop .table) (args .table .now) (c .before .before .before .pre .1 .1) e (c .before .before .before .pre .0 .0),
+      ),
     )
 
 pub plan-from-spec : {M : Type 1} → statement M

@@ -4,7 +4,8 @@ use Prim.Native.Nat.{_*_}
 use borrow.Author.Needs.{needs}
 use Rattle.planner.proofs.Marked.{cleared-long, cleared-idle, row-filled, short-filled}
 use Rattle.planner.proofs.plan_row.Statement.{statement}
-use Rattle.site.specs.Reach.{netIn}
+use Rattle.laws.specs.Bits.{bitIn}
+use Rattle.planner.specs.Plan.{netBy}
 use Rattle.planner.proofs.plan_row.Tie as tie
 
 mul-n : tie.Need-mul-n
@@ -31,10 +32,10 @@ clear-requires c κs = search needs
 mark-row-requires : tie.Need-mark-row-requires
 mark-row-requires c κs =
     let start = c .before .before .before .before .before .before in
-    let net = netIn 0 (start .args .slots * start .args .channels) [] (start .args .reach .now) in
+    let net = netBy 0 (start .args .slots * start .args .channels) [] (bitIn (start .args .clash .now)) in
     let cleared = c .before .before .before .clear .ensures in (
-      rw (cleared-long net (start .args .i) (start .args .table .now) (start .pre) cleared) (start .pre),
-      cleared-idle net (start .args .i) (start .args .table .now) (start .pre) cleared,
+      (start .pre .0, rw (cleared-long net (start .args .i) (start .args .table .now) (start .pre .2) cleared) (start .pre .2)),
+      cleared-idle net (start .args .i) (start .args .table .now) (start .pre .2) cleared,
     )
 
 sub-fill-row : tie.Need-sub-fill-row
@@ -56,11 +57,11 @@ returns : tie.Need-returns
 returns c =
     let marking = c .before .before .before .before .before .before in
     let start = marking .before .before .before .before .before .before .before in
-    let net = netIn 0 (start .args .slots * start .args .channels) [] (start .args .reach .now) in
+    let net = netBy 0 (start .args .slots * start .args .channels) [] (bitIn (start .args .clash .now)) in
     let cleared = marking .before .before .before .before .clear .ensures in
     let filled = c .before .before .fill-row .ensures in (
-      row-filled net (start .args .i) (start .args .table .now) (start .pre) cleared (marking .mark-row .ensures) (start .args .load) (filled .0),
-      short-filled net (start .args .i) (start .args .table .now) (start .pre) cleared (marking .mark-row .ensures) (start .args .load) (filled .1),
+      row-filled net (start .args .i) (start .args .table .now) (start .pre .2) cleared (marking .mark-row .ensures) (start .args .load) (filled .0),
+      short-filled net (start .args .i) (start .args .table .now) (start .pre .2) cleared (marking .mark-row .ensures) (start .args .load) (filled .1),
     )
 
 pub plan-row-spec : {M : Type 1} → statement M

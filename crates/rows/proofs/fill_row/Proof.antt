@@ -1,43 +1,80 @@
--- `rows::fill_row` meets its contract. Both loops keep `filling`: what the row will be once the rest of it is filled. Assumes nothing.
+-- `rows::fill_row` meets its contract. Both loops keep `filling`: what the row will be once the rest of it is filled. Where they begin, that is
+-- the filled row (`begun`). Assumes nothing.
 use mathlib.Core.Path.{_≡_, refl, sym, ap, _∙_}
-use mathlib.Core.Bool.{true}
-use Prim.Native.Nat.{_+_, _-_, _*_, _≤_, _<_}
+use Rattle.theory.specs.Net.{unblocked}
+use mathlib.Core.List.{List}
+use Prim.Native.Nat.{ℕ, _+_, _-_, _*_, _≤_, _<_}
 use native.Mathlib.Omega.{arith}
-use native.Mathlib.Nat.{zero-mul}
+use native.Mathlib.Nat.{mul-le-mul-right}
 use lib.ListN.{length, getD, drop, length-set}
 use borrow.Author.Needs.{needs}
 use Rattle.laws.proofs.Grid.{inside}
 use Rattle.theory.specs.Greedy.{fill, unmet}
 use Rattle.theory.proofs.Loops.{filling, fill-stop, fill-end, unmet-stop, unmet-end}
+use Rattle.theory.proofs.Stretch.{length-front, front-rest, after-rest}
 use Rattle.rows.proofs.Fill.{takes-little, raised-fits, fill-turn, unmet-turn}
 use Rattle.rows.proofs.fill_row.Statement.{statement}
 use Rattle.rows.proofs.fill_row.Tie as tie
 
 abbrev Inv-loop : tie.InvT-loop
-Inv-loop row₀ slots channels load left₀ at₀ slot channel₀ row left at channel =
+Inv-loop row₀ slots channels load left₀ slot at₀ channel₀ row left at channel =
     (length row ≡ slots * channels) × (at ≡ slot * channels + channel) × (channel ≤ channels)
-    × (filling (λ _. true) at left row ≡ filling (λ _. true) at₀ left₀ row₀)
-    × (unmet (λ _. true) at left (drop at row) ≡ unmet (λ _. true) at₀ left₀ (drop at₀ row₀))
+    × (filling unblocked at left row ≡ filling unblocked at₀ left₀ row₀)
+    × (unmet unblocked at left (drop at row) ≡ unmet unblocked at₀ left₀ (drop at₀ row₀))
 
 abbrev μ-loop : tie.MeasureT-loop
-μ-loop row₀ slots channels load left₀ at₀ slot channel₀ row left at channel = channels - channel
+μ-loop row₀ slots channels load left₀ slot at₀ channel₀ row left at channel = channels - channel
 
 abbrev Inv-slots : tie.InvT-slots
-Inv-slots row₀ slots channels load left₀ at₀ slot₀ row left at slot =
-    (length row ≡ slots * channels) × (at ≡ slot * channels) × (slot ≤ slots) × (filling (λ _. true) at left row ≡ fill (λ _. true) 0 load row₀)
-    × (unmet (λ _. true) at left (drop at row) ≡ unmet (λ _. true) 0 load row₀)
+Inv-slots row₀ slots channels load left₀ slot₀ at₀ row left slot at =
+    (length row ≡ slots * channels) × (at ≡ slot * channels) × (slot ≤ slots)
+    × (filling unblocked at left row ≡ filling unblocked at₀ left₀ row₀)
+    × (unmet unblocked at left (drop at row) ≡ unmet unblocked at₀ left₀ (drop at₀ row₀))
 
 abbrev μ-slots : tie.MeasureT-slots
-μ-slots row₀ slots channels load left₀ at₀ slot₀ row left at slot = slots - slot
+μ-slots row₀ slots channels load left₀ slot₀ at₀ row left slot at = slots - slot
+
+-- where the loops begin: the first slots are filled
+module _ (c : tie.After-slice-known2 Inv-loop μ-loop Inv-slots μ-slots) where
+  abbrev start : tie.Start Inv-loop μ-loop Inv-slots μ-slots
+  start = c .before .before .before .before .before
+
+  abbrev r : List ℕ
+  r = start .args .row .now
+
+  abbrev m : ℕ
+  m = c .before .before .fill-front .result .slots * start .args .channels
+
+  within-row : m ≤ length r
+  within-row = omega (arith, mul-le-mul-right (start .args .channels) (c .before .before .fill-front .ensures .0), start .pre .1)
+
+  long : length (c .before .before .fill-front .last .0) ≡ length r
+  long = ap length (c .before .before .fill-front .ensures .1 .0) ∙ length-front unblocked (start .args .load) r m within-row
+
+  begun : filling unblocked m (c .before .before .fill-front .result .left) (c .before .before .fill-front .last .0) ≡ fill unblocked 0 (start .args .load) r
+  begun =
+      (λ i. filling unblocked m (c .before .before .fill-front .ensures .1 .1 i) (c .before .before .fill-front .ensures .1 .0 i))
+      ∙ front-rest unblocked (start .args .load) r m within-row
+
+  begun-unmet : unmet unblocked m (c .before .before .fill-front .result .left) (drop m (c .before .before .fill-front .last .0)) ≡ unmet unblocked 0 (start .args .load) r
+  begun-unmet =
+      (λ i. unmet unblocked m (c .before .before .fill-front .ensures .1 .1 i) (drop m (c .before .before .fill-front .ensures .1 .0 i)))
+      ∙ after-rest unblocked (start .args .load) r m within-row
+
+fill-front-requires : tie.Need-fill-front-requires Inv-loop μ-loop Inv-slots μ-slots
+fill-front-requires c κs = c .before .before .pre
+
+mul-at : tie.Need-mul-at Inv-loop μ-loop Inv-slots μ-slots
+mul-at c = omega (arith, within-row c, start c .good)
 
 slots-holds : tie.Need-slots-holds Inv-loop μ-loop Inv-slots μ-slots
-slots-holds c = (c .before .pre, sym (zero-mul _), omega arith, refl, refl)
+slots-holds c = (long c ∙ start c .pre .1, refl, c .before .before .fill-front .ensures .0, refl, refl)
 
 loop-holds : tie.Need-loop-holds Inv-loop μ-loop Inv-slots μ-slots
 loop-holds c = (c .before .slots .inv .0, omega arith, omega arith, refl, refl)
 
 -- where the row is looked at
-within : (c : tie.After-slice-known2 Inv-loop μ-loop Inv-slots μ-slots) → c .before .before .before .loop .at < length (c .before .before .before .loop .row)
+within : (c : tie.After-slice-known3 Inv-loop μ-loop Inv-slots μ-slots) → c .before .before .before .loop .at < length (c .before .before .before .loop .row)
 within c =
     let p = c .before .before .before in
     omega (arith, inside _ _ _ _ (p .before .slots-test .taken) (c .before .before .loop-test .taken), p .loop .inv .0, p .loop .inv .1)
@@ -57,7 +94,7 @@ idle-requires c κs = tt
 add-row : tie.Need-add-row Inv-loop μ-loop Inv-slots μ-slots
 add-row c =
     let p = c .before .before .before .before .loop in
-    let below : getD (p .row) (p .at) 0 < 256 = omega (arith, c .before .slice-known2 .given (p .at)) in
+    let below : getD (p .row) (p .at) 0 < 256 = omega (arith, c .before .slice-known3 .given (p .at)) in
     omega (arith, raised-fits (getD (p .row) (p .at) 0) (c .idle .ensures) below)
 
 slice-write-row : tie.Need-slice-write-row Inv-loop μ-loop Inv-slots μ-slots
@@ -72,7 +109,7 @@ sub-left c = omega (arith, little c)
 add-at : tie.Need-add-at Inv-loop μ-loop Inv-slots μ-slots
 add-at c =
     let p = c .before .before .before .before in
-    omega (arith, within (c .before), p .loop .inv .0, p .before .before .before .before .pre, p .before .before .before .before .good)
+    omega (arith, within (c .before), p .loop .inv .0, start (p .before .before .before) .pre .1, start (p .before .before .before) .good)
 
 add-channel : tie.Need-add-channel Inv-loop μ-loop Inv-slots μ-slots
 add-channel c = search needs
@@ -105,27 +142,28 @@ slots-again c =
     (p .inv .0, omega arith, omega arith, p .inv .3 ∙ q .inv .3, p .inv .4 ∙ q .inv .4)
 
 same-length : tie.Need-same-length Inv-loop μ-loop Inv-slots μ-slots
-same-length c = c .before .slots .inv .0 ∙ sym (c .before .before .before .pre)
+same-length c = c .before .slots .inv .0 ∙ sym (start (c .before .before) .pre .1)
 
 returns : tie.Need-returns Inv-loop μ-loop Inv-slots μ-slots
 returns c =
     let p = c .before .slots in
-    let a = c .before .before .before .args in
+    let a = start (c .before .before) .args in
     let q : p .slot ≡ a .slots = omega arith in
     let e : p .at ≡ length (p .row) = p .inv .1 ∙ ap (λ x. x * a .channels) q ∙ sym (p .inv .0) in (
-      sym (fill-end (λ _. true) (p .left) (p .row)) ∙ (rw e at (p .inv .3)),
-      sym (unmet-end (λ _. true) (p .left) (p .row)) ∙ (rw e at (p .inv .4)),
+      sym (fill-end unblocked (p .left) (p .row)) ∙ (rw e at (p .inv .3)) ∙ begun (c .before .before),
+      sym (unmet-end unblocked (p .left) (p .row)) ∙ (rw e at (p .inv .4)) ∙ begun-unmet (c .before .before),
     )
 
 same-length-2 : tie.Need-same-length-2 Inv-loop μ-loop Inv-slots μ-slots
-same-length-2 c = c .before .before .loop .inv .0 ∙ sym (c .before .before .before .before .before .before .pre)
+same-length-2 c = c .before .before .loop .inv .0 ∙ sym (start (c .before .before .before .before .before) .pre .1)
 
 returns-2 : tie.Need-returns-2 Inv-loop μ-loop Inv-slots μ-slots
 returns-2 c =
     let p = c .before .before .loop in
-    let q = c .before .before .before .before .slots in (
-      sym (fill-stop (λ _. true) (p .at) (p .row)) ∙ (rw (c .if1 .taken) at (p .inv .3)) ∙ q .inv .3,
-      c .if1 .taken ∙ sym (unmet-stop (λ _. true) (p .at) (drop (p .at) (p .row))) ∙ (rw (c .if1 .taken) at (p .inv .4)) ∙ q .inv .4,
+    let none : p .left ≡ 0 = omega (arith, c .if1 .taken) in
+    let q = c .before .before .before .before in (
+      sym (fill-stop unblocked (p .at) (p .row)) ∙ (rw none at (p .inv .3)) ∙ q .slots .inv .3 ∙ begun (q .before),
+      none ∙ sym (unmet-stop unblocked (p .at) (drop (p .at) (p .row))) ∙ (rw none at (p .inv .4)) ∙ q .slots .inv .4 ∙ begun-unmet (q .before),
     )
 
 pub fill-row-spec : {M : Type 1} → statement M
@@ -136,6 +174,8 @@ fill-row-spec =
     μ-loop
     Inv-slots
     μ-slots
+    fill-front-requires
+    mul-at
     slots-holds
     loop-holds
     slice-read-byte

@@ -1,57 +1,66 @@
--- `sitefile::put_pairs` meets its contract. The invariant: to store the bytes of the rows that are left from k on makes the answer. Assumes nothing.
-use Prim.Native.Nat.{_+_, _-_, _*_, _≤_}
+-- `sitefile::put_pairs` meets its contract. The invariant: the bytes of the rows that are left end at `end`, and to store them from k on makes the answer.
+-- Bytes are left only where a row is. Assumes nothing.
+use Prim.Native.Nat.{_+_, _-_, _*_, _≤_, _<_}
 use mathlib.Core.Path.{_≡_, refl, sym, ap, _∙_}
 use native.Mathlib.Omega.{arith}
 use lib.ListN.{length}
 use lib.Seq.{sets}
 use Rattle.sitefile.specs.Pairs.{pairsFrom}
 use Rattle.sitefile.specs.Write.{pairBytes}
-use Rattle.sitefile.proofs.RowLaws.{rows-put, rows-unroll-length, rows-end}
+use Rattle.sitefile.proofs.RowLaws.{rows-put, rows-unroll-length}
+use Rattle.sitefile.proofs.LowestBit.{row-left, rows-done}
 use Rattle.sitefile.proofs.put_pairs.Statement.{statement}
 use Rattle.sitefile.proofs.put_pairs.Tie as tie
 
 abbrev Inv-loop : tie.InvT-loop
-Inv-loop out₀ at reach k₀ a₀ out k a =
+Inv-loop out₀ at reach end k₀ a₀ out k a =
     (a ≤ 32)
     × (length out ≡ length out₀)
-    × (k + length (pairsFrom reach (32 * a) (1024 - 32 * a)) ≤ length out)
+    × (k + length (pairsFrom reach (32 * a) (1024 - 32 * a)) ≡ end)
     × (sets out k (pairsFrom reach (32 * a) (1024 - 32 * a)) ≡ sets out₀ at (pairsFrom reach 0 1024))
 
 abbrev μ-loop : tie.MeasureT-loop
-μ-loop out₀ at reach k₀ a₀ out k a = 32 - a
+μ-loop out₀ at reach end k₀ a₀ out k a = 32 - a
 
 loop-holds : tie.Need-loop-holds Inv-loop μ-loop
 unfolding pairBytes
-loop-holds c = (omega arith, refl, c .before .pre, refl)
+loop-holds c = (omega arith, refl, sym (c .before .pre .0), refl)
+
+inside : (c : tie.In-loop Inv-loop μ-loop) → c .before .loop .a < 32
+inside c =
+    let l = c .before .loop in
+    row-left (c .before .before .before .args .reach .now) (l .a) (l .k) (c .before .before .before .args .end) (l .inv .2) (c .loop-test .taken)
 
 mul-put-row : tie.Need-mul-put-row Inv-loop μ-loop
-mul-put-row c = omega arith
+mul-put-row c = omega (arith, inside (c .before))
 
-array-read-put-row : tie.Need-array-read-put-row Inv-loop μ-loop
-array-read-put-row c = omega arith
+element-copy-out-put-row : tie.Need-element-copy-out-put-row Inv-loop μ-loop
+element-copy-out-put-row c = omega (arith, inside (c .before))
 
 put-row-requires : tie.Need-put-row-requires Inv-loop μ-loop
 put-row-requires c κs =
-    let l = c .before .before .loop in
-    (c .before .loop-test .taken, omega (arith, rows-unroll-length (c .before .before .before .before .args .t3) (l .a) (c .before .loop-test .taken)))
+    let k = c .before .before in
+    let l = k .before .loop in
+    let h = inside k in
+    (h, omega (arith, rows-unroll-length (k .before .before .before .args .reach .now) (l .a) h))
 
 add-a : tie.Need-add-a Inv-loop μ-loop
 add-a c = omega arith
 
 loop-less : tie.Need-loop-less Inv-loop μ-loop
-loop-less c = omega arith
+loop-less c = omega (arith, inside (c .before .before .before .before .before))
 
 loop-again : tie.Need-loop-again Inv-loop μ-loop
 loop-again c =
     let p = c .before .before in
-    let k = p .before .before in
+    let k = p .before .before .before in
     let l = k .before .loop in
-    let rows = k .before .before .before .args .t3 in (
+    let rows = k .before .before .before .args .reach .now in
+    let h = inside k in (
       omega arith,
       p .put-row .kept .0 ∙ l .inv .1,
-      omega (arith, p .put-row .kept .0, p .put-row .ensures .0, rows-unroll-length rows (l .a) (k .loop-test .taken)),
-      rw (p .put-row .ensures .1, p .put-row .ensures .0)
-          (rows-put (l .out) (l .k) rows (l .a) (k .loop-test .taken) ∙ l .inv .3),
+      omega (arith, p .put-row .ensures .0, rows-unroll-length rows (l .a) h),
+      rw (p .put-row .ensures .1, p .put-row .ensures .0) (rows-put (l .out) (l .k) rows (l .a) h ∙ l .inv .3),
     )
 
 same-length : tie.Need-same-length Inv-loop μ-loop
@@ -61,7 +70,8 @@ returns : tie.Need-returns Inv-loop μ-loop
 unfolding pairBytes
 returns c =
     let l = c .before .loop in
-    sym (ap (sets (l .out) (l .k)) (rows-end (c .before .before .before .args .t3) (l .a) (c .loop-test .left))) ∙ l .inv .3
+    let a = c .before .before .before .args in
+    sym (ap (sets (l .out) (l .k)) (rows-done (a .reach .now) (l .a) (l .k) (a .end) (l .inv .2) (c .loop-test .left))) ∙ l .inv .3
 
 pub put-pairs-spec : {M : Type 1} → statement M
 put-pairs-spec =
@@ -71,7 +81,7 @@ put-pairs-spec =
     μ-loop
     loop-holds
     mul-put-row
-    array-read-put-row
+    element-copy-out-put-row
     put-row-requires
     add-a
     loop-less

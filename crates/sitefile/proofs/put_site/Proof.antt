@@ -86,7 +86,7 @@ same-length c = search needs
 returns-2 : tie.Need-returns-2
 returns-2 c =
     let p = c .before .before in
-    let r = p .before .before .before .before in
+    let r = p .before .before .before .before .before in
     let l = r .before .before .before .before in
     let w = l .before .before .before .before in
     let h = w .before .before .before .before in

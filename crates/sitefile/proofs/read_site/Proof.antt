@@ -6,6 +6,7 @@ use mathlib.Core.List.{List}
 use native.Mathlib.Omega.{arith}
 use lib.ListN.{length-take}
 use denote.Ref.{now}
+use Rattle.site.specs.Record.{siteOf}
 use Rattle.records.specs.Opener.{openAt, openAnswer}
 use Rattle.records.specs.Reasons.{firstReason}
 use Rattle.records.specs.Head.{headSize, cellsIn, headAnswer}
@@ -59,11 +60,11 @@ loads-open c =
 word-requires : tie.Need-word-requires
 word-requires c κs = omega (arith, head-read _ (done c) .long)
 
-mul-t12 : tie.Need-mul-t12
-mul-t12 c = omega (arith, few c)
+mul-t13 : tie.Need-mul-t13
+mul-t13 c = omega (arith, few c)
 
-add-t13 : tie.Need-add-t13
-add-t13 c = omega (arith, few c)
+add-t14 : tie.Need-add-t14
+add-t14 c = omega (arith, few c)
 
 open-requires : tie.Need-open-requires
 open-requires c κs = search needs
@@ -146,20 +147,23 @@ returns-3 c =
     let e = t .enum-told5 .given .1 in
     c .refused3 .ensures ∙ ap refusedSite e ∙ refuse _ _ _ (site-is _ (done h) (loads-found k) _ (last p) ∙ e)
 
+zeros-requires : tie.Need-zeros-requires
+zeros-requires c κs = search needs
+
 word-requires-2 : tie.Need-word-requires-2
 word-requires-2 c κs =
-    let k = c .before .before .before .before .before .before in
+    let k = c .before .before .before .before .before .before .before in
     omega (arith, head-read _ (done (k .before .before .before .before .before)) .long)
 
 word-requires-3 : tie.Need-word-requires-3
 word-requires-3 c κs =
-    let k = c .before .before .before .before .before .before .before in
+    let k = c .before .before .before .before .before .before .before .before in
     omega (arith, head-read _ (done (k .before .before .before .before .before)) .long)
 
 returns-4 : tie.Need-returns-4
 unfolding siteIn
 returns-4 c =
-    let t = c .before .before in
+    let t = c .before .before .before in
     let p = t .before .before .before in
     let l = p .before in
     let k = l .before .before in
@@ -168,13 +172,7 @@ returns-4 c =
     let e = t .enum-told4 .given .1 in
     let loads : l .loads-of .result ≡ _ = l .loads-of .ensures ∙ ap loadsIn (body-is _ _ _ _ _ _ (opening k)) in
     (λ j. record {
-      site = record {
-        cells = w .word .ensures j;
-        slots = c .before .word2 .ensures j;
-        channels = c .word3 .ensures j;
-        loads = loads j;
-        reach = rows-are _ (done h) (loads-found k) _ (last p) e j;
-      };
+      site = siteOf (w .word .ensures j) (c .before .word2 .ensures j) (c .word3 .ensures j) (loads j) (rows-are _ (done h) (loads-found k) _ (last p) e j);
       answer = e j;
     })
     ∙ accept (S k) (site-is _ (done h) (loads-found k) _ (last p) ∙ e)
@@ -189,8 +187,8 @@ read-site-spec =
     refused-requires
     returns
     word-requires
-    mul-t12
-    add-t13
+    mul-t13
+    add-t14
     open-requires
     enum-known-o
     enum-told-3
@@ -207,6 +205,7 @@ read-site-spec =
     enum-told-5
     refused-requires-3
     returns-3
+    zeros-requires
     word-requires-2
     word-requires-3
     returns-4)

@@ -1,0 +1,47 @@
+-- Words joined: the whole is 0 only where each of them is. So one pass that joins what is at fault tells that there is nothing to search for. Assumes nothing.
+use Prim.Native.Nat.{ℕ, _+_, _^_, _≤_, _<_}
+use mathlib.Core.Bool.{Bool, true, false, _&&_, true≢false}
+use mathlib.Core.Logic.{⊎-elim}
+use mathlib.Core.Path.{_≡_, refl, sym, ap, _∙_}
+use native.Mathlib.Nat.{div-eq-of-lt}
+use native.Mathlib.Omega.{arith}
+use borrow.Author.Tests.{ltb-true, ltb-false, lt-ltb, eq-eqb}
+use lib.Bits.{bitOr, bitAnd, or-add-and, and-le-l, and-le-r}
+use lib.Dec.{ltb}
+use lib.Pow.{pow-pos}
+use Rattle.laws.specs.Bits.{bitAt, setBit}
+use Rattle.laws.proofs.Choice.{cases}
+use Rattle.laws.proofs.Bits.{bit-above, bit-and, bit-set}
+use Rattle.site.specs.Record.{rowBad}
+
+or-none : (x y : ℕ) → bitOr x y ≡ 0 → (x ≡ 0) × (y ≡ 0)
+or-none x y e = (omega (arith, or-add-and x y, and-le-r x y), omega (arith, or-add-and x y, and-le-l x y))
+
+-- what 0 tells of the numbers below k, it tells of k too once what tells of k is joined
+pub one-more : (P : ℕ → Type 0) (from k all x : ℕ) → (all ≡ 0 → (j : ℕ) → from ≤ j → j < k → P j) → (x ≡ 0 → P k) → bitOr all x ≡ 0
+    → (j : ℕ) → from ≤ j → j < k + 1 → P j
+one-more P from k all x before here e j l m =
+    ⊎-elim (λ t. before (or-none all x e .0) j l (ltb-true j k t))
+    (λ t.
+    let past : k ≤ j = ltb-false j k t in
+    let q : j ≡ k = omega arith in
+    rw q (here (or-none all x e .1)))
+    (cases (ltb j k))
+
+-- ---- a row
+
+pow-bit : (k : ℕ) → bitAt (2 ^ k) k ≡ true
+unfolding setBit
+pow-bit k = bit-set 0 k k ∙ simp (eq-eqb k k refl)
+
+first-of : (t u : Bool) → (t && u) ≡ false → u ≡ true → t ≡ false
+first-of true u e q = absurd (true≢false (sym q ∙ e))
+first-of false u e q = refl
+
+own : (x k : ℕ) → bitAnd x (2 ^ k) ≡ 0 → bitAt x k ≡ false
+own x k e = first-of (bitAt x k) (bitAt (2 ^ k) k) (sym (bit-and x (2 ^ k) k) ∙ ap (λ (z : ℕ). bitAt z k) e ∙ bit-above 0 k (pow-pos k)) (pow-bit k)
+
+-- a row of a cell of the site, with no bit beyond I and not its own, is not at fault
+pub row-fine : (n x k : ℕ) → k < n → x < 2 ^ n → bitAnd x (2 ^ k) ≡ 0 → rowBad n x k ≡ false
+unfolding rowBad
+row-fine n x k l h e = simp (lt-ltb k n l, div-eq-of-lt h, own x k e)

@@ -1,0 +1,39 @@
+-- `site::Site::clash_rows` meets its contract: the rows of few cells, or of many, are those of the definition, and state the clash relation. Assumes nothing.
+use mathlib.Core.Path.{_≡_, ap, _∙_}
+use Rattle.laws.specs.Bits.{bitIn}
+use Rattle.site.specs.Reach.{clashRows}
+use Rattle.site.proofs.Rows.{rows-made, rows-clash}
+use borrow.Author.Needs.{needs}
+use Rattle.site.proofs.Site.clash_rows.Statement.{statement}
+use Rattle.site.proofs.Site.clash_rows.Tie as tie
+
+cast-at-most : tie.Need-cast-at-most
+cast-at-most c = search needs
+
+at-most-requires : tie.Need-at-most-requires
+at-most-requires c κs = search needs
+
+many-rows-requires : tie.Need-many-rows-requires
+many-rows-requires c κs = search needs
+
+returns : tie.Need-returns
+returns c =
+    let site = c .before .before .before .before .before .args .self in
+    let n = c .before .before .at-most in
+    let rows : c .many-rows .result ≡ clashRows site = c .many-rows .ensures ∙ rows-made site (n .result) (n .ensures .0) in
+    (rows, λ fine. ap bitIn rows ∙ rows-clash site fine (search needs))
+
+few-rows-requires : tie.Need-few-rows-requires
+few-rows-requires c κs = search needs
+
+returns-2 : tie.Need-returns-2
+returns-2 c =
+    let site = c .before .before .before .before .before .before .args .self in
+    let n = c .before .before .before .at-most in
+    let rows : c .few-rows .result ≡ clashRows site = c .few-rows .ensures ∙ rows-made site (n .result) (n .ensures .0) in
+    (rows, λ fine. ap bitIn rows ∙ rows-clash site fine (search needs))
+
+pub clash-rows-spec : {M : Type 1} → statement M
+clash-rows-spec =
+    tie.close
+    (tie.spec cast-at-most at-most-requires many-rows-requires returns few-rows-requires returns-2)

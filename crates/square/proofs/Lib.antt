@@ -1,0 +1,3 @@
+-- The laws of crate `square`, module by module.
+pub mod Square
+pub mod Stages

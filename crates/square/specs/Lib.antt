@@ -1,0 +1,3 @@
+-- The definitions of crate `square`, module by module.
+pub mod Turned
+pub mod Stage
