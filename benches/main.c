@@ -27,10 +27,13 @@ typedef struct {
     dugg_answer (*write_site)(dugg_site, uint8_t *, size_t);
     dugg_plan_read (*read_plan)(const uint8_t *, size_t, uint8_t *, size_t);
     dugg_answer (*write_plan)(dugg_site, const uint8_t *, size_t, uint8_t *, size_t);
+    dugg_edited (*read_sheet)(const uint8_t *, size_t, uint16_t, uint16_t);
+    dugg_answer (*write_sheet)(dugg_site, uint8_t *, size_t);
 } maker;
 
 #define MAKER(name, P)                                                                                                \
-    {name, P##plan, P##check, P##load_test, P##chain, P##read_site, P##write_site, P##read_plan, P##write_plan}
+    {name,          P##plan,      P##check,      P##load_test,  P##chain,      P##read_site,                          \
+     P##write_site, P##read_plan, P##write_plan, P##read_sheet, P##write_sheet}
 
 static const maker makers[MAKERS] = {
     [LIBRARY] = MAKER("library", dugg_),
@@ -40,18 +43,19 @@ static const maker makers[MAKERS] = {
     [BITS] = {.name = "C bits", .plan = bits_plan, .check = bits_check},
 };
 
-enum { PLAN, CHECK, LOAD_TEST, CHAIN, READ_SITE, WRITE_SITE, READ_PLAN, WRITE_PLAN, OPERATIONS };
+enum { PLAN, CHECK, LOAD_TEST, CHAIN, READ_SITE, WRITE_SITE, READ_PLAN, WRITE_PLAN, READ_SHEET, WRITE_SHEET, OPERATIONS };
 
 static const char *const operations[OPERATIONS] = {
     "plan", "check", "load test", "chain", "read site", "write site", "read plan", "write plan",
+    "read sheet", "write sheet",
 };
 
-/* A site with its planned table and its two files. */
+/* A site with its planned table, its two files and its sheet. */
 typedef struct {
     const char *name;
     dugg_site site;
-    size_t table_len, site_len, plan_len;
-    uint8_t table[MOST], site_file[4096], plan_file[MOST];
+    size_t table_len, site_len, plan_len, sheet_len;
+    uint8_t table[MOST], site_file[4096], plan_file[MOST], sheet[4096];
 } work;
 
 /* What a call leaves behind. */
@@ -72,8 +76,16 @@ static bool has(const maker *m, int operation)
     case READ_SITE: return m->read_site != NULL;
     case WRITE_SITE: return m->write_site != NULL;
     case READ_PLAN: return m->read_plan != NULL;
-    default: return m->write_plan != NULL;
+    case WRITE_PLAN: return m->write_plan != NULL;
+    case READ_SHEET: return m->read_sheet != NULL;
+    default: return m->write_sheet != NULL;
     }
+}
+
+static void keep(left *l, dugg_edited read)
+{
+    l->answer = read.answer;
+    l->site = read.site;
 }
 
 static void run(const maker *m, int operation, const work *w, left *l)
@@ -83,12 +95,7 @@ static void run(const maker *m, int operation, const work *w, left *l)
     case CHECK: l->answer = m->check(w->site, w->table, w->table_len); break;
     case LOAD_TEST: l->answer = m->load_test(w->site); break;
     case CHAIN: l->answer = m->chain(w->site); break;
-    case READ_SITE: {
-        dugg_edited read = m->read_site(w->site_file, w->site_len);
-        l->answer = read.answer;
-        l->site = read.site;
-        break;
-    }
+    case READ_SITE: keep(l, m->read_site(w->site_file, w->site_len)); break;
     case WRITE_SITE: l->answer = m->write_site(w->site, l->bytes, sizeof l->bytes); break;
     case READ_PLAN: {
         dugg_plan_read read = m->read_plan(w->plan_file, w->plan_len, l->bytes, w->table_len);
@@ -97,6 +104,8 @@ static void run(const maker *m, int operation, const work *w, left *l)
         break;
     }
     case WRITE_PLAN: l->answer = m->write_plan(w->site, w->table, w->table_len, l->bytes, sizeof l->bytes); break;
+    case READ_SHEET: keep(l, m->read_sheet(w->sheet, w->sheet_len, w->site.slots, w->site.channels)); break;
+    case WRITE_SHEET: l->answer = m->write_sheet(w->site, l->bytes, sizeof l->bytes); break;
     }
 }
 
@@ -160,9 +169,11 @@ static int make_files(work *w)
     dugg_answer planned = plain2_plan(w->site, w->table, w->table_len);
     dugg_answer site = plain2_write_site(w->site, w->site_file, sizeof w->site_file);
     dugg_answer plan = plain2_write_plan(w->site, w->table, w->table_len, w->plan_file, sizeof w->plan_file);
+    dugg_answer sheet = plain2_write_sheet(w->site, w->sheet, sizeof w->sheet);
     w->site_len = site.value[0];
     w->plan_len = plan.value[0];
-    return (planned.number != 0) + (site.number != 0) + (plan.number != 0);
+    w->sheet_len = sheet.value[0];
+    return (planned.number != 0) + (site.number != 0) + (plan.number != 0) + (sheet.number != 0);
 }
 
 /* ---- agreement ---- */
@@ -207,11 +218,12 @@ static int agree_when_wrong(const work *w)
     wrong.site.loads[w->site.cells - 1] -= 2;
     fine &= agree(&wrong);
     wrong = *w;
-    wrong.table_len--, wrong.site_len--, wrong.plan_len--;
+    wrong.table_len--, wrong.site_len--, wrong.plan_len--, wrong.sheet_len--;
     fine &= agree(&wrong);
     wrong = *w;
     memset(wrong.table, 1, wrong.table_len);
     wrong.site_file[4] = wrong.plan_file[4] = 33;
+    wrong.sheet[w->sheet_len - 3] = '2';
     fine &= agree(&wrong);
     wrong = *w;
     size_t last = w->table_len - 1;
@@ -266,6 +278,8 @@ static void print_size(int operation, const work *w)
     case CHAIN: printf("%u cells", w->site.cells); break;
     case READ_SITE:
     case WRITE_SITE: printf("file of %zu bytes", w->site_len); break;
+    case READ_SHEET:
+    case WRITE_SHEET: printf("sheet of %zu bytes", w->sheet_len); break;
     default: printf("file of %zu bytes, table of %zu", w->plan_len, w->table_len); break;
     }
 }
@@ -294,8 +308,8 @@ static void print_number(double number, int digits)
         printf(" | %.*f", digits, number);
 }
 
-/* Prints a site's table; raises, for the largest sites, the worst ratios of plan and check. */
-static void table_of(const work *w, double worst[MAKERS])
+/* Prints a site's table; raises, for the largest sites, the worst ratios of plan and check, and of the sheet to C -O3. */
+static void table_of(const work *w, double worst[MAKERS], double *sheet)
 {
     print_head(w);
     for (int operation = 0; operation < OPERATIONS; operation++) {
@@ -310,6 +324,8 @@ static void table_of(const work *w, double worst[MAKERS])
             print_number(ratio, 2);
             if ((operation == PLAN || operation == CHECK) && largest(w) && ratio > worst[m])
                 worst[m] = ratio;
+            if ((operation == READ_SHEET || operation == WRITE_SHEET) && largest(w) && m == C3 && ratio > *sheet)
+                *sheet = ratio;
         }
         printf(" |\n");
     }
@@ -330,11 +346,13 @@ int main(void)
     if (!fine)
         return 1;
     printf("All gave the same answers and the same bytes on these inputs before they were timed.\n");
-    double worst[MAKERS] = {0};
+    double worst[MAKERS] = {0}, sheet = 0;
     for (int k = 0; k < SITES; k++)
-        table_of(&w[k], worst);
+        table_of(&w[k], worst, &sheet);
     printf("\nPlan and check on the largest sites are %s a quarter of C -O3: the worst ratio is %.2f.\n",
            worst[C3] <= 1.25 ? "within" : "NOT within", worst[C3]);
+    printf("\nReading and writing the sheets of the largest sites take %s twice the time of C -O3: the worst ratio is %.2f.\n",
+           sheet <= 2 ? "at most" : "MORE THAN", sheet);
     printf("\nTo C bits, the worst ratio of plan and check on the largest sites is %.2f.\n", worst[BITS]);
     return 0;
 }

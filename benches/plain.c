@@ -400,3 +400,135 @@ dugg_answer NAME(write_plan)(dugg_site site, const uint8_t *table, size_t table_
         p[size - 1] = pack(table + bits / 8 * 8, bits % 8);
     return answer(0, 14 + size, 0, 0);
 }
+
+/* ---- range sheets ---- */
+
+/* The place after a text that stands at p, or NULL; NULL stays NULL. */
+static const uint8_t *after(const uint8_t *p, const uint8_t *end, const char *text, size_t n)
+{
+    return p != NULL && (size_t)(end - p) >= n && memcmp(p, text, n) == 0 ? p + n : NULL;
+}
+
+static bool is_digit(const uint8_t *p, const uint8_t *end)
+{
+    return p < end && *p >= '0' && *p <= '9';
+}
+
+/* The place after a number of up to 65,535 without leading zeros, or NULL. */
+static const uint8_t *number_at(const uint8_t *p, const uint8_t *end, unsigned *x)
+{
+    if (p == NULL || !is_digit(p, end))
+        return NULL;
+    unsigned v = *p++ - '0';
+    if (v != 0)
+        for (; is_digit(p, end); p++) {
+            v = 10 * v + *p - '0';
+            if (v > 65535)
+                return NULL;
+        }
+    *x = v;
+    return p;
+}
+
+/* The first line: the place after it, or NULL, and how many cells it has. */
+static const uint8_t *head_line(const uint8_t *p, const uint8_t *end, unsigned *cells)
+{
+    unsigned n = 0, x;
+    p = after(p, end, "cell,load", 9);
+    while (p != NULL && p < end && *p == ',') {
+        p = number_at(p + 1, end, &x);
+        if (p == NULL || x != ++n || n > CELLS)
+            return NULL;
+    }
+    *cells = n;
+    return n == 0 ? NULL : after(p, end, "\r\n", 2);
+}
+
+/* The line of cell k, counted from 0. */
+static const uint8_t *cell_line(const uint8_t *p, const uint8_t *end, unsigned k, dugg_site *s)
+{
+    unsigned x, load;
+    p = number_at(p, end, &x);
+    if (p == NULL || x != k + 1)
+        return NULL;
+    p = number_at(after(p, end, ",", 1), end, &load);
+    if (p == NULL || (size_t)(end - p) < 2 * s->cells)
+        return NULL;
+    uint32_t row = 0;
+    for (unsigned b = 0; b < s->cells; b++, p += 2) {
+        unsigned mark = p[1] - '0';
+        if (p[0] != ',' || mark > 1)
+            return NULL;
+        row |= mark << b;
+    }
+    s->loads[k] = load;
+    s->reach[k] = row;
+    return after(p, end, "\r\n", 2);
+}
+
+dugg_edited NAME(read_sheet)(const uint8_t *bytes, size_t len, uint16_t slots, uint16_t channels)
+{
+    dugg_edited r = refused_read(0, 0);
+    const uint8_t *end = bytes + len;
+    unsigned cells;
+    const uint8_t *p = head_line(bytes, end, &cells);
+    if (p == NULL)
+        return refused_read(17, 1);
+    r.site.cells = cells;
+    r.site.slots = slots;
+    r.site.channels = channels;
+    for (unsigned k = 0; k < cells; k++) {
+        p = cell_line(p, end, k, &r.site);
+        if (p == NULL)
+            return refused_read(17, k + 2);
+    }
+    if (p < end)
+        return refused_read(17, cells + 2);
+    dugg_answer f = fault(&r.site);
+    return f.number == 0 ? r : refused_read(f.number, f.value[0]);
+}
+
+static unsigned digits(unsigned x)
+{
+    return 1 + (x > 9) + (x > 99) + (x > 999) + (x > 9999);
+}
+
+static uint8_t *put_number(uint8_t *p, unsigned x)
+{
+    unsigned n = digits(x);
+    for (unsigned k = n; k-- > 0; x /= 10)
+        p[k] = '0' + x % 10;
+    return p + n;
+}
+
+static uint8_t *put_text(uint8_t *p, const char *text, size_t n)
+{
+    memcpy(p, text, n);
+    return p + n;
+}
+
+dugg_answer NAME(write_sheet)(dugg_site site, uint8_t *out, size_t len)
+{
+    dugg_answer f = fault(&site);
+    if (f.number != 0)
+        return f;
+    size_t need = 11;
+    for (unsigned i = 0; i < site.cells; i++)
+        need += 4 + 2 * digits(i + 1) + digits(site.loads[i]) + 2 * site.cells;
+    if (len < need)
+        return answer(13, need, 0, 0);
+    uint8_t *p = put_text(out, "cell,load", 9);
+    for (unsigned i = 0; i < site.cells; i++)
+        p = put_number(put_text(p, ",", 1), i + 1);
+    p = put_text(p, "\r\n", 2);
+    for (unsigned i = 0; i < site.cells; i++) {
+        p = put_number(p, i + 1);
+        p = put_number(put_text(p, ",", 1), site.loads[i]);
+        for (unsigned b = 0; b < site.cells; b++) {
+            *p++ = ',';
+            *p++ = '0' + (site.reach[i] >> b & 1);
+        }
+        p = put_text(p, "\r\n", 2);
+    }
+    return answer(0, need, 0, 0);
+}

@@ -19,7 +19,9 @@
     dugg_edited P##read_site(const uint8_t *bytes, size_t len);                                                       \
     dugg_answer P##write_site(dugg_site site, uint8_t *out, size_t len);                                              \
     dugg_plan_read P##read_plan(const uint8_t *bytes, size_t len, uint8_t *table, size_t table_len);                  \
-    dugg_answer P##write_plan(dugg_site site, const uint8_t *table, size_t table_len, uint8_t *out, size_t len);
+    dugg_answer P##write_plan(dugg_site site, const uint8_t *table, size_t table_len, uint8_t *out, size_t len);      \
+    dugg_edited P##read_sheet(const uint8_t *bytes, size_t len, uint16_t slots, uint16_t channels);                   \
+    dugg_answer P##write_sheet(dugg_site site, uint8_t *out, size_t len);
 
 /* The C on bit sets has these two. */
 dugg_answer bits_plan(dugg_site site, uint8_t *table, size_t len);

@@ -1,6 +1,6 @@
 /* Duggfrask, the C interface: plans channel time-slots for the cells of a wireless fieldbus, and checks finished plans.
  *
- * Every call answers a number and up to three values. Number 0 is "done"; 1 to 16 are the refusals of
+ * Every call answers a number and up to three values. Number 0 is "done"; 1 to 17 are the refusals of
  * docs/RULES.md. Values that are not named below are 0. No call keeps anything between calls.
  *
  *    1  cells, slots or channels out of range
@@ -20,9 +20,11 @@
  *   14  a left-over bit of a plan is 1
  *   15  burst or period is 0
  *   16  the share is above 65,535
+ *   17  the range sheet is malformed (value: its first bad line, from 1)
  *
  * A refused file read has one value: where in the file the refused record begins (12: the first byte too many;
- * 4: 0). Cells are numbered from 1, positions from 0: slot t and channel f are position (t-1) * channels + (f-1).
+ * 4: 0). A sheet has no records: its 17 gives the line, its 3 the lowest row. Cells are numbered from 1, positions
+ * from 0: slot t and channel f are position (t-1) * channels + (f-1).
  * A pointer that is lent with length 0 is never looked at. Lent parts must not overlap. */
 #ifndef DUGGFRASK_H
 #define DUGGFRASK_H
@@ -43,7 +45,7 @@ typedef struct { uint16_t cells, slots, channels, loads[32]; uint32_t reach[32];
 typedef struct { uint64_t number, value[3]; } dugg_answer;
 
 /* A site and the answer beside it: from an edit, the edited site, or the site as it came if the edit is refused; from
- * a site file, the site that was read, or a site of zeros if the file is refused. */
+ * a site file or a range sheet, the site that was read, or a site of zeros if it is refused. */
 typedef struct { dugg_site site; dugg_answer answer; } dugg_edited;
 
 /* What a plan file says of its site, or three zeros if the file is refused, and the answer. */
@@ -98,6 +100,14 @@ dugg_plan_read dugg_read_plan(const uint8_t *bytes, size_t len, uint8_t *table, 
 /* Writes the reservations of a site's table as a plan file, without judging them. Done: value[0] is the number of
  * bytes written; bytes past those are not touched. */
 dugg_answer dugg_write_plan(dugg_site site, const uint8_t *table, size_t table_len, uint8_t *out, size_t len);
+
+/* Reads a range sheet: a first line "cell,load,1,2,.." with the cell numbers, then a line for each cell with its number,
+ * its load, and for each cell a mark, 1 if it reaches that cell and 0 if not. Every line ends in CR LF. The slots and
+ * the channels of the site come beside it. Refusals: 17, then 1, then 3 for a cell that marks itself. */
+dugg_edited dugg_read_sheet(const uint8_t *bytes, size_t len, uint16_t slots, uint16_t channels);
+
+/* Writes the range sheet of a site. Done: value[0] is the number of bytes written; bytes past those are not touched. */
+dugg_answer dugg_write_sheet(dugg_site site, uint8_t *out, size_t len);
 
 #ifdef __cplusplus
 }

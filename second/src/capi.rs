@@ -3,7 +3,7 @@
 use crate::answer::{done, Answer, Outcome};
 use crate::share::{Fragments, Slots};
 use crate::site::Site;
-use crate::{checker, files, judge, planner, share};
+use crate::{checker, files, judge, planner, share, sheet};
 
 #[repr(C)]
 #[derive(Clone, Copy, Debug, PartialEq, Eq)]
@@ -149,4 +149,18 @@ pub unsafe extern "C" fn second_write_plan(
 ) -> Answer {
     let outcome = files::write_plan(&site, lent(table, table_len), lent_out(out, len));
     answer(outcome, |written| [written as u64])
+}
+
+/// # Safety
+/// `bytes` has `len` bytes.
+#[no_mangle]
+pub unsafe extern "C" fn second_read_sheet(bytes: *const u8, len: usize, slots: u16, channels: u16) -> Edited {
+    edited(sheet::read_sheet(lent(bytes, len), slots, channels), Site::default())
+}
+
+/// # Safety
+/// `out` has `len` bytes.
+#[no_mangle]
+pub unsafe extern "C" fn second_write_sheet(site: Site, out: *mut u8, len: usize) -> Answer {
+    answer(sheet::write_sheet(&site, lent_out(out, len)), |written| [written as u64])
 }

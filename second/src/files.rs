@@ -109,7 +109,7 @@ fn push_head(file: &mut Vec<u8>, site: &Site) {
 }
 
 /// Copies a finished file into the lent output, or refuses with 13 and the bytes needed.
-fn deliver(file: &[u8], out: &mut [u8]) -> Outcome<usize> {
+pub fn deliver(file: &[u8], out: &mut [u8]) -> Outcome<usize> {
     if out.len() < file.len() {
         return refuse(13, &[file.len() as u64]);
     }

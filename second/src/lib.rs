@@ -9,4 +9,5 @@ pub mod judge;
 pub mod listing;
 pub mod planner;
 pub mod share;
+pub mod sheet;
 pub mod site;

@@ -5,6 +5,7 @@ use second::answer::{refuse, Outcome};
 use second::files::{read_plan, read_site, write_plan, write_site};
 use second::listing::listing;
 use second::planner::plan;
+use second::sheet::{read_sheet, write_sheet};
 use second::site::Site;
 use std::path::Path;
 
@@ -48,6 +49,18 @@ fn plan_read(file: &[u8], len: usize) -> (Outcome<Site>, Vec<u8>) {
 fn the_files_of_the_rules_are_the_samples() {
     assert_eq!(sample("p1.site"), SITE);
     assert_eq!(sample("p1.plan"), PLAN);
+}
+
+#[test]
+fn the_sample_sheets_are_the_sites() {
+    for (name, slots, channels) in [("p1", 3, 2), ("tunnel32", 128, 16)] {
+        let sheet = sample(&format!("{name}.sheet.csv"));
+        let site = read_site(&sample(&format!("{name}.site"))).unwrap();
+        assert_eq!(read_sheet(&sheet, slots, channels), Ok(site));
+        let mut out = vec![9; sheet.len()];
+        assert_eq!(write_sheet(&site, &mut out), Ok(sheet.len()));
+        assert_eq!(out, sheet);
+    }
 }
 
 #[test]

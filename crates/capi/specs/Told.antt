@@ -7,6 +7,8 @@ use Rattle.site.specs.declared.Edited.{Edited}
 use Rattle.records.specs.Given.{readGiven}
 use Rattle.sitefile.specs.declared.SiteRead.{SiteRead}
 use Rattle.planfile.specs.declared.PlanRead.{PlanRead}
+use Rattle.sheet.specs.Given.{sheetGiven}
+use Rattle.sheet.specs.declared.SheetRead.{SheetRead}
 use Rattle.capi.specs.declared.Answer.{Answer}
 use Rattle.capi.specs.declared.EditedSite.{EditedSite}
 use Rattle.capi.specs.declared.PlanReadC.{PlanReadC}
@@ -30,3 +32,7 @@ toldSiteRead e = record { site = e .site; answer = told (readGiven (e .answer)) 
 -- I, T and F as the read gave them, and the answer as told
 unfoldable pub toldPlanRead : PlanRead → PlanReadC
 toldPlanRead e = record { cells = e .cells; slots = e .slots; channels = e .channels; answer = told (readGiven (e .answer)) }
+
+-- the site as the sheet gave it, and the answer as told
+unfoldable pub toldSheetRead : SheetRead → EditedSite
+toldSheetRead e = record { site = e .site; answer = told (sheetGiven (e .answer)) }

@@ -9,6 +9,9 @@ use records::ReadAnswer;
 use shares::Fragments;
 use shares::ShareAnswer;
 use shares::Slots;
+use sheet::SheetAnswer;
+use sheet::SheetRead;
+use sheet::SheetWritten;
 use site::ClashAnswer;
 use site::Edited;
 use site::Fault;
@@ -35,7 +38,10 @@ ghost use Rattle.sitefile.specs.Given.{siteWrittenGiven};
 ghost use Rattle.planfile.specs.Read.{readPlan, planTableRead};
 ghost use Rattle.planfile.specs.Write.{planWritten, planOut};
 ghost use Rattle.planfile.specs.Given.{planWrittenGiven};
-ghost use Rattle.capi.specs.Told.{numbered, told, toldEdited, toldSiteRead, toldPlanRead};
+ghost use Rattle.sheet.specs.Read.{readSheet};
+ghost use Rattle.sheet.specs.Write.{sheetWritten, sheetOut};
+ghost use Rattle.sheet.specs.Given.{sheetGiven, sheetWrittenGiven};
+ghost use Rattle.capi.specs.Told.{numbered, told, toldEdited, toldSiteRead, toldPlanRead, toldSheetRead};
 
 // dugg_answer: the number given back, and the values that belong to it.
 #[repr(C)]
@@ -181,6 +187,26 @@ fn plan_written(answer: PlanWritten) -> Answer
     }
 }
 
+fn sheet_answer(answer: SheetAnswer) -> Answer
+    ensures { λ r. ⌜ r ≡ told (sheetGiven answer) ⌝ }
+{
+    match answer {
+        SheetAnswer::Done => give(0, 0, 0, 0),
+        SheetAnswer::BadLine(line) => give(17, line as u64, 0, 0),
+        SheetAnswer::Refused(f) => fault_answer(f),
+    }
+}
+
+fn sheet_written(answer: SheetWritten) -> Answer
+    ensures { λ r. ⌜ r ≡ told (sheetWrittenGiven answer) ⌝ }
+{
+    match answer {
+        SheetWritten::Done(n) => give(0, n as u64, 0, 0),
+        SheetWritten::OutShort(n) => give(13, n as u64, 0, 0),
+        SheetWritten::Refused(f) => fault_answer(f),
+    }
+}
+
 fn edited_answer(e: Edited) -> EditedSite
     ensures { λ r. ⌜ r ≡ toldEdited e ⌝ }
 {
@@ -200,6 +226,17 @@ fn site_read(e: SiteRead) -> EditedSite
     EditedSite {
         site,
         answer: read_answer(a),
+    }
+}
+
+fn sheet_read(e: SheetRead) -> EditedSite
+    ensures { λ r. ⌜ r ≡ toldSheetRead e ⌝ }
+{
+    let site = e.site;
+    let a = e.answer;
+    EditedSite {
+        site,
+        answer: sheet_answer(a),
     }
 }
 
@@ -320,4 +357,19 @@ pub extern "C" fn dugg_write_plan(site: Site, table: &[u8], out: &mut [u8]) -> A
     ensures { λ _. ⌜ now (out .exit) ≡ planOut site (now (table .entry)) (now (out .entry)) ⌝ }
 {
     plan_written(planfile::write_plan(site, table, out))
+}
+
+#[no_mangle]
+pub extern "C" fn dugg_read_sheet(bytes: &[u8], slots: u16, channels: u16) -> EditedSite
+    ensures { λ r. ⌜ r ≡ toldSheetRead (readSheet (now (bytes .entry)) slots channels) ⌝ }
+{
+    sheet_read(sheet::read_sheet(bytes, slots, channels))
+}
+
+#[no_mangle]
+pub extern "C" fn dugg_write_sheet(site: Site, out: &mut [u8]) -> Answer
+    ensures { λ r. ⌜ r ≡ told (sheetWrittenGiven (sheetWritten site (now (out .entry)))) ⌝ }
+    ensures { λ _. ⌜ now (out .exit) ≡ sheetOut site (now (out .entry)) ⌝ }
+{
+    sheet_written(sheet::write_sheet(site, out))
 }

@@ -24,7 +24,7 @@ use Rattle.sitefile.specs.Read.{readSite}
 use Rattle.sitefile.specs.declared.SiteRead.{SiteRead}
 use Rattle.sitefile.proofs.Trip.{read-fine}
 use Rattle.listing.specs.Lines.{siteLine, refusedLine}
-use Rattle.listing.proofs.Writing.{begun, said, stored, ended}
+use Rattle.text.proofs.Writing.{begun, said, stored, ended}
 use Rattle.lister.specs.Listing.{chainLine, loadLine, planLine, headLines}
 use Rattle.lister.specs.Parts.{headOf, tableAfter, rowCount, siteRest, restOf}
 use Rattle.lister.specs.declared.Rest.{Rest}

@@ -1,40 +1,13 @@
 // The lines of the listing, written into a lent buffer: each function puts its text at `at` and answers where the next byte goes.
 // Nothing here knows a site: the lines are made of numbers, fixed texts and the bytes of a row.
+use text::put_number;
+use text::put_text;
 ghost use mathlib.Core.Path.{_≡_};
 ghost use Prim.Native.Nat.{_+_, _≤_, _<_};
 ghost use lib.ListN.{length};
 ghost use lib.Seq.{sets};
-ghost use Rattle.listing.specs.Decimal.{decimal};
+ghost use Rattle.text.specs.Decimal.{decimal};
 ghost use Rattle.listing.specs.Lines.{field, fields, line, reservation, listed, reservations, siteLine, chainYes, chainNo, loadHolds, loadOver, planDone, planShort, refusedLine, cellLine};
-
-// A text as it is.
-fn put_text(out: &mut [u8], at: usize, text: &[u8]) -> usize
-    requires { ⌜ at + length (now text) ≤ length (now out) ⌝ }
-    ensures stored { λ r. ⌜ now (out .exit) ≡ sets (now (out .entry)) at (now (text .entry)) ⌝ }
-    ensures next { λ r. ⌜ r ≡ at + length (now (text .entry)) ⌝ }
-{
-    let mut i = 0;
-    while i < text.len() {
-        out[at + i] = text[i];
-        i += 1;
-    }
-    at + i
-}
-
-// A number in decimal, the highest digit first.
-pub fn put_number(out: &mut [u8], at: usize, x: usize) -> usize
-    requires { ⌜ at + length (decimal x) ≤ length (now out) ⌝ }
-    ensures stored { λ r. ⌜ now (out .exit) ≡ sets (now (out .entry)) at (decimal x) ⌝ }
-    ensures next { λ r. ⌜ r ≡ at + length (decimal x) ⌝ }
-{
-    if x < 10 {
-        out[at] = 48 + x as u8;
-        return at + 1;
-    }
-    let last = put_number(out, at, x / 10);
-    out[last] = 48 + (x % 10) as u8;
-    last + 1
-}
 
 // A space and a number.
 fn put_field(out: &mut [u8], at: usize, x: usize) -> usize

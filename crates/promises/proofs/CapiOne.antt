@@ -6,7 +6,7 @@ use Prim.Native.Nat.{ℕ}
 use Rattle.capi.specs.declared.Answer.{Answer}
 use Rattle.capi.specs.declared.EditedSite.{EditedSite}
 use Rattle.capi.specs.declared.PlanReadC.{PlanReadC}
-use Rattle.promises.specs.CapiSays.{DuggChain, DuggCheck, DuggClash, DuggClearReach, DuggFault, DuggLoadTest, DuggPlan, DuggReadPlan, DuggReadSite, DuggSetLoad, DuggSetReach, DuggShare, DuggWritePlan, DuggWriteSite}
+use Rattle.promises.specs.CapiSays.{DuggChain, DuggCheck, DuggClash, DuggClearReach, DuggFault, DuggLoadTest, DuggPlan, DuggReadPlan, DuggReadSheet, DuggReadSite, DuggSetLoad, DuggSetReach, DuggShare, DuggWritePlan, DuggWriteSheet, DuggWriteSite}
 use Rattle.site.specs.declared.Site.{Site}
 
 -- capi::dugg_fault
@@ -64,3 +64,11 @@ duggReadPlan-one bytes table r q table′ table″ says also = (says .answer ∙
 -- capi::dugg_write_plan
 pub duggWritePlan-one : (site : Site) (table : List ℕ) (out : List ℕ) (r q : Answer) (out′ out″ : List ℕ) → DuggWritePlan site table out r out′ → DuggWritePlan site table out q out″ → (r ≡ q) × (out′ ≡ out″)
 duggWritePlan-one site table out r q out′ out″ says also = (says .answer ∙ sym (also .answer), says .out-after ∙ sym (also .out-after))
+
+-- capi::dugg_read_sheet
+pub duggReadSheet-one : (bytes : List ℕ) (slots : ℕ) (channels : ℕ) (r q : EditedSite) → DuggReadSheet bytes slots channels r → DuggReadSheet bytes slots channels q → (r ≡ q)
+duggReadSheet-one bytes slots channels r q says also = says .answer ∙ sym (also .answer)
+
+-- capi::dugg_write_sheet
+pub duggWriteSheet-one : (site : Site) (out : List ℕ) (r q : Answer) (out′ out″ : List ℕ) → DuggWriteSheet site out r out′ → DuggWriteSheet site out q out″ → (r ≡ q) × (out′ ≡ out″)
+duggWriteSheet-one site out r q out′ out″ says also = (says .answer ∙ sym (also .answer), says .out-after ∙ sym (also .out-after))

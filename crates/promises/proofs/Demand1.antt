@@ -84,11 +84,11 @@ plan-read-leaves file t =
 
 module _ (file out : List ℕ) where
   -- done, with the file's length, and the file in front of the output
-  did-write : WriterLeaves file out (doneWith (length file ∷ [])) (file ++ drop (length file) out)
+  pub did-write : WriterLeaves file out (doneWith (length file ∷ [])) (file ++ drop (length file) out)
   did-write = record { if-done = λ _. (refl, refl); if-refused = λ z. absurd (z refl) }
 
   -- any number but 0, and the output as it was
-  out-untouched : (g : Given) → (g .number ≡ 0 → ⊥) → WriterLeaves file out g out
+  pub out-untouched : (g : Given) → (g .number ≡ 0 → ⊥) → WriterLeaves file out g out
   out-untouched g z = record { if-done = λ e. absurd (z e); if-refused = λ _. refl }
 
   site-left : (f : Fault) (fits : Bool)

@@ -6,6 +6,7 @@ pub mod Demand2
 pub mod Names
 pub mod Demand3
 pub mod Files
+pub mod Sheets
 pub mod InC
 pub mod SquareOne
 pub mod SiteOne
@@ -18,5 +19,9 @@ pub mod SharesOne
 pub mod RecordsOne
 pub mod SitefileOne
 pub mod PlanfileOne
+pub mod TextOne
 pub mod ListingOne
+pub mod LinesOne
+pub mod PutlinesOne
+pub mod SheetOne
 pub mod CapiOne

@@ -3,11 +3,7 @@
 use mathlib.Core.Path.{_≡_, sym, _∙_}
 use mathlib.Core.List.{List}
 use Prim.Native.Nat.{ℕ}
-use Rattle.promises.specs.ListingSays.{ListingCellLine, ListingChainNo, ListingChainYes, ListingLoadHolds, ListingLoadOver, ListingPlanDone, ListingPlanShort, ListingPutNumber, ListingRefusedLine, ListingSiteLine}
-
--- listing::put_number
-pub listingPutNumber-one : (out : List ℕ) (at : ℕ) (x : ℕ) (r q : ℕ) (out′ out″ : List ℕ) → ListingPutNumber out at x r out′ → ListingPutNumber out at x q out″ → (r ≡ q) × (out′ ≡ out″)
-listingPutNumber-one out at x r q out′ out″ says also = (says .answer ∙ sym (also .answer), says .out-after ∙ sym (also .out-after))
+use Rattle.promises.specs.ListingSays.{ListingCellLine, ListingChainNo, ListingChainYes, ListingLoadHolds, ListingLoadOver, ListingPlanDone, ListingPlanShort, ListingRefusedLine, ListingSiteLine}
 
 -- listing::site_line
 pub listingSiteLine-one : (out : List ℕ) (at : ℕ) (cells : ℕ) (slots : ℕ) (channels : ℕ) (r q : ℕ) (out′ out″ : List ℕ) → ListingSiteLine out at cells slots channels r out′ → ListingSiteLine out at cells slots channels q out″ → (r ≡ q) × (out′ ≡ out″)

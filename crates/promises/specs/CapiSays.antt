@@ -2,7 +2,7 @@
 use mathlib.Core.Path.{_≡_}
 use mathlib.Core.List.{List}
 use Prim.Native.Nat.{ℕ}
-use Rattle.capi.specs.Told.{told, toldEdited, toldPlanRead, toldSiteRead}
+use Rattle.capi.specs.Told.{told, toldEdited, toldPlanRead, toldSheetRead, toldSiteRead}
 use Rattle.capi.specs.declared.Answer.{Answer}
 use Rattle.capi.specs.declared.EditedSite.{EditedSite}
 use Rattle.capi.specs.declared.PlanReadC.{PlanReadC}
@@ -17,6 +17,9 @@ use Rattle.planner.specs.Given.{planGiven}
 use Rattle.planner.specs.Plan.{planAnswer, planTable}
 use Rattle.shares.specs.Given.{shareGiven}
 use Rattle.shares.specs.Share.{shareOf}
+use Rattle.sheet.specs.Given.{sheetWrittenGiven}
+use Rattle.sheet.specs.Read.{readSheet}
+use Rattle.sheet.specs.Write.{sheetOut, sheetWritten}
 use Rattle.site.specs.Edit.{clearReachOf, setLoadOf, setReachOf}
 use Rattle.site.specs.Given.{clashGiven, faultGiven}
 use Rattle.site.specs.Reach.{clashAnswer}
@@ -85,3 +88,12 @@ pub record DuggReadPlan (bytes : List ℕ) (table : List ℕ) (r : PlanReadC) (t
 pub record DuggWritePlan (site : Site) (table : List ℕ) (out : List ℕ) (r : Answer) (out′ : List ℕ) : Type 0 where
   pub answer : r ≡ told (planWrittenGiven (planWritten site table out))
   pub out-after : out′ ≡ planOut site table out
+
+-- capi::dugg_read_sheet
+pub record DuggReadSheet (bytes : List ℕ) (slots : ℕ) (channels : ℕ) (r : EditedSite) : Type 0 where
+  pub answer : r ≡ toldSheetRead (readSheet bytes slots channels)
+
+-- capi::dugg_write_sheet
+pub record DuggWriteSheet (site : Site) (out : List ℕ) (r : Answer) (out′ : List ℕ) : Type 0 where
+  pub answer : r ≡ told (sheetWrittenGiven (sheetWritten site out))
+  pub out-after : out′ ≡ sheetOut site out

@@ -14,5 +14,9 @@ pub mod SharesSays
 pub mod RecordsSays
 pub mod SitefileSays
 pub mod PlanfileSays
+pub mod TextSays
 pub mod ListingSays
+pub mod LinesSays
+pub mod PutlinesSays
+pub mod SheetSays
 pub mod CapiSays

@@ -2,15 +2,9 @@
 use mathlib.Core.Path.{_≡_}
 use mathlib.Core.List.{List}
 use Prim.Native.Nat.{_+_, ℕ}
-use Rattle.listing.specs.Decimal.{decimal}
 use Rattle.listing.specs.Lines.{cellLine, chainNo, chainYes, loadHolds, loadOver, planDone, planShort, refusedLine, siteLine}
 use lib.ListN.{length}
 use lib.Seq.{sets}
-
--- listing::put_number
-pub record ListingPutNumber (out : List ℕ) (at : ℕ) (x : ℕ) (r : ℕ) (out′ : List ℕ) : Type 0 where
-  pub answer : r ≡ at + length (decimal x)
-  pub out-after : out′ ≡ sets out at (decimal x)
 
 -- listing::site_line
 pub record ListingSiteLine (out : List ℕ) (at : ℕ) (cells : ℕ) (slots : ℕ) (channels : ℕ) (r : ℕ) (out′ : List ℕ) : Type 0 where

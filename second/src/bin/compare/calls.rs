@@ -20,6 +20,8 @@ extern "C" {
     fn dugg_write_site(site: Site, out: *mut u8, len: usize) -> Answer;
     fn dugg_read_plan(bytes: *const u8, len: usize, table: *mut u8, table_len: usize) -> PlanRead;
     fn dugg_write_plan(site: Site, table: *const u8, table_len: usize, out: *mut u8, len: usize) -> Answer;
+    fn dugg_read_sheet(bytes: *const u8, len: usize, slots: u16, channels: u16) -> Edited;
+    fn dugg_write_sheet(site: Site, out: *mut u8, len: usize) -> Answer;
 }
 
 pub struct Calls {
@@ -37,6 +39,8 @@ pub struct Calls {
     pub write_site: unsafe extern "C" fn(Site, *mut u8, usize) -> Answer,
     pub read_plan: unsafe extern "C" fn(*const u8, usize, *mut u8, usize) -> PlanRead,
     pub write_plan: unsafe extern "C" fn(Site, *const u8, usize, *mut u8, usize) -> Answer,
+    pub read_sheet: unsafe extern "C" fn(*const u8, usize, u16, u16) -> Edited,
+    pub write_sheet: unsafe extern "C" fn(Site, *mut u8, usize) -> Answer,
 }
 
 pub const LIBRARY: Calls = Calls {
@@ -54,6 +58,8 @@ pub const LIBRARY: Calls = Calls {
     write_site: dugg_write_site,
     read_plan: dugg_read_plan,
     write_plan: dugg_write_plan,
+    read_sheet: dugg_read_sheet,
+    write_sheet: dugg_write_sheet,
 };
 
 pub const SECOND: Calls = Calls {
@@ -71,4 +77,6 @@ pub const SECOND: Calls = Calls {
     write_site: second_write_site,
     read_plan: second_read_plan,
     write_plan: second_write_plan,
+    read_sheet: second_read_sheet,
+    write_sheet: second_write_sheet,
 };

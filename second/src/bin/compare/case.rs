@@ -20,6 +20,8 @@ pub enum Call {
     WriteSite,
     ReadPlan,
     WritePlan,
+    ReadSheet,
+    WriteSheet,
 }
 
 /// Lent bytes between guard bytes. The guards' lengths differ, so that lent parts begin at any alignment.
@@ -82,7 +84,7 @@ pub struct Case {
     pub call: Call,
     pub site: Site,
     pub numbers: [u16; 3],
-    /// What is lent to be read: a file, or a table to check or to write.
+    /// What is lent to be read: a file, a sheet, or a table to check or to write.
     pub input: Lent,
     /// What is lent to be written: a table to plan or to read into, or a file's output.
     pub output: Lent,
@@ -144,6 +146,8 @@ impl Case {
                     (Site { cells, slots, channels, ..Site::default() }, read.answer)
                 }
                 Call::WritePlan => alone((calls.write_plan)(site, inp, ilen, out, olen)),
+                Call::ReadSheet => pair((calls.read_sheet)(inp, ilen, x, y)),
+                Call::WriteSheet => alone((calls.write_sheet)(site, out, olen)),
             }
         };
         Seen { answer, site, input, output }

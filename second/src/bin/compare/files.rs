@@ -105,7 +105,7 @@ fn damage_record(random: &mut Random, records: &mut [Vec<u8>]) {
 }
 
 /// Cuts the file, adds to it, or changes bytes anywhere.
-fn damage_bytes(random: &mut Random, file: &mut Vec<u8>) {
+pub fn damage_bytes(random: &mut Random, file: &mut Vec<u8>) {
     let at = random.below(file.len() + 1);
     match random.below(4) {
         0 => file.truncate(at),

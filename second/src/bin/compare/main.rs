@@ -12,6 +12,8 @@ mod make;
 mod random;
 mod run;
 mod samples;
+mod sheet_limits;
+mod sheets;
 mod sites;
 
 use random::Random;
@@ -45,6 +47,7 @@ fn usage() -> ExitCode {
 fn fixed(dir: &Path) -> ExitCode {
     let mut run = Run::default();
     boundary::compare(&mut run);
+    sheet_limits::compare(&mut run);
     println!("boundaries: {} cases", run.cases);
     let before = run.cases;
     match samples::compare(&mut run, dir) {

@@ -1,10 +1,11 @@
 //! Makes random cases: sites, tables, files and flows that are valid, nearly valid or damaged, so that every number is
-//! given often. Sites and tables are made in `sites`, files in `files`.
+//! given often. Sites and tables are made in `sites`, files in `files`, range sheets in `sheets`.
 
 use crate::case::{Call, Case};
 use crate::files::{plan_file, site_file};
 use crate::random::Random;
 use crate::run::Run;
+use crate::sheets::{self, sheet};
 use crate::sites::{damage, sound_site, table};
 use second::site::Site;
 
@@ -29,6 +30,9 @@ pub fn compare(run: &mut Run, random: &mut Random) {
         Call::ReadPlan,
         Call::ReadPlan,
         Call::WritePlan,
+        Call::ReadSheet,
+        Call::ReadSheet,
+        Call::WriteSheet,
     ]);
     let mark = random.next();
     match call {
@@ -36,6 +40,10 @@ pub fn compare(run: &mut Run, random: &mut Random) {
         Call::ReadPlan => {
             let (file, due) = plan_file(random);
             run.read_plan(&file, near(random, due), mark);
+        }
+        Call::ReadSheet => {
+            let (bytes, slots, channels) = sheet(random);
+            run.read_sheet(&bytes, slots, channels, mark);
         }
         Call::Share => {
             let flow = [near_number(random, 128), flow_number(random), flow_number(random)];
@@ -76,6 +84,10 @@ fn with_site(random: &mut Random, call: Call) -> Case {
         Call::WriteSite => {
             let pairs: u32 = site.reach.iter().map(|row| row.count_ones()).sum();
             let len = near(random, 18 + 2 * site.count().min(33) + 2 * pairs as usize);
+            case.output(&random.bytes(len), mark)
+        }
+        Call::WriteSheet => {
+            let len = near(random, sheets::lines(&site).concat().len());
             case.output(&random.bytes(len), mark)
         }
         Call::WritePlan => {

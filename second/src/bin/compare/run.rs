@@ -8,7 +8,7 @@ use second::site::Site;
 #[derive(Default)]
 pub struct Run {
     pub cases: u64,
-    pub given: [u64; 17],
+    pub given: [u64; 18],
 }
 
 impl Run {
@@ -56,7 +56,21 @@ impl Run {
         self.compare(&write.output(&vec![0xA5; bytes.len() - 1], mark));
     }
 
-    /// Prints how often each number was given, and says whether each of 0 to 16 was.
+    /// Reads bytes as a sheet; a site that is accepted is judged, and written back with room and without.
+    pub fn read_sheet(&mut self, bytes: &[u8], slots: u16, channels: u16, mark: u64) {
+        let read = Case::of(Call::ReadSheet, Site::default()).numbers([slots, channels, 0]).input(bytes, mark);
+        let seen = self.compare(&read);
+        if seen.answer.number != 0 {
+            return;
+        }
+        self.compare(&Case::of(Call::Fault, seen.site));
+        let write = Case::of(Call::WriteSheet, seen.site);
+        let written = self.compare(&write.clone().output(&vec![0xA5; bytes.len() + 3], mark));
+        assert_eq!(&written.output.bytes()[..bytes.len()], bytes, "a sheet read and written is the same sheet");
+        self.compare(&write.output(&vec![0xA5; bytes.len() - 1], mark));
+    }
+
+    /// Prints how often each number was given, and says whether each of 0 to 17 was.
     pub fn report(&self) -> bool {
         for (number, times) in self.given.iter().enumerate() {
             println!("number {number} was given {times} times");

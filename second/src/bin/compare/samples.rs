@@ -1,5 +1,5 @@
 //! Every sample file, cut at each byte, with a byte too many, and with each single byte changed to every value: read as
-//! a site file and as a plan file, and written back where it is accepted.
+//! a site file and as a plan file, and written back where it is accepted. The sample sheets likewise, read as sheets.
 
 use crate::run::Run;
 use std::fs;
@@ -10,29 +10,34 @@ pub fn compare(run: &mut Run, dir: &Path) -> io::Result<usize> {
     let mut files = Vec::new();
     for entry in fs::read_dir(dir)? {
         let path = entry?.path();
-        if path.extension().is_some_and(|end| end == "site" || end == "plan") {
+        if path.extension().is_some_and(|end| end == "site" || end == "plan" || end == "csv") {
             files.push(path);
         }
     }
     files.sort();
     for path in &files {
-        one_file(run, &fs::read(path)?);
+        let file = fs::read(path)?;
+        if path.extension().is_some_and(|end| end == "csv") {
+            one_file(&file, |bytes, mark| run.read_sheet(bytes, 3, 2, mark));
+        } else {
+            one_file(&file, |bytes, mark| both_ways(run, bytes, mark));
+        }
     }
     Ok(files.len())
 }
 
-fn one_file(run: &mut Run, file: &[u8]) {
+fn one_file(file: &[u8], mut read: impl FnMut(&[u8], u64)) {
     for cut in 0..=file.len() {
-        both_ways(run, &file[..cut], cut as u64);
+        read(&file[..cut], cut as u64);
     }
     for value in 0..=255 {
         let mut longer = file.to_vec();
         longer.push(value);
-        both_ways(run, &longer, 3);
+        read(&longer, 3);
         for at in 0..file.len() {
             let mut changed = file.to_vec();
             changed[at] = value;
-            both_ways(run, &changed, at as u64);
+            read(&changed, at as u64);
         }
     }
 }

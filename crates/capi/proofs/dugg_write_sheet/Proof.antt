@@ -1,0 +1,20 @@
+-- `capi::dugg_write_sheet` meets its contract: what the call ensures, put into what the conversion ensures. Assumes nothing.
+use borrow.Author.Needs.{needs}
+use Rattle.capi.proofs.dugg_write_sheet.Statement.{statement}
+use Rattle.capi.proofs.dugg_write_sheet.Tie as tie
+
+write-sheet-requires : tie.Need-write-sheet-requires
+write-sheet-requires c κs = search needs
+
+sheet-written-requires : tie.Need-sheet-written-requires
+sheet-written-requires c κs = search needs
+
+same-length : tie.Need-same-length
+same-length c = search needs
+
+returns : tie.Need-returns
+returns c = (cc, cc)
+
+pub dugg-write-sheet-spec : {M : Type 1} → statement M
+dugg-write-sheet-spec =
+    tie.close (tie.spec write-sheet-requires sheet-written-requires same-length returns)

@@ -1,0 +1,18 @@
+-- The equalities that the contracts of crate `sheet` state: r is the answer, and x′ what a lent x holds afterwards. Made by tools/surface from the source.
+use mathlib.Core.Path.{_≡_}
+use mathlib.Core.List.{List}
+use Prim.Native.Nat.{ℕ}
+use Rattle.sheet.specs.Read.{readSheet}
+use Rattle.sheet.specs.Write.{sheetOut, sheetWritten}
+use Rattle.sheet.specs.declared.SheetRead.{SheetRead}
+use Rattle.sheet.specs.declared.SheetWritten.{SheetWritten}
+use Rattle.site.specs.declared.Site.{Site}
+
+-- sheet::read_sheet
+pub record ReadSheet (bytes : List ℕ) (slots : ℕ) (channels : ℕ) (r : SheetRead) : Type 0 where
+  pub answer : r ≡ readSheet bytes slots channels
+
+-- sheet::write_sheet
+pub record WriteSheet (site : Site) (out : List ℕ) (r : SheetWritten) (out′ : List ℕ) : Type 0 where
+  pub answer : r ≡ sheetWritten site out
+  pub out-after : out′ ≡ sheetOut site out

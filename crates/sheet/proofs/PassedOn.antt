@@ -1,0 +1,56 @@
+-- Each call passes on the record's own fault, and never a fault that is none: the reader after 17, the writer before 13. Assumes nothing.
+use Prim.Native.Nat.{ℕ, _+_}
+use mathlib.Core.Path.{_≡_, refl}
+use mathlib.Core.Bool.{Bool, true, false}
+use mathlib.Core.List.{List}
+use mathlib.Core.Logic.{_↔_}
+use native.Mathlib.Omega.{arith}
+use lib.Dec.{ltb, leb}
+use lib.ListN.{length}
+use Rattle.laws.specs.Choice.{pick}
+use Rattle.site.specs.Record.{isFine, faultOf}
+use Rattle.site.proofs.PassedOn.{passed-on}
+use Rattle.site.specs.declared.Site.{Site}
+use Rattle.site.specs.declared.Fault.{Fault}
+use Rattle.site.specs.declared.Fault.the-variants.{Fine, Size, Load, Reach}
+use Rattle.lines.specs.Content.{cellsIn}
+use Rattle.sheet.specs.Read.{body, siteIn, judged, badAt, badLine, readSheet}
+use Rattle.sheet.specs.Sheet.{sheetBytes}
+use Rattle.sheet.specs.Write.{written, sheetWritten}
+use Rattle.sheet.specs.declared.SheetRead.{SheetRead}
+use Rattle.sheet.specs.declared.SheetAnswer.the-variants as read
+use Rattle.sheet.specs.declared.SheetWritten.the-variants.{Done, OutShort, Refused}
+
+-- ---- the reader
+
+no-fault-told : (s : Site) (f : Fault) → faultOf s ≡ f → (g : Fault) → judged s .answer ≡ read.Refused g → (g ≡ f) × (g ≡ Fine → ⊥)
+unfolding judged
+no-fault-told s Fine q g e = let w = rw q at e in let z : _≡_ {A = ℕ} 0 1 = cc in absurd (omega arith)
+no-fault-told s Size q g e = let w = rw q at e in (cc, λ y. let z : _≡_ {A = ℕ} 0 1 = cc in omega arith)
+no-fault-told s (Load k) q g e = let w = rw q at e in (cc, λ y. let z : _≡_ {A = ℕ} 0 1 = cc in omega arith)
+no-fault-told s (Reach k) q g e = let w = rw q at e in (cc, λ y. let z : _≡_ {A = ℕ} 0 1 = cc in omega arith)
+
+said : (t : Bool) (a : ℕ) (j : SheetRead) (f : Fault) → pick t (badAt a) j .answer ≡ read.Refused f → j .answer ≡ read.Refused f
+unfolding badAt
+said true a j f e = let z : _≡_ {A = ℕ} 0 1 = cc in absurd (omega arith)
+said false a j f e = e
+
+-- a refusal after 17 is the fault of the record that the lines make
+pub read-told : (b : List ℕ) (slots channels : ℕ) (f : Fault) → readSheet b slots channels .answer ≡ read.Refused f →
+    (f ≡ faultOf (siteIn (cellsIn b) (body b) slots channels)) × (f ≡ Fine → ⊥)
+unfolding readSheet
+read-told b slots channels f e =
+    no-fault-told (siteIn (cellsIn b) (body b) slots channels) (faultOf (siteIn (cellsIn b) (body b) slots channels)) refl f
+    (said (ltb (badLine b) (cellsIn b + 3)) (badLine b) (judged (siteIn (cellsIn b) (body b) slots channels)) f e)
+
+-- ---- the writer
+
+no-refusal : (fits : Bool) (n : ℕ) (f : Fault) → pick fits (Done n) (OutShort n) ≡ Refused f → ⊥
+no-refusal true n f e = let z : _≡_ {A = ℕ} 0 1 = cc in omega arith
+no-refusal false n f e = let z : _≡_ {A = ℕ} 0 1 = cc in omega arith
+
+-- the writer's refusal is the record's own fault, exactly where there is one
+pub sheet-written-refused : (s : Site) (out : List ℕ) (f : Fault) → sheetWritten s out ≡ Refused f ↔ ((f ≡ faultOf s) × (isFine f ≡ false))
+unfolding sheetWritten written
+sheet-written-refused s out =
+    passed-on Refused (λ f g e. cc) (faultOf s) _ (no-refusal (leb (length (sheetBytes s)) (length out)) (length (sheetBytes s)))

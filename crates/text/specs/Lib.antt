@@ -1,0 +1,2 @@
+-- The definitions of crate `text`, module by module.
+pub mod Decimal
