@@ -66,7 +66,15 @@ dugg_edited NAME(clear_reach)(dugg_site site, uint16_t from, uint16_t to)
     return (dugg_edited){site, f};
 }
 
-/* ---- load test and chain ---- */
+/* ---- load test and chain, about the cells with load above 0 ---- */
+
+static uint32_t loaded_cells(const dugg_site *s)
+{
+    uint32_t cells = 0;
+    for (unsigned i = 0; i < CELLS; i++)
+        cells |= (uint32_t)(s->loads[i] != 0) << i;
+    return cells;
+}
 
 dugg_answer NAME(load_test)(dugg_site site)
 {
@@ -78,6 +86,8 @@ dugg_answer NAME(load_test)(dugg_site site)
     uint32_t room = positions_of(&site);
     for (unsigned i = 0; i < site.cells; i++) {
         uint32_t sum = site.loads[i];
+        if (sum == 0)
+            continue;
         for (uint32_t lower = mask[i] & first_cells(i); lower != 0; lower &= lower - 1)
             sum += site.loads[__builtin_ctz(lower)];
         if (sum > room)
@@ -93,13 +103,15 @@ dugg_answer NAME(chain)(dugg_site site)
         return f;
     uint32_t mask[CELLS];
     clash_masks(&site, mask);
-    for (unsigned a = 0; a < site.cells; a++) {
-        /* The lowest later cell that does not clash with a, and the lowest clashing cell after that. */
-        uint32_t after = ~first_cells(a + 1), gaps = ~mask[a] & after;
+    uint32_t loaded = loaded_cells(&site);
+    for (uint32_t left = loaded; left != 0; left &= left - 1) {
+        /* The lowest later loaded cell that does not clash with a, and the lowest clashing one after that. */
+        unsigned a = __builtin_ctz(left);
+        uint32_t after = loaded & ~first_cells(a + 1), gaps = ~mask[a] & after;
         if (gaps == 0)
             continue;
         unsigned b = __builtin_ctz(gaps);
-        uint32_t beyond = mask[a] & ~first_cells(b + 1);
+        uint32_t beyond = loaded & mask[a] & ~first_cells(b + 1);
         if (beyond != 0)
             return answer(0, a + 1, b + 1, __builtin_ctz(beyond) + 1);
     }

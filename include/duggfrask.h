@@ -67,12 +67,12 @@ dugg_edited dugg_set_reach(dugg_site site, uint16_t from, uint16_t to);
 /* Notes that cell "from" does not reach cell "to". Refusal 3 gives "from". */
 dugg_edited dugg_clear_reach(dugg_site site, uint16_t from, uint16_t to);
 
-/* Does each cell's load, with the loads of its lower-numbered clashing cells, fit into the superframe? Done: 0, 0, 0
- * if so; otherwise the lowest cell that is over, and by how many fragments. */
+/* Does the load of each cell with load above 0, with the loads of its lower-numbered clashing cells, fit into the
+ * superframe? Done: 0, 0, 0 if so; otherwise the lowest such cell that is over, and by how many fragments. */
 dugg_answer dugg_load_test(dugg_site site);
 
-/* Is the site chained: for each clashing pair a < c, does each cell between them clash with a? Done: 0, 0, 0 if so;
- * otherwise the first a, b, c where b, between a and c, does not. */
+/* Is the site chained: for each clashing pair a < c, does each cell between them clash with a? Only cells with load
+ * above 0 are asked, as a, as c and between. Done: 0, 0, 0 if so; otherwise the first a, b, c where b does not. */
 dugg_answer dugg_chain(dugg_site site);
 
 /* Plans the site into the table, one byte per cell and position, cell after cell: 0 idle, 1 reserved, 2 forbidden.

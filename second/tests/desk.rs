@@ -1,4 +1,4 @@
-//! The desk examples P1 to P12 of docs/RULES.md, each with the verdicts and the plan or check given there.
+//! The desk examples of docs/RULES.md, each with the verdicts and the plan or check given there.
 
 use second::answer::{refuse, Outcome};
 use second::checker::check;
@@ -55,6 +55,32 @@ fn p1_is_planned() {
     assert_eq!(check(&site, &table("111110 222221 111102")), Ok(()));
     assert_eq!(load_test(&site), Ok(None));
     assert_eq!(chain(&site), Ok(None));
+}
+
+#[test]
+fn p1_with_a_spare_cell_is_as_p1() {
+    let site = site(3, 2, &[5, 1, 4, 0], &[(2, 1), (2, 3), (1, 4)]);
+    assert_eq!(planned(&site), Ok(table("111110 222221 111102 222220")));
+    assert_eq!(load_test(&site), Ok(None));
+    assert_eq!(chain(&site), Ok(None));
+}
+
+#[test]
+fn a_spare_cell_is_never_over() {
+    let site = site(2, 1, &[2, 1, 0], &[(1, 3), (2, 3)]);
+    assert_eq!(planned(&site), Ok(table("11 10 22")));
+    assert_eq!(load_test(&site), Ok(None));
+    assert_eq!(chain(&site), Ok(None));
+}
+
+#[test]
+fn a_spare_cell_is_no_part_of_a_triple() {
+    let clashes = [(1, 3), (2, 3)];
+    assert_eq!(chain(&site(2, 1, &[1, 1, 1], &clashes)), Ok(Some((1, 2, 3))));
+    for loads in [[0, 1, 1], [1, 0, 1], [1, 1, 0], [0, 0, 0]] {
+        assert_eq!(chain(&site(2, 1, &loads, &clashes)), Ok(None));
+    }
+    assert_eq!(chain(&p6(&[1, 0, 1, 1, 1])), Ok(Some((1, 3, 4))));
 }
 
 #[test]

@@ -145,7 +145,7 @@ fn listings() {
     assert_eq!(listing(&SITE), LISTING);
     assert_eq!(listing(&SITE[..25]), "refused 8 20\n");
     assert_eq!(listing(&sample("p2.site")), "site 3 3 2\nchain yes\nload over 2 1\nplan 5 2 1\n");
-    assert_eq!(listing(&sample("p7.site")), "site 5 2 1\nchain no 1 2 4\nload over 5 1\nplan 5 5 1\n");
+    assert_eq!(listing(&sample("p7.site")), "site 5 2 1\nchain no 1 3 4\nload over 5 1\nplan 5 5 1\n");
     assert_eq!(listing(&sample("oneway.site")), "site 3 2 1\nchain no 1 2 3\nload over 3 1\nplan 5 3 1\n");
     // Cell 1 with load 0 has its number alone.
     assert!(listing(&changed(&[(14, 0)])).contains("\n1\n2 1.1\n"));
@@ -153,6 +153,8 @@ fn listings() {
 
 #[test]
 fn samples_are_what_their_names_say() {
+    let spare = "site 4 3 2\nchain yes\nload holds\nplan done\n1 1.1 1.2 2.1 2.2 3.1\n2 3.2\n3 1.1 1.2 2.1 2.2\n4\n";
+    assert_eq!(listing(&sample("p1spare.site")), spare);
     let p3 = "site 3 2 1\nchain no 1 2 3\nload over 3 1\nplan done\n1 1.1\n2 1.1\n3 2.1\n";
     assert_eq!(listing(&sample("p3.site")), p3);
     assert!(listing(&sample("p4.site")).ends_with("\nplan 5 4 1\n"));

@@ -25,6 +25,7 @@ use Rattle.site.specs.Record.{faultOf}
 use Rattle.site.specs.Reach.{clashOf, netOf}
 use Rattle.site.specs.declared.Site.{Site}
 use Rattle.site.specs.declared.Fault.the-variants.{Fine}
+use Rattle.site.proofs.Faults.{fine-sized}
 use Rattle.site.proofs.Reach.{clash-sym}
 use Rattle.judges.specs.Judges.{counted, loadAnswer, chainAnswer}
 use Rattle.judges.specs.Words.{demandIn, overIn, chainIn}
@@ -47,18 +48,18 @@ demand-is s rows relation i =
     (λ j _. ap (λ t. pick t (getD (s .loads) j 0) 0) (ap (λ (r : ℕ → ℕ → Bool). r i j) relation ∙ clash-sym (s .reach) i j)))
 
 -- below I the word says who counts
-counts-is : (s : Site) (who : ℕ) → who ≡ wordOf (counted s) (s .cells) → (i : ℕ) → i < s .cells → bitAt who i ≡ counted s i
-counts-is s who word i h = ap (λ (w : ℕ). bitAt w i) word ∙ word-bit (counted s) (s .cells) i h
+counts-is : (s : Site) → faultOf s ≡ Fine → (who : ℕ) → who ≡ wordOf (counted s) 32 → (i : ℕ) → i < s .cells → bitAt who i ≡ counted s i
+counts-is s fine who word i h = ap (λ (w : ℕ). bitAt w i) word ∙ word-bit (counted s) 32 i (omega (arith, fine-sized s fine .cells-most))
 
 -- what the call answers for a record with no fault, from the cell that the search over the rows names; r is the room
-module _ (s : Site) (fine : faultOf s ≡ Fine) (rows : List ℕ) (relation : bitIn rows ≡ clashOf s) (who : ℕ) (word : who ≡ wordOf (counted s) (s .cells))
+module _ (s : Site) (fine : faultOf s ≡ Fine) (rows : List ℕ) (relation : bitIn rows ≡ clashOf s) (who : ℕ) (word : who ≡ wordOf (counted s) 32)
     (r : ℕ) (all : r ≡ room (netOf s)) (i : ℕ) (e : i ≡ first (λ k. overIn (s .loads) (getD rows k 0) who r k) 0 (s .cells)) where
   lowest-is : i ≡ lowestOver (netOf s) (counted s)
   unfolding lowestOver overloaded
   lowest-is =
       e
       ∙ first-same (λ k. overIn (s .loads) (getD rows k 0) who r k) (overloaded (netOf s) (counted s)) 0 (s .cells) zero-le
-      (λ k _ h. ap₂ _&&_ (counts-is s who word k h) (ap₂ ltb all (demand-is s rows relation k)))
+      (λ k _ h. ap₂ _&&_ (counts-is s fine who word k h) (ap₂ ltb all (demand-is s rows relation k)))
 
   pub load-over : i < s .cells → (r ≤ demand (netOf s) i) × (loadAnswer s ≡ load.Over (i + 1) (demand (netOf s) i - r))
   unfolding loadAnswer loadVerdict
@@ -165,21 +166,21 @@ module _ (s : Net) (p q : ℕ → Bool) (same : (i : ℕ) → i < s .cells → p
       (λ a _ h. ap (λ (n : ℕ). ltb n (s .cells)) (break-same a h))
 
 -- what the call answers for a record with no fault, from the cells that the searches over the rows name
-module _ (s : Site) (fine : faultOf s ≡ Fine) (rows : List ℕ) (relation : bitIn rows ≡ clashOf s) (who : ℕ) (word : who ≡ wordOf (counted s) (s .cells))
+module _ (s : Site) (fine : faultOf s ≡ Fine) (rows : List ℕ) (relation : bitIn rows ≡ clashOf s) (who : ℕ) (word : who ≡ wordOf (counted s) 32)
     (a : ℕ) (e : a ≡ firstBreak (chainIn (s .cells) (bitIn rows)) (bitAt who)) where
   first-is-named : a ≡ firstBreak (netOf s) (counted s)
   unfolding firstBreak breakOf breaks gap
   first-is-named =
       e
       ∙ ap (λ (r : ℕ → ℕ → Bool). firstBreak (chainIn (s .cells) r) (bitAt who)) relation
-      ∙ first-break-same (netOf s) (bitAt who) (counted s) (counts-is s who word)
+      ∙ first-break-same (netOf s) (bitAt who) (counted s) (counts-is s fine who word)
 
   pub chain-broken : (c b : ℕ) → a < s .cells
       → c ≡ breakOf (chainIn (s .cells) (λ _. bitIn rows a)) (bitAt who) a → b ≡ gap (chainIn c (λ _. bitIn rows a)) (bitAt who) a c
       → chainAnswer s ≡ chain.Broken (a + 1) (b + 1) (c + 1)
   unfolding chainAnswer chainVerdict breakOf breaks gap
   chain-broken c b h p q =
-      let agree = counts-is s who word in
+      let agree = counts-is s fine who word in
       let p′ : c ≡ breakOf (netOf s) (counted s) a =
       p ∙ ap (λ (r : ℕ → ℕ → Bool). breakOf (chainIn (s .cells) (λ _. r a)) (bitAt who) a) relation ∙ break-same (netOf s) (bitAt who) (counted s) agree a h in
       let low = break-least (netOf s) (counted s) a in

@@ -1,18 +1,19 @@
 -- What the two calls say: Holds and Chained exactly where a record without fault has the property; where a cell or a triple is named, it is the first, by the theory's laws.
 -- Assumes nothing.
-use Prim.Native.Nat.{ℕ, _+_}
+use Prim.Native.Nat.{ℕ, _+_, _<_}
 use mathlib.Core.Logic.{_↔_}
 use mathlib.Core.Path.{_≡_, refl, sym, ap, _∙_}
 use native.Mathlib.Omega.{arith}
-use mathlib.Core.Bool.{false}
+use mathlib.Core.Bool.{true, false}
+use borrow.Author.Tests.{ltb-true, lt-ltb}
 use Rattle.laws.proofs.Choice.{went-first}
 use Rattle.theory.specs.Net.{Covers, LoadTest, Chained}
-use Rattle.theory.proofs.Exact.{covers-everyone}
+use Rattle.theory.proofs.Exact.{covers-loaded}
 use Rattle.theory.specs.Verdict.{LoadVerdict, holds, over, loadVerdict, ChainVerdict, chained, broken, chainVerdict}
 use Rattle.theory.specs.Named.{FirstOver, FirstBreaks}
 use Rattle.theory.proofs.LoadLaws.{load-holds, load-names}
 use Rattle.theory.proofs.ChainLaws.{chain-holds, chain-names}
-use Rattle.site.specs.Record.{isFine, faultOf}
+use Rattle.site.specs.Record.{loadAt, isFine, faultOf}
 use Rattle.site.specs.Reach.{netOf}
 use Rattle.site.specs.declared.Site.{Site}
 use Rattle.site.specs.declared.Fault.{Fault}
@@ -25,9 +26,13 @@ use Rattle.judges.specs.declared.LoadAnswer.the-variants as load
 use Rattle.judges.specs.declared.ChainAnswer.{ChainAnswer}
 use Rattle.judges.specs.declared.ChainAnswer.the-variants as chain
 
+-- "cells with load above 0 only": who counts, said of the load itself
+pub counted-means : (s : Site) (i : ℕ) → counted s i ≡ true ↔ 0 < loadAt s i
+counted-means s i = (ltb-true 0 (loadAt s i), lt-ltb 0 (loadAt s i))
+
 -- no loaded cell is left out of the rules, so that what they say of a site is said of its plans
 pub covers-counted : (s : Site) → Covers (netOf s) (counted s)
-covers-counted s = covers-everyone (netOf s)
+covers-counted s = covers-loaded (netOf s)
 
 -- the answer that a verdict was made into
 load-is-holds : (v : LoadVerdict) → loadOf v ≡ load.Holds → v ≡ holds
@@ -88,7 +93,8 @@ pub chain-refused : (s : Site) (f : Fault) → chainAnswer s ≡ chain.Refused f
 unfolding chainAnswer
 chain-refused s = passed-on chain.Refused (λ f g e. cc) (faultOf s) _ (chain-no-refusal (chainVerdict (netOf s) (counted s)))
 
--- "The load test holds when, for each cell, its load plus the loads of its lower-numbered clashing cells is at most N"
+-- "The load test holds when, for each cell, its load plus the loads of its lower-numbered clashing cells is at most N".
+-- W2: "the load test skips cells with load 0".
 pub holds-means : (s : Site) → loadAnswer s ≡ load.Holds ↔ ((faultOf s ≡ Fine) × LoadTest (netOf s) (counted s))
 holds-means s = (
   λ e.
@@ -106,6 +112,7 @@ over-means s cell m e =
     (f, (v .0, v .1, load-names (netOf s) (counted s) (v .0) m (v .2)))
 
 -- "A site is chained when, for every clashing pair a < c, each b strictly between clashes with a, the EARLIER cell."
+-- W2: "about cells with load above 0 only, as a, b and c".
 pub chained-means : (s : Site) → chainAnswer s ≡ chain.Chained ↔ ((faultOf s ≡ Fine) × Chained (netOf s) (counted s))
 chained-means s = (
   λ e.

@@ -3,8 +3,9 @@
 use Prim.Native.Nat.{ℕ, _+_}
 use mathlib.Core.Bool.{Bool}
 use mathlib.Core.List.{List}
+use lib.Dec.{ltb}
+use lib.ListN.{getD}
 use Rattle.laws.specs.Choice.{pick}
-use Rattle.theory.specs.Net.{everyone}
 use Rattle.theory.specs.Verdict.{LoadVerdict, holds, over, loadVerdict, ChainVerdict, chained, broken, chainVerdict}
 use Rattle.site.specs.Record.{isFine, faultOf}
 use Rattle.site.specs.Reach.{netOf}
@@ -14,14 +15,16 @@ use Rattle.judges.specs.declared.LoadAnswer.the-variants as load
 use Rattle.judges.specs.declared.ChainAnswer.{ChainAnswer}
 use Rattle.judges.specs.declared.ChainAnswer.the-variants as chain
 
--- the cells that the two rules are about, by the loads: "for each cell", "for every clashing pair"
+-- The cells that the two rules are about, by the loads. W2: "From now on the chain rule is about cells with load above 0 only, as a, b and c, and the load test skips cells
+-- with load 0. This mends document 01".
 abbrev pub countedIn : List ℕ → ℕ → Bool
-countedIn loads = everyone
+countedIn loads i = ltb 0 (getD loads i 0)
 
+-- of a site: the loaded cells of the problem that it states (the theory's `loaded`)
 abbrev pub counted : Site → ℕ → Bool
 counted s = countedIn (s .loads)
 
--- "If not, it names the lowest cell that is over and by how much."
+-- "If not, it names the lowest cell that is over and by how much." W2: a cell with load above 0.
 abbrev pub loadOf : LoadVerdict → LoadAnswer
 loadOf holds = load.Holds
 loadOf (over i m) = load.Over (i + 1) m
@@ -29,7 +32,7 @@ loadOf (over i m) = load.Over (i + 1) m
 unfoldable pub loadAnswer : Site → LoadAnswer
 loadAnswer s = pick (isFine (faultOf s)) (loadOf (loadVerdict (netOf s) (counted s))) (load.Refused (faultOf s))
 
--- "If not chained, the judge names the first triple a, b, c in rising order of a, then c, then b."
+-- "If not chained, the judge names the first triple a, b, c in rising order of a, then c, then b." W2: of cells with load above 0.
 abbrev pub chainOf : ChainVerdict → ChainAnswer
 chainOf chained = chain.Chained
 chainOf (broken a b c) = chain.Broken (a + 1) (b + 1) (c + 1)

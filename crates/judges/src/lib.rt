@@ -1,7 +1,8 @@
-// The verdicts on a site: the load test, and the judge of the chain. Both ask the clash rows and the word of the cells that count, and go from one cell of a word to the
-// next without a look at those between.
+// The verdicts on a site: the load test, and the judge of the chain. Both ask the clash rows and the word of the cells that count, those with load above 0, and go from one
+// cell of a word to the next without a look at those between.
 ghost use mathlib.Core.Path.{_≡_};
 ghost use Prim.Native.Nat.{_≤_, _<_};
+ghost use lib.Dec.{ltb};
 ghost use lib.ListN.{getD};
 ghost use Rattle.laws.specs.Bits.{bitAt, bitIn, wordOf};
 ghost use Rattle.laws.specs.Choice.{pick};
@@ -33,12 +34,25 @@ fn wide(x: u16) -> u32
     x as u32
 }
 
-// The word of the cells, of so many, that the two rules are about.
-fn counted(loads: &[u16; 32], cells: usize) -> u32
-    requires { ⌜ cells ≤ 32 ⌝ }
-    ensures { λ r. ⌜ r ≡ wordOf (countedIn (now (loads .entry))) cells ⌝ }
+// The bit of a cell where its load is above 0, else 0.
+fn weight(load: u16, bit: u32) -> u32
+    ensures { λ r. ⌜ r ≡ pick (ltb 0 load) bit 0 ⌝ }
 {
-    ((1u64 << cells) - 1) as u32
+    if 0 < load {
+        return bit;
+    }
+    0
+}
+
+// The word of the cells that the two rules are about: those with load above 0. One pass without a branch.
+fn counted(loads: &[u16; 32]) -> u32
+    ensures { λ r. ⌜ r ≡ wordOf (countedIn (now (loads .entry))) 32 ⌝ }
+{
+    let mut word: u32 = 0;
+    for i in 0..32 {
+        word = word | weight(loads[i], 1 << i);
+    }
+    word
 }
 
 // Whether a word has cell i.
@@ -129,7 +143,7 @@ fn first_over(loads: &[u16; 32], clash: &[u32; 32], who: u32, cells: usize, room
     i
 }
 
-// The load test: the lowest cell that is over, and by how much.
+// The load test: the lowest cell with load above 0 that is over, and by how much.
 pub fn load_test(site: Site) -> LoadAnswer
     ensures { λ r. ⌜ r ≡ loadAnswer site ⌝ }
 {
@@ -141,7 +155,7 @@ pub fn load_test(site: Site) -> LoadAnswer
     let room = site.slots as u32 * site.channels as u32;
     let loads = site.loads;
     let clash = site.clash_rows();
-    let who = counted(&loads, cells);
+    let who = counted(&loads);
     let i = first_over(&loads, &clash, who, cells, room);
     if i < cells {
         let d = demand(&loads, clash[i], i);
@@ -185,7 +199,7 @@ fn first_break(clash: &[u32; 32], who: u32, cells: usize) -> usize
     a
 }
 
-// The chain judge: the first triple that breaks the chain.
+// The chain judge: the first triple of cells with load above 0 that breaks the chain.
 pub fn chain(site: Site) -> ChainAnswer
     ensures { λ r. ⌜ r ≡ chainAnswer site ⌝ }
 {
@@ -196,7 +210,7 @@ pub fn chain(site: Site) -> ChainAnswer
     let cells = site.cells as usize;
     let loads = site.loads;
     let clash = site.clash_rows();
-    let who = counted(&loads, cells);
+    let who = counted(&loads);
     let a = first_break(&clash, who, cells);
     if a < cells {
         let c = break_of(clash[a], who, a, cells);

@@ -70,7 +70,7 @@ pub load-above-refused : (s : Site) (i : ℕ) → i < s .cells → positions s <
 load-above-refused s i l above t e =
     omega (arith, done-valid s t (plan-number s t .0 e) .exact i l, count-most (reserved (positions s) (planTable s t) i) (positions s))
 
--- "The load test is the paper's."
+-- "The load test is the paper's." W2: it "skips cells with load 0".
 pub load-is-C1 : (s : Site) → loadGiven (loadAnswer s) ≡ done ↔ ((Accepted s) × (LoadTest (netOf s) (counted s)))
 load-is-C1 s = (
   λ e.
@@ -79,7 +79,7 @@ load-is-C1 s = (
   λ h. load-number s .1 (holds-means s .1 (accepted-number s .0 (h .0), h .1)),
 )
 
--- The chain judge says yes exactly to chained sites.
+-- The chain judge says yes exactly to chained sites. W2: chained by their cells "with load above 0 only, as a, b and c".
 pub judge-is-chained : (s : Site) → chainGiven (chainAnswer s) ≡ done ↔ ((Accepted s) × (Chained (netOf s) (counted s)))
 judge-is-chained s = (
   λ e.

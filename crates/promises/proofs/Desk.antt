@@ -1,4 +1,4 @@
--- P1 to P12 in one theorem: both sides are computed. Assumes nothing.
+-- P1 to P12, and two sites with spare cells, in one theorem: both sides are computed. Assumes nothing.
 use mathlib.Core.Path.{_≡_, refl}
 use mathlib.Core.List.{map}
 use Rattle.laws.specs.Search.{firstOf}

@@ -1,5 +1,5 @@
--- The desk examples P1 to P12 of document 01, as site records, and what each is said to come to, in numbers. "Loads are listed by cell. .. where no file gives the reach, the
--- lower cell reaches the higher. Where only N is given, T=N and F=1." Proved in proofs/Desk.antt, in one theorem.
+-- The desk examples P1 to P12 of document 01, and two sites with a spare cell for W2, as site records, and what each is said to come to, in numbers. "Loads are listed by cell.
+-- .. where no file gives the reach, the lower cell reaches the higher. Where only N is given, T=N and F=1." Proved in proofs/Desk.antt, in one theorem.
 use mathlib.Core.List.{List, [], _∷_, _++_}
 use Prim.Native.Nat.{ℕ, zero, suc, _+_}
 use lib.ListN.{length, replicate}
@@ -27,11 +27,19 @@ siteWith slots channels loads reach = siteOf (length loads) slots channels (with
 abbrev pub P1 : Site
 P1 = siteWith 3 2 (5 ∷ 1 ∷ 4 ∷ []) (0 ∷ 5 ∷ [])
 
+-- W2: "Add P1 with a fourth cell, load 0, clashing with cell 1 alone: chained, as P1 is."
+abbrev pub P1spare : Site
+P1spare = siteWith 3 2 (5 ∷ 1 ∷ 4 ∷ 0 ∷ []) (8 ∷ 5 ∷ [])
+
 abbrev pub P2 : Site
 P2 = siteWith 3 2 (5 ∷ 2 ∷ 4 ∷ []) (0 ∷ 5 ∷ [])
 
 abbrev pub P3 : Site
 P3 = siteWith 2 1 (1 ∷ 1 ∷ 1 ∷ []) (4 ∷ 4 ∷ [])
+
+-- P3 with other loads: cells 1 and 2 do not clash with each other, and the spare cell 3 clashes with both
+abbrev pub P3spare : Site
+P3spare = siteWith 2 1 (2 ∷ 1 ∷ 0 ∷ []) (4 ∷ 4 ∷ [])
 
 abbrev pub P4 : Site
 P4 = siteWith 2 1 (1 ∷ 1 ∷ 1 ∷ 1 ∷ []) (4 ∷ 8 ∷ 8 ∷ [])
@@ -85,6 +93,10 @@ deskTable =
     planCall P1 ⇒ leaves done (1 ∷ 1 ∷ 1 ∷ 1 ∷ 1 ∷ 0 ∷ 2 ∷ 2 ∷ 2 ∷ 2 ∷ 2 ∷ 1 ∷ 1 ∷ 1 ∷ 1 ∷ 1 ∷ 0 ∷ 2 ∷ 9 ∷ [])
     ∷ chainCall P1 ⇒ gives done
     ∷ loadCall P1 ⇒ gives done
+    -- W2, P1 with a fourth cell, load 0, clashing with cell 1 alone: chained, as P1 is; the spare cell's row is marked all the same. Before W2: not chained 1 3 4
+    ∷ planCall P1spare ⇒ leaves done (1 ∷ 1 ∷ 1 ∷ 1 ∷ 1 ∷ 0 ∷ 2 ∷ 2 ∷ 2 ∷ 2 ∷ 2 ∷ 1 ∷ 1 ∷ 1 ∷ 1 ∷ 1 ∷ 0 ∷ 2 ∷ 2 ∷ 2 ∷ 2 ∷ 2 ∷ 2 ∷ 0 ∷ 9 ∷ [])
+    ∷ chainCall P1spare ⇒ gives done
+    ∷ loadCall P1spare ⇒ gives done
     -- P2: load over 2 by 1; refusal 5, cell 2, short 1
     ∷ loadCall P2 ⇒ gives (doneWith (2 ∷ 1 ∷ []))
     ∷ planCall P2 ⇒ leaves (refused 5 (2 ∷ 1 ∷ [])) (allIdle P2)
@@ -92,6 +104,10 @@ deskTable =
     ∷ planCall P3 ⇒ leaves done (1 ∷ 0 ∷ 1 ∷ 0 ∷ 2 ∷ 1 ∷ 9 ∷ [])
     ∷ loadCall P3 ⇒ gives (doneWith (3 ∷ 1 ∷ []))
     ∷ chainCall P3 ⇒ gives (doneWith (1 ∷ 2 ∷ 3 ∷ []))
+    -- P3 with loads 2, 1, 0: planned 11, 10, 22; chained, and the load test holds. Before W2: not chained 1 2 3, and the spare cell 3 was over by 1
+    ∷ planCall P3spare ⇒ leaves done (1 ∷ 1 ∷ 1 ∷ 0 ∷ 2 ∷ 2 ∷ 9 ∷ [])
+    ∷ chainCall P3spare ⇒ gives done
+    ∷ loadCall P3spare ⇒ gives done
     -- P4: refusal 5, cell 4, short 1; and off the chain: load over 4 by 1, not chained 1 2 3
     ∷ planCall P4 ⇒ leaves (refused 5 (4 ∷ 1 ∷ [])) (allIdle P4)
     ∷ loadCall P4 ⇒ gives (doneWith (4 ∷ 1 ∷ []))
@@ -104,6 +120,9 @@ deskTable =
     ∷ chainCall P6 ⇒ gives (doneWith (1 ∷ 2 ∷ 4 ∷ []))
     -- P7: P6 with load 0 in cell 2: refusal 5, cell 5, short 1
     ∷ planCall P7 ⇒ leaves (refused 5 (5 ∷ 1 ∷ [])) (allIdle P7)
+    -- and off the chain: load over 5 by 1; not chained 1 3 4, since cell 2 is spare. Before W2: 1 2 4
+    ∷ loadCall P7 ⇒ gives (doneWith (5 ∷ 1 ∷ []))
+    ∷ chainCall P7 ⇒ gives (doneWith (1 ∷ 3 ∷ 4 ∷ []))
     -- P8: P1, rows 111110, 000001, 111110: refusal 7, cell 3, count 5
     ∷ checkCall P1 (1 ∷ 1 ∷ 1 ∷ 1 ∷ 1 ∷ 0 ∷ 0 ∷ 0 ∷ 0 ∷ 0 ∷ 0 ∷ 1 ∷ 1 ∷ 1 ∷ 1 ∷ 1 ∷ 1 ∷ 0 ∷ []) ⇒ gives (refused 7 (3 ∷ 5 ∷ []))
     -- P9: P1, rows 111110, 000001, 001111: refusal 6, position 5, cells 2 and 3

@@ -35,7 +35,7 @@ clash-rows-requires : tie.Need-clash-rows-requires
 clash-rows-requires c κs = search needs
 
 counted-requires : tie.Need-counted-requires
-counted-requires c κs = fine-sized _ (fine (c .before .before .before .before)) .cells-most
+counted-requires c κs = search needs
 
 first-break-requires : tie.Need-first-break-requires
 first-break-requires c κs = fine-sized _ (fine (c .before .before .before .before .before .before)) .cells-most

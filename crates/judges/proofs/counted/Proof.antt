@@ -1,30 +1,74 @@
--- `judges::counted` meets its contract: today all cells count, and their word is full. Assumes nothing.
-use mathlib.Core.Path.{_≡_, sym, ap, _∙_}
-use Prim.Native.Nat.{ℕ, _-_, _*_, _%_, _^_}
+-- `judges::counted` meets its contract: before cell i, the word of the cells below i that count. Assumes nothing.
+use mathlib.Core.Path.{_≡_, sym, ap, ap₂, _∙_}
+use Prim.Native.Nat.{_-_, _≤_}
 use native.Mathlib.Omega.{arith}
-use native.Mathlib.Nat.{one-mul}
-use lib.Dec.{lit<}
-use lib.Pow.{pow-pos, pow-mono, shl-exact}
-use Rattle.laws.proofs.Lowest.{word-all}
+use lib.Bits.{bitOr}
+use Rattle.laws.specs.Bits.{wordOf}
+use Rattle.laws.specs.Choice.{pick}
+use Rattle.laws.proofs.Bits.{one-shl}
+use Rattle.laws.proofs.Words.{word-zero, word-more}
+use Rattle.judges.specs.Judges.{countedIn}
 use borrow.Author.Needs.{needs}
 use Rattle.judges.proofs.counted.Statement.{statement}
 use Rattle.judges.proofs.counted.Tie as tie
 
--- what the shift gives
-shifted : (c : tie.Start) → 1 * 2 ^ c .args .cells % 2 ^ 64 ≡ 2 ^ c .args .cells
-shifted c = shl-exact 1 (c .args .cells) 64 (lit< tt) (omega arith) ∙ one-mul _
+abbrev Inv-loop : tie.InvT-loop
+Inv-loop loads word₀ i₀ word i = (i ≤ 32) × (word ≡ wordOf (countedIn loads) i)
 
-shl-result : tie.Need-shl-result
-shl-result c = search needs
+abbrev μ-loop : tie.MeasureT-loop
+μ-loop loads word₀ i₀ word i = 32 - i
 
-sub-result : tie.Need-sub-result
-sub-result c = omega (arith, shifted c, pow-pos (c .args .cells))
+loop-holds : tie.Need-loop-holds Inv-loop μ-loop
+loop-holds c = (omega arith, sym (word-zero (countedIn (c .args .loads .now))))
 
-cast-result : tie.Need-cast-result
-cast-result c = omega (arith, shifted c, pow-mono {i = c .args .cells} {j = 32} (c .pre))
+mul-weight : tie.Need-mul-weight Inv-loop μ-loop
+mul-weight c = omega arith
 
-returns : tie.Need-returns
-returns c = ap (λ (n : ℕ). n - 1) (shifted c) ∙ sym (word-all (c .args .cells))
+element-copy-out-weight : tie.Need-element-copy-out-weight Inv-loop μ-loop
+element-copy-out-weight c = omega arith
+
+cast-weight : tie.Need-cast-weight Inv-loop μ-loop
+cast-weight c = search needs
+
+shl-weight : tie.Need-shl-weight Inv-loop μ-loop
+shl-weight c = search needs
+
+weight-requires : tie.Need-weight-requires Inv-loop μ-loop
+weight-requires c κs = search needs
+
+add-i : tie.Need-add-i Inv-loop μ-loop
+add-i c = search needs
+
+loop-less : tie.Need-loop-less Inv-loop μ-loop
+loop-less c = search needs
+
+loop-again : tie.Need-loop-again Inv-loop μ-loop
+loop-again c =
+    let l = c .before .before .before .loop in
+    let loads = c .before .before .before .before .args .loads .now in (
+      omega arith,
+      ap₂ bitOr (l .inv .1) (c .weight .ensures ∙ ap (λ x. pick (countedIn loads (l .i)) x 0) (one-shl (l .i) (omega arith))) ∙ word-more (countedIn loads) (l .i),
+    )
+
+returns : tie.Need-returns Inv-loop μ-loop
+returns c =
+    let l = c .before .loop in
+    let e : l .i ≡ 32 = omega arith in
+    rw e at (l .inv .1)
 
 pub counted-spec : {M : Type 1} → statement M
-counted-spec = tie.close (tie.spec shl-result sub-result cast-result returns)
+counted-spec =
+    tie.close
+    (tie.spec
+    Inv-loop
+    μ-loop
+    loop-holds
+    mul-weight
+    element-copy-out-weight
+    cast-weight
+    shl-weight
+    weight-requires
+    add-i
+    loop-less
+    loop-again
+    returns)

@@ -31,7 +31,7 @@ pub fn compare(run: &mut Run) {
 }
 
 /// A tunnel in which each cell reaches the next, one way, and all the load that has room.
-fn tunnel(cells: u16, slots: u16, channels: u16) -> Site {
+pub fn tunnel(cells: u16, slots: u16, channels: u16) -> Site {
     let mut site = Site { cells, slots, channels, ..Site::default() };
     let room = slots as usize * channels as usize;
     for i in 0..32.min(cells as usize) {

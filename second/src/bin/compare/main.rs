@@ -1,7 +1,7 @@
 //! Compares the proved library with the second program, call by call: answer, values, records given back and every byte
 //! of lent memory, guards included.
 //!
-//!     compare SAMPLES                   the limits of a site, the sample files, and random cases from a fixed seed
+//!     compare SAMPLES                   the limits of a site, spare cells, the sample files, random cases from a fixed seed
 //!     compare --seconds N --seed S      random cases only, from fresh seeds, for N seconds
 
 mod boundary;
@@ -15,6 +15,7 @@ mod samples;
 mod sheet_limits;
 mod sheets;
 mod sites;
+mod spares;
 
 use random::Random;
 use run::Run;
@@ -49,6 +50,9 @@ fn fixed(dir: &Path) -> ExitCode {
     boundary::compare(&mut run);
     sheet_limits::compare(&mut run);
     println!("boundaries: {} cases", run.cases);
+    let before = run.cases;
+    spares::compare(&mut run);
+    println!("spare cells: {} cases", run.cases - before);
     let before = run.cases;
     match samples::compare(&mut run, dir) {
         Ok(files) if files > 0 => println!("{files} sample files, cut and changed: {} cases", run.cases - before),

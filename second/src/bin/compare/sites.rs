@@ -38,13 +38,16 @@ fn set_reach(random: &mut Random, site: &mut Site) {
     }
 }
 
-/// Loads that just fit, cell by cell, or are small, or are any; now and then one is far too large.
+/// Loads that just fit, cell by cell, or are small, or are any; on some sites few cells, many or all are spare; now and
+/// then one load is far too large.
 fn set_loads(random: &mut Random, site: &mut Site) {
     let (style, most) = (random.below(4), site.positions());
+    let spare_one_in = if random.once_in(3) { random.pick(&[1, 2, 2, 3, 8]) } else { 0 };
     for cell in 1..=site.count() {
         let lower: u64 = (1..cell).filter(|&b| site.clash(b, cell)).map(|b| site.load(b)).sum();
         let room = most.saturating_sub(lower as usize);
         let load = match style {
+            _ if spare_one_in > 0 && random.once_in(spare_one_in) => 0,
             0 => room.min(random.between(0, most)),
             1 => random.below(most / 3 + 2),
             2 => random.pick(&[0, 1, room, room / 2, room + 1]),

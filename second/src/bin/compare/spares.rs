@@ -1,0 +1,55 @@
+//! Spare cells, those with load 0, before the two verdicts: every site of four cells and two positions with loads 0 to 2,
+//! whatever clashes, so that a spare stands as a, as b and as c and all cells are spare too; and tunnels of 32 cells with
+//! few spares and with many.
+
+use crate::boundary::tunnel;
+use crate::case::{Call, Case};
+use crate::run::Run;
+use second::site::Site;
+
+/// The pairs of four cells, lower cell first, both counted from 0.
+const PAIRS: [(usize, usize); 6] = [(0, 1), (0, 2), (0, 3), (1, 2), (1, 3), (2, 3)];
+
+pub fn compare(run: &mut Run) {
+    for clashes in 0..64 {
+        for loads in 0..81 {
+            verdicts(run, four_cells(clashes, loads));
+        }
+    }
+    for apart in 1..=32 {
+        for first in 0..apart {
+            verdicts(run, with_spares(|cell| cell % apart == first));
+            verdicts(run, with_spares(|cell| cell % apart != first));
+        }
+    }
+}
+
+fn verdicts(run: &mut Run, site: Site) {
+    for call in [Call::LoadTest, Call::Chain] {
+        run.compare(&Case::of(call, site));
+    }
+}
+
+/// Bit k of `clashes` is for pair k, and digit i of `loads`, to the base 3, is the load of cell i.
+fn four_cells(clashes: usize, loads: u16) -> Site {
+    let mut site = Site::sized(4, 2, 1);
+    for (k, (a, b)) in PAIRS.into_iter().enumerate() {
+        site.reach[a] |= ((clashes >> k & 1) as u32) << b;
+    }
+    for i in 0..4 {
+        site.loads[i] = loads / 3u16.pow(i as u32) % 3;
+    }
+    site
+}
+
+/// The largest tunnel, each cell reaching the next two, with load 0 in some cells.
+fn with_spares(spare: impl Fn(usize) -> bool) -> Site {
+    let mut site = tunnel(32, 128, 16);
+    for i in 0..30 {
+        site.reach[i] |= 1 << (i + 2);
+    }
+    for i in (0..32).filter(|&i| spare(i)) {
+        site.loads[i] = 0;
+    }
+    site
+}
