@@ -1,31 +1,55 @@
--- What is counted: the copy of a row holds as often as the row does, and where a count is not the load. Assumes nothing.
-use mathlib.Core.Path.{_≡_, ap, _∙_}
+-- What is counted: a row is counted a stretch at a time, cell i's row is a part of the table, and where a count is not the load. Assumes nothing.
+use mathlib.Core.Path.{_≡_, sym, ap, ap₂, _∙_}
 use mathlib.Core.Bool.{true, false, not}
 use mathlib.Core.List.{List}
-use Prim.Native.Nat.{ℕ, _+_, _-_, _*_, _≤_}
-use native.Mathlib.Nat.{sub-zero}
+use Prim.Native.Nat.{ℕ, zero, suc, _+_, _-_, _*_, _≤_}
 use native.Mathlib.Omega.{arith}
-use lib.ListN.{length, getD, take}
-use lib.Seq.{length-take-le, getD-take}
+use lib.ListN.{length, getD, length-take}
+use borrow.Rule.Slice.PartMut.{midOf}
 use borrow.Author.Tests.{eq-eqb, ne-eqb}
-use Rattle.laws.specs.Sum.{bit, count}
-use Rattle.laws.proofs.Sums.{sum-eq}
+use Rattle.laws.specs.Part.{part}
+use Rattle.laws.specs.Sum.{bit, sum, count}
+use Rattle.laws.proofs.Part.{length-part, getD-part}
+use Rattle.laws.proofs.Sums.{sum-eq, count-most}
 use Rattle.theory.specs.Greedy.{sends, reserved, held}
 use Rattle.theory.specs.Verdict.{wrongIn}
-use lib.Seq.{sets}
-use Rattle.laws.specs.Part.{listOf}
-use Rattle.laws.proofs.Stores.{sets-long, sets-at}
 use Rattle.checker.specs.Marks.{loadNet}
 
--- w is a row with cell i's bytes copied to its start
-pub copied : (n i : ℕ) (t row w : List ℕ) → n ≤ length row → w ≡ sets row 0 (listOf (λ k. getD t (i * n + k) 0) n)
-    → held (length (take (n - 0) w)) (take (n - 0) w) ≡ count (reserved n t i) n
-copied n i t row w h e =
-    let long : n ≤ length w = omega (arith, sets-long (λ k. getD t (i * n + k) 0) n row w e) in
-    ap (λ m. held (length (take m w)) (take m w)) (sub-zero n)
-    ∙ ap (λ m. held m (take n w)) (length-take-le n w long)
-    ∙ sum-eq (λ k. bit (sends (getD (take n w) k 0))) (λ k. bit (reserved n t i k)) n (λ k m.
-    ap (λ x. bit (sends x)) (getD-take n w k 0 m ∙ ap (λ x. getD x k 0) e ∙ sets-at (λ k. getD t (i * n + k) 0) n row k m h))
+-- a sum in two parts
+parts : (f : ℕ → ℕ) (a m : ℕ) → sum f (a + m) ≡ sum f a + sum (λ k. f (a + k)) m
+unfolding sum
+parts f a zero = let e : a + 0 ≡ a = omega arith in rw e (omega arith)
+parts f a (suc m) = let e : a + suc m ≡ suc (a + m) = omega arith in rw e (omega (arith, parts f a m))
+
+-- r is the count of a part of t that is lent, of m bytes from a on
+module _ (a m : ℕ) (t : List ℕ) {r : ℕ} (counted : r ≡ held (length (midOf a m t)) (midOf a m t)) where
+  -- it is at most what is lent
+  pub lent-most : r ≤ m
+  lent-most =
+      let short : length (midOf a m t) ≤ m = rw length-take (omega arith) in
+      omega (arith, counted, count-most (λ k. sends (getD (midOf a m t) k 0)) (length (midOf a m t)), short)
+
+  -- and counts those bytes of t
+  lent-count : a + m ≤ length t → r ≡ count (λ k. sends (getD t (a + k) 0)) m
+  unfolding part
+  lent-count h =
+      counted
+      ∙ ap (λ k. held k (midOf a m t)) (length-part a m t h)
+      ∙ sum-eq (λ k. bit (sends (getD (midOf a m t) k 0))) (λ k. bit (sends (getD t (a + k) 0))) m (λ k l. ap (λ x. bit (sends x)) (getD-part a m t k 0 l))
+
+-- a stretch more, up to e
+pub stretch-more : (a e : ℕ) (t : List ℕ) {c r : ℕ} → c ≡ held a t → r ≡ held (length (midOf a (e - a) t)) (midOf a (e - a) t) → a ≤ e → e ≤ length t
+    → c + r ≡ held e t
+stretch-more a e t {c} {r} i d l h =
+    let q : a + (e - a) ≡ e = omega arith in
+    ap₂ _+_ i (lent-count a (e - a) t d (omega arith)) ∙ sym (parts (λ k. bit (sends (getD t k 0))) a (e - a)) ∙ ap (λ k. held k t) q
+
+-- cell i's row is a part of the table
+pub row-counted : (n i : ℕ) (t : List ℕ) {r : ℕ} → i * n + n ≤ length t
+    → r ≡ held (length (midOf (i * n) (i * n + n - i * n) t)) (midOf (i * n) (i * n + n - i * n) t) → r ≡ count (reserved n t i) n
+row-counted n i t h d =
+    let e : i * n + n - i * n ≡ n = omega arith in
+    lent-count (i * n) (i * n + n - i * n) t d (omega arith) ∙ ap (count (reserved n t i)) e
 
 -- a count against a load
 module _ (cells n : ℕ) (loads t : List ℕ) (i : ℕ) {c : ℕ} (counted : c ≡ count (reserved n t i) n) where

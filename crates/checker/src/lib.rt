@@ -1,16 +1,15 @@
 // The checker of finished tables: the first clash, then the first wrong number of reservations.
 //
 // What it costs, for I cells and N positions: each row is read once to join its cell to a word for each position and to try it there against the cells joined
-// before it (I times N steps), and each row is copied and counted (I times N steps each). All of these are passes over neighbouring places without a branch,
-// and the search for a clash ends at the first 64 positions that have one. Pairs of cells are looked at at one position, the one that the answer names.
+// before it (I times N steps), and each row is counted where it stands in the table (I times N steps, sixteen or more bytes at once). Both are passes over
+// neighbouring places without a branch, and the search for a clash ends at the first 64 positions that have one. Pairs of cells are looked at at one position,
+// the one that the answer names. Nothing of the table is copied; the local room is two words for each of 64 positions.
 ghost use mathlib.Core.Path.{_≡_};
 ghost use mathlib.Core.Bool.{not};
 ghost use Prim.Native.Nat.{_+_, _*_, _≤_, _<_};
 ghost use lib.Dec.{eqb};
 ghost use lib.ListN.{length, getD};
-ghost use lib.Seq.{sets};
 ghost use Rattle.laws.specs.Bits.{bitIn};
-ghost use Rattle.laws.specs.Part.{listOf};
 ghost use Rattle.laws.specs.Search.{first};
 ghost use Rattle.laws.specs.Sum.{bit, count};
 ghost use Rattle.theory.specs.Net.{unblocked};
@@ -109,24 +108,23 @@ fn lowest_clash(table: &[u8], n: usize, clash: &[u32; 32], cells: usize) -> usiz
     from
 }
 
-// Copies the n bytes of a table from `from` on to the start of a row.
-fn copy_row(row: &mut [u8], table: &[u8], from: usize, n: usize)
-    requires { ⌜ (n ≤ length (now row)) × (from + n ≤ length (now table)) ⌝ }
-    ensures { λ _. ⌜ now (row .exit) ≡ sets (now (row .entry)) 0 (listOf (λ k. getD (now (table .entry)) (from + k) 0) n) ⌝ }
-{
-    for p in 0..n {
-        row[p] = table[from + p];
-    }
-}
-
 // 1 for a reservation, else 0.
-fn one(byte: u8) -> u16
+fn one(byte: u8) -> u8
     ensures { λ r. ⌜ r ≡ bit (sends byte) ⌝ }
 {
-    if byte == 1 {
-        return 1;
+    (byte == 1) as u8
+}
+
+// How many bytes of a stretch are reservations. The count is as narrow as the bytes, so that many are counted at once.
+fn count_stretch(stretch: &[u8]) -> usize
+    requires { ⌜ length (now stretch) ≤ 128 ⌝ }
+    ensures { λ r. ⌜ r ≡ held (length (now (stretch .entry))) (now (stretch .entry)) ⌝ }
+{
+    let mut count: u8 = 0;
+    for p in 0..stretch.len() {
+        count += one(stretch[p]);
     }
-    0
+    count as usize
 }
 
 // How many bytes of a row are reservations.
@@ -134,33 +132,25 @@ fn count_row(row: &[u8]) -> usize
     requires { ⌜ length (now row) ≤ 2048 ⌝ }
     ensures { λ r. ⌜ r ≡ held (length (now (row .entry))) (now (row .entry)) ⌝ }
 {
-    let mut count: u16 = 0;
-    for p in 0..row.len() {
-        count += one(row[p]);
+    let n = row.len();
+    let mut count: usize = 0;
+    let mut from: usize = 0;
+    while 128 <= n - from {
+        let to = from + 128;
+        count += count_stretch(&row[from..to]);
+        from += 128;
     }
-    count as usize
+    count + count_stretch(&row[from..n])
 }
 
-// How often cell i is reserved. Its row is copied to the row that is lent, and the copy is counted.
-fn count_copy(row: &mut [u8], table: &[u8], n: usize, i: usize) -> usize
-    requires { ⌜ (n ≤ 2048) × (n ≤ length (now row)) × (i * n + n ≤ length (now table)) ⌝ }
-    ensures { λ r. ⌜ r ≡ count (reserved n (now (table .entry)) i) n ⌝ }
-{
-    copy_row(row, table, i * n, n);
-    count_row(&row[0..n])
-}
-
-// How often cell i is reserved. A row of few positions has a small copy.
+// How often cell i is reserved. Its row is counted where it stands, in the table.
 fn row_count(table: &[u8], n: usize, i: usize) -> usize
     requires { ⌜ (n ≤ 2048) × (i * n + n ≤ length (now table)) ⌝ }
     ensures { λ r. ⌜ r ≡ count (reserved n (now (table .entry)) i) n ⌝ }
 {
-    if n <= 128 {
-        let mut row = [0u8; 128];
-        return count_copy(&mut row, table, n, i);
-    }
-    let mut row = [0u8; 2048];
-    count_copy(&mut row, table, n, i)
+    let from = i * n;
+    let to = from + n;
+    count_row(&table[from..to])
 }
 
 // The lowest cell that is not reserved as often as its load says; the number of cells where there is none.

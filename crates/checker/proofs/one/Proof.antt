@@ -1,15 +1,14 @@
--- `checker::one` meets its contract: a case for each way out. Assumes nothing.
-use mathlib.Core.Path.{_≡_}
-use native.Mathlib.Omega.{arith}
-use borrow.Author.Tests.{eq-eqb, ne-eqb}
+-- `checker::one` meets its contract: the test is the definition's. Assumes nothing.
+use mathlib.Core.Path.{refl}
+use borrow.Author.Needs.{needs}
 use Rattle.checker.proofs.one.Statement.{statement}
 use Rattle.checker.proofs.one.Tie as tie
 
-returns : tie.Need-returns
-returns c = let h : c .before .args .byte ≡ 1 = omega (arith, c .if1 .taken) in rw (eq-eqb _ _ h)
+cast-result : tie.Need-cast-result
+cast-result c = search needs
 
-returns-2 : tie.Need-returns-2
-returns-2 c = let h : c .before .args .byte ≡ 1 → ⊥ = λ e. omega (arith, c .if1 .left) in rw (ne-eqb _ _ h)
+returns : tie.Need-returns
+returns c = refl
 
 pub one-spec : {M : Type 1} → statement M
-one-spec = tie.close (tie.spec returns returns-2)
+one-spec = tie.close (tie.spec cast-result returns)
