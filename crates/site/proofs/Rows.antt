@@ -34,13 +34,6 @@ row-rule reach reached cells a column =
     word-eq (λ b. not (eqb b a) && (bitIn reach a b || bitAt reached b)) (clashIn reach a) cells (λ b m.
     ap₂ (λ t u. not t && (bitIn reach a b || u)) (eqb-sym b a) (column b m))
 
--- all 32 rows, 0 past the cells: those of the cells over zeros
-pub rows-all : (row : ℕ → ℕ) (n : ℕ) → n ≤ 32 → sets (replicate 32 0) 0 (listOf (λ a. pick (ltb a n) (row a) 0) 32) ≡ sets (replicate 32 0) 0 (listOf row n)
-rows-all row n h =
-    sets-zeros (λ a. pick (ltb a n) (row a) 0) 32 32 (omega arith) (λ a l m. absurd (omega arith))
-    ∙ sym (sets-zeros (λ a. pick (ltb a n) (row a) 0) n 32 h (λ a l m. ap (λ t. pick t (row a) 0) (le-ltb a n l)))
-    ∙ ap (sets (replicate 32 0) 0) (list-eq (λ a. pick (ltb a n) (row a) 0) row n (λ a l. ap (λ t. pick t (row a) 0) (lt-ltb a n l)))
-
 -- ---- the rows as the code makes them: those of the first n cells, over zeros
 module _ (s : Site) where
   row : ℕ → ℕ

@@ -11,13 +11,10 @@ use Rattle.site.proofs.faults_in.Statement.{statement}
 use Rattle.site.proofs.faults_in.Tie as tie
 
 abbrev Inv-loop : tie.InvT-loop
-Inv-loop reach cells most all₀ k₀ all k = all ≡ 0 → (j : ℕ) → 0 ≤ j → j < k → rowBad cells (getD reach j 0) j ≡ false
+Inv-loop reach cells all₀ k₀ all k = all ≡ 0 → (j : ℕ) → 0 ≤ j → j < k → rowBad cells (getD reach j 0) j ≡ false
 
 abbrev μ-loop : tie.MeasureT-loop
-μ-loop reach cells most all₀ k₀ all k = 32 - k
-
-ones-requires : tie.Need-ones-requires Inv-loop μ-loop
-ones-requires c κs = search needs
+μ-loop reach cells all₀ k₀ all k = 32 - k
 
 loop-holds : tie.Need-loop-holds Inv-loop μ-loop
 loop-holds c e j l m = absurd (omega arith)
@@ -40,7 +37,7 @@ loop-less c = search needs
 loop-again : tie.Need-loop-again Inv-loop μ-loop
 loop-again c =
     let at = c .before .before .before in
-    let a = at .before .before .args in
+    let a = at .before .args in
     one-more (λ j. rowBad (a .cells) (getD (a .reach .now) j 0) j ≡ false) 0 (at .loop .k) (at .loop .all) _ (at .loop .inv) (c .fault-bits .ensures)
 
 returns : tie.Need-returns Inv-loop μ-loop
@@ -52,7 +49,6 @@ faults-in-spec =
     (tie.spec
     Inv-loop
     μ-loop
-    ones-requires
     loop-holds
     mul-fault-bits
     element-copy-out-fault-bits

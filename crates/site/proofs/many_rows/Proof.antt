@@ -1,18 +1,16 @@
--- `site::many_rows` meets its contract: before index a, the rows below a are stored, each by the rule and its turned row, and 0 past the cells. Assumes nothing.
+-- `site::many_rows` meets its contract: before cell a, the rows of the cells below a are stored, each by the rule and its turned row. Assumes nothing.
 use mathlib.Core.Path.{_≡_, refl, ap, _∙_}
 use mathlib.Core.List.{List}
 use Prim.Native.Nat.{ℕ, _-_, _≤_}
 use native.Mathlib.Omega.{arith}
-use lib.Dec.{ltb}
 use lib.ListN.{length, getD, length-set}
 use lib.Seq.{sets}
 use Rattle.laws.specs.Bits.{bitIn, wordOf}
-use Rattle.laws.specs.Choice.{pick}
 use Rattle.laws.specs.Part.{listOf}
 use Rattle.laws.proofs.Stores.{sets-none, sets-more}
 use Rattle.site.specs.Reach.{clashIn}
 use Rattle.square.proofs.Square.{turned-bit}
-use Rattle.site.proofs.Rows.{row-rule, rows-all}
+use Rattle.site.proofs.Rows.{row-rule}
 use borrow.Author.Needs.{needs}
 use Rattle.site.proofs.many_rows.Statement.{statement}
 use Rattle.site.proofs.many_rows.Tie as tie
@@ -20,14 +18,11 @@ use Rattle.site.proofs.many_rows.Tie as tie
 abbrev rowIn : List ℕ → ℕ → ℕ → ℕ
 rowIn reach cells a = wordOf (clashIn reach a) cells
 
-abbrev within : List ℕ → ℕ → ℕ → ℕ
-within reach cells a = pick (ltb a cells) (rowIn reach cells a) 0
-
 abbrev Inv-loop : tie.InvT-loop
-Inv-loop cells reach columns rows₀ a₀ rows a = (a ≤ 32) × (length rows ≡ 32) × (rows ≡ sets rows₀ 0 (listOf (within reach cells) a))
+Inv-loop cells reach columns rows₀ a₀ rows a = (a ≤ cells) × (length rows ≡ 32) × (rows ≡ sets rows₀ 0 (listOf (rowIn reach cells) a))
 
 abbrev μ-loop : tie.MeasureT-loop
-μ-loop cells reach columns rows₀ a₀ rows a = 32 - a
+μ-loop cells reach columns rows₀ a₀ rows a = cells - a
 
 turned-requires : tie.Need-turned-requires Inv-loop μ-loop
 turned-requires c κs = search needs
@@ -35,20 +30,20 @@ turned-requires c κs = search needs
 loop-holds : tie.Need-loop-holds Inv-loop μ-loop
 loop-holds c = (omega arith, refl, sets-none _ _)
 
-mul-row-within : tie.Need-mul-row-within Inv-loop μ-loop
-mul-row-within c = search needs
+mul-clash-row : tie.Need-mul-clash-row Inv-loop μ-loop
+mul-clash-row c = search needs
 
-array-read-row-within : tie.Need-array-read-row-within Inv-loop μ-loop
-array-read-row-within c = search needs
+array-read-clash-row : tie.Need-array-read-clash-row Inv-loop μ-loop
+array-read-clash-row c = search needs
 
-mul-row-within-2 : tie.Need-mul-row-within-2 Inv-loop μ-loop
-mul-row-within-2 c = search needs
+mul-clash-row-2 : tie.Need-mul-clash-row-2 Inv-loop μ-loop
+mul-clash-row-2 c = search needs
 
-array-read-row-within-2 : tie.Need-array-read-row-within-2 Inv-loop μ-loop
-array-read-row-within-2 c = search needs
+array-read-clash-row-2 : tie.Need-array-read-clash-row-2 Inv-loop μ-loop
+array-read-clash-row-2 c = search needs
 
-row-within-requires : tie.Need-row-within-requires Inv-loop μ-loop
-row-within-requires c κs = search needs
+clash-row-requires : tie.Need-clash-row-requires Inv-loop μ-loop
+clash-row-requires c κs = search needs
 
 mul-rows : tie.Need-mul-rows Inv-loop μ-loop
 mul-rows c = search needs
@@ -70,19 +65,17 @@ loop-again c =
     let columns = at .before .turned in (
       omega arith,
       length-set (at .loop .rows) (at .loop .a) _ ∙ at .loop .inv .1,
-      sets-more (within reach (args .cells)) (at .loop .a) _ (at .loop .rows) _
-          (c .row-within .ensures
-          ∙ ap (λ (x : ℕ). pick (ltb (at .loop .a) (args .cells)) x 0)
-          (row-rule reach (getD (columns .result) (at .loop .a) 0) (args .cells) (at .loop .a) (λ b l.
-          ap (λ (z : List ℕ). bitIn z (at .loop .a) b) (columns .ensures) ∙ turned-bit reach (at .loop .a) b (omega arith) (omega arith))))
+      sets-more (rowIn reach (args .cells)) (at .loop .a) _ (at .loop .rows) _
+          (c .clash-row .ensures
+          ∙ row-rule reach (getD (columns .result) (at .loop .a) 0) (args .cells) (at .loop .a) (λ b l.
+          ap (λ (z : List ℕ). bitIn z (at .loop .a) b) (columns .ensures) ∙ turned-bit reach (at .loop .a) b (omega arith) (omega arith)))
           (at .loop .inv .2),
     )
 
 returns : tie.Need-returns Inv-loop μ-loop
 returns c =
-    let args = c .before .before .before .args in
-    let e : c .before .loop .a ≡ 32 = omega arith in
-    rw e at (c .before .loop .inv .2) ∙ rows-all (rowIn (args .t1) (args .cells)) (args .cells) (omega arith)
+    let e : c .before .loop .a ≡ c .before .before .before .args .cells = omega arith in
+    rw e at (c .before .loop .inv .2)
 
 pub many-rows-spec : {M : Type 1} → statement M
 many-rows-spec =
@@ -92,11 +85,11 @@ many-rows-spec =
     μ-loop
     turned-requires
     loop-holds
-    mul-row-within
-    array-read-row-within
-    mul-row-within-2
-    array-read-row-within-2
-    row-within-requires
+    mul-clash-row
+    array-read-clash-row
+    mul-clash-row-2
+    array-read-clash-row-2
+    clash-row-requires
     mul-rows
     array-write-rows
     add-a
