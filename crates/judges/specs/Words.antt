@@ -1,14 +1,12 @@
 -- What the loops of the two calls ask, of the loads, the clash row of a cell and the word of the cells that count. No answer is defined here.
 use Prim.Native.Nat.{ℕ, _+_}
 use mathlib.Core.Bool.{Bool, _&&_}
-use mathlib.Core.List.{List, []}
+use mathlib.Core.List.{List}
 use lib.Dec.{ltb}
 use lib.ListN.{getD}
 use Rattle.laws.specs.Bits.{bitAt}
 use Rattle.laws.specs.Choice.{pick}
 use Rattle.laws.specs.Sum.{sum}
-use Rattle.theory.specs.Net.{Net, unblocked}
-use Rattle.site.specs.Reach.{netIn}
 
 -- the loads of the cells below n that a word has
 abbrev pub loadsBelow : List ℕ → ℕ → ℕ → ℕ
@@ -24,7 +22,3 @@ demandIn loads row i = getD loads i 0 + loadsBelow loads row i
 -- whether the cell counts, and its demand is above the room
 abbrev pub overIn : List ℕ → ℕ → ℕ → ℕ → ℕ → Bool
 overIn loads row who room i = bitAt who i && ltb room (demandIn loads row i)
-
--- the problem as far as the chain rule asks: how many cells, and who clashes
-abbrev pub chainIn : ℕ → (ℕ → ℕ → Bool) → Net
-chainIn cells clash = netIn cells 0 [] clash unblocked

@@ -4,14 +4,18 @@ ghost use mathlib.Core.Path.{_≡_};
 ghost use Prim.Native.Nat.{_≤_, _<_};
 ghost use lib.Dec.{ltb};
 ghost use lib.ListN.{getD};
-ghost use Rattle.laws.specs.Bits.{bitAt, bitIn, wordOf};
+ghost use Rattle.laws.specs.Bits.{bitAt, wordOf};
 ghost use Rattle.laws.specs.Choice.{pick};
 ghost use Rattle.laws.specs.Search.{first};
-ghost use Rattle.theory.specs.Verdict.{gap, breakOf, firstBreak};
 ghost use Rattle.judges.specs.Judges.{countedIn, loadAnswer, chainAnswer};
-ghost use Rattle.judges.specs.Words.{loadsIn, demandIn, overIn, chainIn};
+ghost use Rattle.judges.specs.Words.{loadsIn, demandIn, overIn};
+use chainwords::break_of;
+use chainwords::first_break;
+use chainwords::gap;
 use site::Fault;
 use site::Site;
+use words::has;
+use words::lowest;
 
 // The load test's verdict: it holds, or the lowest cell that is over, by number, and by how much.
 pub enum LoadAnswer {
@@ -53,23 +57,6 @@ fn counted(loads: &[u16; 32]) -> u32
         word = word | weight(loads[i], 1 << i);
     }
     word
-}
-
-// Whether a word has cell i.
-fn has(word: u32, i: usize) -> bool
-    requires { ⌜ i < 32 ⌝ }
-    ensures { λ r. ⌜ r ≡ bitAt word i ⌝ }
-{
-    (word >> i) % 2 == 1
-}
-
-// The lowest cell that a word has from `from` on and below `end`; `end` where there is none, since the zeros are counted up to a bit that is set there.
-fn lowest(word: u32, from: usize, end: usize) -> usize
-    requires { ⌜ (from ≤ end) × (end ≤ 32) ⌝ }
-    ensures { λ r. ⌜ r ≡ first (bitAt word) from end ⌝ }
-{
-    let left = (word as u64 | (1u64 << end)) >> from;
-    from + u64::trailing_zeros(left) as usize
 }
 
 // The load of cell j where a word has it, else 0.
@@ -162,41 +149,6 @@ pub fn load_test(site: Site) -> LoadAnswer
         return LoadAnswer::Over(i + 1, (d - room) as usize);
     }
     LoadAnswer::Holds
-}
-
-// The first cell between a and c that counts and is not in the clash row of a; c where there is none.
-fn gap(row: u32, who: u32, a: usize, c: usize) -> usize
-    requires { ⌜ (a < c) × (c ≤ 32) ⌝ }
-    ensures { λ r. ⌜ r ≡ gap (chainIn c (λ _. bitAt row)) (bitAt who) a c ⌝ }
-{
-    lowest(who & !row, a + 1, c)
-}
-
-// The first cell above a that breaks the chain with it: the first that clashes with a past the first that does not. The number of cells where there is none.
-fn break_of(row: u32, who: u32, a: usize, cells: usize) -> usize
-    requires { ⌜ (a < cells) × (cells ≤ 32) ⌝ }
-    ensures { λ r. ⌜ r ≡ breakOf (chainIn cells (λ _. bitAt row)) (bitAt who) a ⌝ }
-{
-    if !has(who, a) {
-        return cells;
-    }
-    let b = gap(row, who, a, cells);
-    lowest(who & row, b, cells)
-}
-
-// The first cell that some cell breaks the chain with; the number of cells where there is none.
-fn first_break(clash: &[u32; 32], who: u32, cells: usize) -> usize
-    requires { ⌜ cells ≤ 32 ⌝ }
-    ensures { λ r. ⌜ r ≡ firstBreak (chainIn cells (bitIn (now (clash .entry)))) (bitAt who) ⌝ }
-{
-    let mut a = 0;
-    while a < cells {
-        if break_of(clash[a], who, a, cells) < cells {
-            return a;
-        }
-        a += 1;
-    }
-    a
 }
 
 // The chain judge: the first triple of cells with load above 0 that breaks the chain.

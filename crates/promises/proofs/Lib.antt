@@ -10,10 +10,11 @@ pub mod Sheets
 pub mod InC
 pub mod SquareOne
 pub mod SiteOne
+pub mod WordsOne
+pub mod ChainwordsOne
 pub mod JudgesOne
 pub mod RowsOne
 pub mod PlannerOne
-pub mod WordsOne
 pub mod CheckerOne
 pub mod SharesOne
 pub mod RecordsOne

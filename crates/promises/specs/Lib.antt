@@ -5,10 +5,11 @@ pub mod Demands
 pub mod Desk
 pub mod SquareSays
 pub mod SiteSays
+pub mod WordsSays
+pub mod ChainwordsSays
 pub mod JudgesSays
 pub mod RowsSays
 pub mod PlannerSays
-pub mod WordsSays
 pub mod CheckerSays
 pub mod SharesSays
 pub mod RecordsSays

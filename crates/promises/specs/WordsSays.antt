@@ -1,8 +1,11 @@
 -- The equalities that the contracts of crate `words` state: r is the answer, and x′ what a lent x holds afterwards. Made by tools/surface from the source.
 use mathlib.Core.Path.{_≡_}
+use mathlib.Core.Bool.{Bool}
 use mathlib.Core.List.{List}
 use Prim.Native.Nat.{ℕ}
+use Rattle.laws.specs.Bits.{bitAt}
 use Rattle.laws.specs.Part.{listOf}
+use Rattle.laws.specs.Search.{first}
 use Rattle.theory.specs.Greedy.{reserved}
 use Rattle.words.specs.Clashes.{firstIn, secondIn}
 use Rattle.words.specs.Words.{joinedAt, markedAt, wordAt}
@@ -16,6 +19,14 @@ pub record WordsJoinRow (words : List ℕ) (marks : List ℕ) (table : List ℕ)
 -- words::word_at
 pub record WordsWordAt (table : List ℕ) (n : ℕ) (cells : ℕ) (p : ℕ) (r : ℕ) : Type 0 where
   pub answer : r ≡ wordAt cells (reserved n table) p
+
+-- words::has
+pub record WordsHas (word : ℕ) (i : ℕ) (r : Bool) : Type 0 where
+  pub answer : r ≡ bitAt word i
+
+-- words::lowest
+pub record WordsLowest (word : ℕ) (from : ℕ) (end : ℕ) (r : ℕ) : Type 0 where
+  pub answer : r ≡ first (bitAt word) from end
 
 -- words::second_in
 pub record WordsSecondIn (word : ℕ) (clash : List ℕ) (cells : ℕ) (a : ℕ) (r : ℕ) : Type 0 where

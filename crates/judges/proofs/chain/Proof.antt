@@ -8,8 +8,9 @@ use Rattle.site.specs.Record.{faultOf}
 use Rattle.site.specs.declared.Fault.the-variants.{Fine}
 use Rattle.site.proofs.Faults.{not-fine, fine-sized}
 use Rattle.judges.specs.Judges.{chainAnswer}
-use Rattle.judges.specs.Words.{chainIn}
-use Rattle.judges.proofs.Laws.{gap-most, break-least, break-inside, chain-broken, chain-none}
+use Rattle.chainwords.specs.Chain.{chainIn}
+use Rattle.chainwords.proofs.Laws.{gap-most, break-least, break-inside}
+use Rattle.judges.proofs.Laws.{chain-broken, chain-none}
 use borrow.Author.Needs.{needs}
 use Rattle.judges.proofs.chain.Statement.{statement}
 use Rattle.judges.proofs.chain.Tie as tie

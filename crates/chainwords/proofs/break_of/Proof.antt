@@ -1,4 +1,4 @@
--- `judges::break_of` meets its contract: the two searches in a row find the definition's first break, by `break-short`; a cell that does not count has none. Assumes nothing.
+-- `chainwords::break_of` meets its contract: the two searches in a row find the definition's first break, by `break-short`; a cell that does not count has none. Assumes nothing.
 use mathlib.Core.Bool.{_&&_}
 use mathlib.Core.Path.{sym, ap, _∙_}
 use Prim.Native.Nat.{ℕ}
@@ -9,11 +9,11 @@ use Rattle.laws.specs.Bits.{bitAt}
 use Rattle.laws.specs.Search.{first}
 use Rattle.laws.proofs.Bits.{bit-and}
 use Rattle.laws.proofs.Search.{first-same}
-use Rattle.judges.specs.Words.{chainIn}
-use Rattle.judges.proofs.Laws.{gap-most, break-short, break-none}
+use Rattle.chainwords.specs.Chain.{chainIn}
+use Rattle.chainwords.proofs.Laws.{gap-most, break-short, break-none}
 use borrow.Author.Needs.{needs}
-use Rattle.judges.proofs.break_of.Statement.{statement}
-use Rattle.judges.proofs.break_of.Tie as tie
+use Rattle.chainwords.proofs.break_of.Statement.{statement}
+use Rattle.chainwords.proofs.break_of.Tie as tie
 
 has-requires : tie.Need-has-requires
 has-requires c κs = search needs

@@ -1,4 +1,4 @@
--- `judges::first_break` meets its contract: the invariant says that the search that is left gives the answer. Assumes nothing.
+-- `chainwords::first_break` meets its contract: the invariant says that the search that is left gives the answer. Assumes nothing.
 use Prim.Native.Nat.{ℕ, _-_}
 use mathlib.Core.Bool.{Bool}
 use mathlib.Core.List.{List}
@@ -10,10 +10,10 @@ use Rattle.laws.specs.Bits.{bitAt, bitIn}
 use Rattle.laws.specs.Search.{first}
 use Rattle.laws.proofs.Search.{found, missed, ended}
 use Rattle.theory.specs.Verdict.{gap, breaks, breakOf, firstBreak}
-use Rattle.judges.specs.Words.{chainIn}
+use Rattle.chainwords.specs.Chain.{chainIn}
 use borrow.Author.Needs.{needs}
-use Rattle.judges.proofs.first_break.Statement.{statement}
-use Rattle.judges.proofs.first_break.Tie as tie
+use Rattle.chainwords.proofs.first_break.Statement.{statement}
+use Rattle.chainwords.proofs.first_break.Tie as tie
 
 abbrev test : List ℕ → ℕ → ℕ → ℕ → Bool
 test rows who cells a = ltb (breakOf (chainIn cells (bitIn rows)) (bitAt who) a) cells

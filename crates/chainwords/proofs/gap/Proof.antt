@@ -1,4 +1,4 @@
--- `judges::gap` meets its contract: the word has the cells that count and are not in the row. Assumes nothing.
+-- `chainwords::gap` meets its contract: the word has the cells that count and are not in the row. Assumes nothing.
 use mathlib.Core.Bool.{not, _&&_}
 use mathlib.Core.Path.{ap, _∙_}
 use Prim.Native.Nat.{_+_, _-_, _<_, _^_}
@@ -10,8 +10,8 @@ use Rattle.laws.proofs.Bits.{bit-and}
 use Rattle.laws.proofs.Search.{first-same}
 use Rattle.theory.specs.Verdict.{gap}
 use borrow.Author.Needs.{needs}
-use Rattle.judges.proofs.gap.Statement.{statement}
-use Rattle.judges.proofs.gap.Tie as tie
+use Rattle.chainwords.proofs.gap.Statement.{statement}
+use Rattle.chainwords.proofs.gap.Tie as tie
 
 fits : (c : tie.Start) → c .args .row < 2 ^ 32
 fits c = search needs

@@ -1,4 +1,4 @@
--- `judges::lowest` meets its contract: the bit set at the end stops the count of zeros there, by `lowest-bit`. Assumes nothing.
+-- `words::lowest` meets its contract: the bit set at the end stops the count of zeros there, by `lowest-bit`. Assumes nothing.
 use mathlib.Core.Path.{_≡_, ap, _∙_}
 use Prim.Native.Nat.{ℕ, _+_, _*_, _/_, _%_, _^_}
 use native.Mathlib.Omega.{arith}
@@ -10,8 +10,8 @@ use lib.Pow.{shl-exact}
 use Rattle.laws.specs.Bits.{setBit}
 use Rattle.laws.proofs.Lowest.{lowest-bit}
 use borrow.Author.Needs.{needs}
-use Rattle.judges.proofs.lowest.Statement.{statement}
-use Rattle.judges.proofs.lowest.Tie as tie
+use Rattle.words.proofs.lowest.Statement.{statement}
+use Rattle.words.proofs.lowest.Tie as tie
 
 -- what the shift gives
 shifted : (c : tie.Start) → 1 * 2 ^ c .args .end % 2 ^ 64 ≡ 2 ^ c .args .end

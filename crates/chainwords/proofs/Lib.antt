@@ -1,0 +1,2 @@
+-- The laws of crate `chainwords`.
+pub mod Laws

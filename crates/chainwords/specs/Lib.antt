@@ -1,0 +1,2 @@
+-- The definitions of crate `chainwords`.
+pub mod Chain
