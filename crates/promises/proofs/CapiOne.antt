@@ -3,11 +3,11 @@
 use mathlib.Core.Path.{_≡_, sym, _∙_}
 use mathlib.Core.List.{List}
 use Prim.Native.Nat.{ℕ}
-use Rattle.capi.specs.declared.Answer.{Answer}
-use Rattle.capi.specs.declared.EditedSite.{EditedSite}
-use Rattle.capi.specs.declared.PlanReadC.{PlanReadC}
 use Rattle.promises.specs.CapiSays.{DuggChain, DuggCheck, DuggClash, DuggClearReach, DuggFault, DuggLoadTest, DuggPlan, DuggReadPlan, DuggReadSheet, DuggReadSite, DuggSetLoad, DuggSetReach, DuggShare, DuggWritePlan, DuggWriteSheet, DuggWriteSite}
 use Rattle.site.specs.declared.Site.{Site}
+use Rattle.told.specs.declared.Answer.{Answer}
+use Rattle.told.specs.declared.EditedSite.{EditedSite}
+use Rattle.told.specs.declared.PlanReadC.{PlanReadC}
 
 -- capi::dugg_fault
 pub duggFault-one : (site : Site) (r q : Answer) → DuggFault site r → DuggFault site q → (r ≡ q)

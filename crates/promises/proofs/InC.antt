@@ -14,8 +14,8 @@ use Rattle.judges.specs.declared.LoadAnswer.the-variants as load
 use Rattle.judges.specs.declared.ChainAnswer.{ChainAnswer}
 use Rattle.judges.specs.declared.ChainAnswer.the-variants as chain
 use Rattle.judges.proofs.Meaning.{over-means, broken-means}
-use Rattle.capi.specs.Told.{numbered, told}
-use Rattle.capi.specs.declared.Answer.{Answer}
+use Rattle.told.specs.Told.{numbered, told}
+use Rattle.told.specs.declared.Answer.{Answer}
 use Rattle.promises.specs.Numbers.{done}
 
 numberIn : Answer → ℕ

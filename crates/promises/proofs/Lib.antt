@@ -25,4 +25,5 @@ pub mod ListingOne
 pub mod LinesOne
 pub mod PutlinesOne
 pub mod SheetOne
+pub mod ToldOne
 pub mod CapiOne

@@ -2,10 +2,6 @@
 use mathlib.Core.Path.{_≡_}
 use mathlib.Core.List.{List}
 use Prim.Native.Nat.{ℕ}
-use Rattle.capi.specs.Told.{told, toldEdited, toldPlanRead, toldSheetRead, toldSiteRead}
-use Rattle.capi.specs.declared.Answer.{Answer}
-use Rattle.capi.specs.declared.EditedSite.{EditedSite}
-use Rattle.capi.specs.declared.PlanReadC.{PlanReadC}
 use Rattle.checker.specs.Check.{checkAnswer}
 use Rattle.checker.specs.Given.{checkGiven}
 use Rattle.judges.specs.Given.{chainGiven, loadGiven}
@@ -28,6 +24,10 @@ use Rattle.site.specs.declared.Site.{Site}
 use Rattle.sitefile.specs.Given.{siteWrittenGiven}
 use Rattle.sitefile.specs.Read.{readSite}
 use Rattle.sitefile.specs.Write.{siteOut, siteWritten}
+use Rattle.told.specs.Told.{told, toldEdited, toldPlanRead, toldSheetRead, toldSiteRead}
+use Rattle.told.specs.declared.Answer.{Answer}
+use Rattle.told.specs.declared.EditedSite.{EditedSite}
+use Rattle.told.specs.declared.PlanReadC.{PlanReadC}
 
 -- capi::dugg_fault
 pub record DuggFault (site : Site) (r : Answer) : Type 0 where

@@ -20,4 +20,5 @@ pub mod ListingSays
 pub mod LinesSays
 pub mod PutlinesSays
 pub mod SheetSays
+pub mod ToldSays
 pub mod CapiSays

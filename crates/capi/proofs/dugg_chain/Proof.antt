@@ -10,7 +10,7 @@ chain-answer-requires : tie.Need-chain-answer-requires
 chain-answer-requires c κs = search needs
 
 returns : tie.Need-returns
-returns c = cc
+returns c = rw (c .before .chain .ensures) at (c .chain-answer .ensures)
 
 pub dugg-chain-spec : {M : Type 1} → statement M
 dugg-chain-spec = tie.close (tie.spec chain-requires chain-answer-requires returns)

@@ -10,7 +10,7 @@ check-answer-requires : tie.Need-check-answer-requires
 check-answer-requires c κs = search needs
 
 returns : tie.Need-returns
-returns c = cc
+returns c = rw (c .before .check .ensures) at (c .check-answer .ensures)
 
 pub dugg-check-spec : {M : Type 1} → statement M
 dugg-check-spec = tie.close (tie.spec check-requires check-answer-requires returns)

@@ -10,7 +10,7 @@ clash-answer-requires : tie.Need-clash-answer-requires
 clash-answer-requires c κs = search needs
 
 returns : tie.Need-returns
-returns c = cc
+returns c = rw (c .before .clash .ensures) at (c .clash-answer .ensures)
 
 pub dugg-clash-spec : {M : Type 1} → statement M
 dugg-clash-spec = tie.close (tie.spec clash-requires clash-answer-requires returns)

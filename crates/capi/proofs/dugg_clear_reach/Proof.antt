@@ -10,7 +10,7 @@ edited-answer-requires : tie.Need-edited-answer-requires
 edited-answer-requires c κs = search needs
 
 returns : tie.Need-returns
-returns c = cc
+returns c = rw (c .before .clear-reach .ensures) at (c .edited-answer .ensures)
 
 pub dugg-clear-reach-spec : {M : Type 1} → statement M
 dugg-clear-reach-spec = tie.close (tie.spec clear-reach-requires edited-answer-requires returns)

@@ -10,7 +10,7 @@ fault-answer-requires : tie.Need-fault-answer-requires
 fault-answer-requires c κs = search needs
 
 returns : tie.Need-returns
-returns c = cc
+returns c = rw (c .before .fault-in .ensures) at (c .fault-answer .ensures)
 
 pub dugg-fault-spec : {M : Type 1} → statement M
 dugg-fault-spec = tie.close (tie.spec fault-in-requires fault-answer-requires returns)

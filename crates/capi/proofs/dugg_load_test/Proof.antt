@@ -10,7 +10,7 @@ load-answer-requires : tie.Need-load-answer-requires
 load-answer-requires c κs = search needs
 
 returns : tie.Need-returns
-returns c = cc
+returns c = rw (c .before .load-test .ensures) at (c .load-answer .ensures)
 
 pub dugg-load-test-spec : {M : Type 1} → statement M
 dugg-load-test-spec = tie.close (tie.spec load-test-requires load-answer-requires returns)

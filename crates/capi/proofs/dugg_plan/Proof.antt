@@ -13,7 +13,7 @@ same-length : tie.Need-same-length
 same-length c = search needs
 
 returns : tie.Need-returns
-returns c = (cc, cc)
+returns c = let e = c .before .before .before .plan .ensures in (rw (e .0) at (c .plan-answer .ensures), e .1)
 
 pub dugg-plan-spec : {M : Type 1} → statement M
 dugg-plan-spec = tie.close (tie.spec plan-requires plan-answer-requires same-length returns)

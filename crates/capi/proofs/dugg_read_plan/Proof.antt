@@ -13,7 +13,7 @@ same-length : tie.Need-same-length
 same-length c = search needs
 
 returns : tie.Need-returns
-returns c = (cc, cc)
+returns c = let e = c .before .before .before .read-plan .ensures in (rw (e .0) at (c .plan-read .ensures), e .1)
 
 pub dugg-read-plan-spec : {M : Type 1} → statement M
 dugg-read-plan-spec =

@@ -10,7 +10,7 @@ sheet-read-requires : tie.Need-sheet-read-requires
 sheet-read-requires c κs = search needs
 
 returns : tie.Need-returns
-returns c = cc
+returns c = rw (c .before .read-sheet .ensures) at (c .sheet-read .ensures)
 
 pub dugg-read-sheet-spec : {M : Type 1} → statement M
 dugg-read-sheet-spec = tie.close (tie.spec read-sheet-requires sheet-read-requires returns)

@@ -10,7 +10,7 @@ site-read-requires : tie.Need-site-read-requires
 site-read-requires c κs = search needs
 
 returns : tie.Need-returns
-returns c = cc
+returns c = rw (c .before .read-site .ensures) at (c .site-read .ensures)
 
 pub dugg-read-site-spec : {M : Type 1} → statement M
 dugg-read-site-spec = tie.close (tie.spec read-site-requires site-read-requires returns)

@@ -10,7 +10,7 @@ edited-answer-requires : tie.Need-edited-answer-requires
 edited-answer-requires c κs = search needs
 
 returns : tie.Need-returns
-returns c = cc
+returns c = rw (c .before .set-load .ensures) at (c .edited-answer .ensures)
 
 pub dugg-set-load-spec : {M : Type 1} → statement M
 dugg-set-load-spec = tie.close (tie.spec set-load-requires edited-answer-requires returns)

@@ -10,7 +10,7 @@ share-answer-requires : tie.Need-share-answer-requires
 share-answer-requires c κs = search needs
 
 returns : tie.Need-returns
-returns c = cc
+returns c = rw (c .before .share .ensures) at (c .share-answer .ensures)
 
 pub dugg-share-spec : {M : Type 1} → statement M
 dugg-share-spec = tie.close (tie.spec share-requires share-answer-requires returns)

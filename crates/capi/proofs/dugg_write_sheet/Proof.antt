@@ -13,7 +13,7 @@ same-length : tie.Need-same-length
 same-length c = search needs
 
 returns : tie.Need-returns
-returns c = (cc, cc)
+returns c = let e = c .before .before .before .write-sheet .ensures in (rw (e .0) at (c .sheet-written .ensures), e .1)
 
 pub dugg-write-sheet-spec : {M : Type 1} → statement M
 dugg-write-sheet-spec =

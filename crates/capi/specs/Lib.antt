@@ -1,2 +1,0 @@
--- The definitions of crate `capi`, module by module.
-pub mod Told

@@ -1,0 +1,2 @@
+-- The definitions of crate `told`, module by module.
+pub mod Told

@@ -1,0 +1,238 @@
+// Each answer of the product as a C caller gets it: document 01's number and its values.
+use checker::CheckAnswer;
+use judges::ChainAnswer;
+use judges::LoadAnswer;
+use planfile::PlanRead;
+use planfile::PlanWritten;
+use planner::PlanAnswer;
+use records::ReadAnswer;
+use shares::ShareAnswer;
+use sheet::SheetAnswer;
+use sheet::SheetRead;
+use sheet::SheetWritten;
+use site::ClashAnswer;
+use site::Edited;
+use site::Fault;
+use site::Site;
+use sitefile::SiteRead;
+use sitefile::SiteWritten;
+ghost use mathlib.Core.Path.{_≡_};
+ghost use Rattle.site.specs.Given.{faultGiven, clashGiven};
+ghost use Rattle.judges.specs.Given.{loadGiven, chainGiven};
+ghost use Rattle.planner.specs.Given.{planGiven};
+ghost use Rattle.checker.specs.Given.{checkGiven};
+ghost use Rattle.shares.specs.Given.{shareGiven};
+ghost use Rattle.records.specs.Given.{readGiven};
+ghost use Rattle.sitefile.specs.Given.{siteWrittenGiven};
+ghost use Rattle.planfile.specs.Given.{planWrittenGiven};
+ghost use Rattle.sheet.specs.Given.{sheetGiven, sheetWrittenGiven};
+ghost use Rattle.told.specs.Told.{numbered, told, toldEdited, toldSiteRead, toldPlanRead, toldSheetRead};
+
+// dugg_answer: the number given back, and the values that belong to it.
+#[repr(C)]
+pub struct Answer {
+    pub number: u64,
+    pub value: [u64; 3],
+}
+
+// dugg_edited: a site and the answer beside it.
+#[repr(C)]
+pub struct EditedSite {
+    pub site: Site,
+    pub answer: Answer,
+}
+
+// dugg_plan_read: what a plan file says of its site, and the answer.
+#[repr(C)]
+pub struct PlanReadC {
+    pub cells: u16,
+    pub slots: u16,
+    pub channels: u16,
+    pub answer: Answer,
+}
+
+// A number and its three values; 0 stands for a value that the document does not name.
+fn give(number: u64, a: u64, b: u64, c: u64) -> Answer
+    ensures { λ r. ⌜ r ≡ numbered number a b c ⌝ }
+{
+    Answer {
+        number,
+        value: [a, b, c],
+    }
+}
+
+// From here to `sheet_written`: an answer of the product as its number and values.
+pub fn fault_answer(said: Fault) -> Answer
+    ensures { λ r. ⌜ r ≡ told (faultGiven said) ⌝ }
+{
+    match said {
+        Fault::Fine => give(0, 0, 0, 0),
+        Fault::Size => give(1, 0, 0, 0),
+        Fault::Load(cell) => give(2, cell as u64, 0, 0),
+        Fault::Reach(row) => give(3, row as u64, 0, 0),
+    }
+}
+
+pub fn clash_answer(said: ClashAnswer) -> Answer
+    ensures { λ r. ⌜ r ≡ told (clashGiven said) ⌝ }
+{
+    match said {
+        ClashAnswer::Clear => give(0, 0, 0, 0),
+        ClashAnswer::Clash => give(0, 1, 0, 0),
+        ClashAnswer::Refused(f) => fault_answer(f),
+    }
+}
+
+pub fn load_answer(said: LoadAnswer) -> Answer
+    ensures { λ r. ⌜ r ≡ told (loadGiven said) ⌝ }
+{
+    match said {
+        LoadAnswer::Holds => give(0, 0, 0, 0),
+        LoadAnswer::Over(cell, excess) => give(0, cell as u64, excess as u64, 0),
+        LoadAnswer::Refused(f) => fault_answer(f),
+    }
+}
+
+pub fn chain_answer(said: ChainAnswer) -> Answer
+    ensures { λ r. ⌜ r ≡ told (chainGiven said) ⌝ }
+{
+    match said {
+        ChainAnswer::Chained => give(0, 0, 0, 0),
+        ChainAnswer::Broken(a, b, c) => give(0, a as u64, b as u64, c as u64),
+        ChainAnswer::Refused(f) => fault_answer(f),
+    }
+}
+
+pub fn plan_answer(said: PlanAnswer) -> Answer
+    ensures { λ r. ⌜ r ≡ told (planGiven said) ⌝ }
+{
+    match said {
+        PlanAnswer::Done => give(0, 0, 0, 0),
+        PlanAnswer::TableShort => give(4, 0, 0, 0),
+        PlanAnswer::NoRoom(cell, short) => give(5, cell as u64, short as u64, 0),
+        PlanAnswer::Refused(f) => fault_answer(f),
+    }
+}
+
+pub fn check_answer(said: CheckAnswer) -> Answer
+    ensures { λ r. ⌜ r ≡ told (checkGiven said) ⌝ }
+{
+    match said {
+        CheckAnswer::Valid => give(0, 0, 0, 0),
+        CheckAnswer::TableShort => give(4, 0, 0, 0),
+        CheckAnswer::Clash(position, a, c) => give(6, position as u64, a as u64, c as u64),
+        CheckAnswer::Count(cell, count) => give(7, cell as u64, count as u64, 0),
+        CheckAnswer::Refused(f) => fault_answer(f),
+    }
+}
+
+pub fn share_answer(said: ShareAnswer) -> Answer
+    ensures { λ r. ⌜ r ≡ told (shareGiven said) ⌝ }
+{
+    match said {
+        ShareAnswer::Done(share, queue, delay) => give(
+            0,
+            share.0 as u64,
+            queue.0 as u64,
+            delay.0 as u64,
+        ),
+        ShareAnswer::OutOfRange => give(1, 0, 0, 0),
+        ShareAnswer::BadFlow => give(15, 0, 0, 0),
+        ShareAnswer::BigShare => give(16, 0, 0, 0),
+    }
+}
+
+pub fn read_answer(said: ReadAnswer) -> Answer
+    ensures { λ r. ⌜ r ≡ told (readGiven said) ⌝ }
+{
+    match said {
+        ReadAnswer::Done => give(0, 0, 0, 0),
+        ReadAnswer::Refused(number, at) => give(number as u64, at as u64, 0, 0),
+    }
+}
+
+pub fn site_written(said: SiteWritten) -> Answer
+    ensures { λ r. ⌜ r ≡ told (siteWrittenGiven said) ⌝ }
+{
+    match said {
+        SiteWritten::Done(n) => give(0, n as u64, 0, 0),
+        SiteWritten::OutShort(n) => give(13, n as u64, 0, 0),
+        SiteWritten::Refused(f) => fault_answer(f),
+    }
+}
+
+pub fn plan_written(said: PlanWritten) -> Answer
+    ensures { λ r. ⌜ r ≡ told (planWrittenGiven said) ⌝ }
+{
+    match said {
+        PlanWritten::Done(n) => give(0, n as u64, 0, 0),
+        PlanWritten::TableShort => give(4, 0, 0, 0),
+        PlanWritten::OutShort(n) => give(13, n as u64, 0, 0),
+        PlanWritten::Refused(f) => fault_answer(f),
+    }
+}
+
+pub fn sheet_answer(said: SheetAnswer) -> Answer
+    ensures { λ r. ⌜ r ≡ told (sheetGiven said) ⌝ }
+{
+    match said {
+        SheetAnswer::Done => give(0, 0, 0, 0),
+        SheetAnswer::BadLine(line) => give(17, line as u64, 0, 0),
+        SheetAnswer::Refused(f) => fault_answer(f),
+    }
+}
+
+pub fn sheet_written(said: SheetWritten) -> Answer
+    ensures { λ r. ⌜ r ≡ told (sheetWrittenGiven said) ⌝ }
+{
+    match said {
+        SheetWritten::Done(n) => give(0, n as u64, 0, 0),
+        SheetWritten::OutShort(n) => give(13, n as u64, 0, 0),
+        SheetWritten::Refused(f) => fault_answer(f),
+    }
+}
+
+pub fn edited_answer(e: Edited) -> EditedSite
+    ensures { λ r. ⌜ r ≡ toldEdited e ⌝ }
+{
+    let site = e.site;
+    let f = e.answer;
+    EditedSite {
+        site,
+        answer: fault_answer(f),
+    }
+}
+
+pub fn site_read(e: SiteRead) -> EditedSite
+    ensures { λ r. ⌜ r ≡ toldSiteRead e ⌝ }
+{
+    let site = e.site;
+    let a = e.answer;
+    EditedSite {
+        site,
+        answer: read_answer(a),
+    }
+}
+
+pub fn sheet_read(e: SheetRead) -> EditedSite
+    ensures { λ r. ⌜ r ≡ toldSheetRead e ⌝ }
+{
+    let site = e.site;
+    let a = e.answer;
+    EditedSite {
+        site,
+        answer: sheet_answer(a),
+    }
+}
+
+pub fn plan_read(e: PlanRead) -> PlanReadC
+    ensures { λ r. ⌜ r ≡ toldPlanRead e ⌝ }
+{
+    let a = e.answer;
+    PlanReadC {
+        cells: e.cells,
+        slots: e.slots,
+        channels: e.channels,
+        answer: read_answer(a),
+    }
+}
