@@ -29,11 +29,12 @@ typedef struct {
     dugg_answer (*write_plan)(dugg_site, const uint8_t *, size_t, uint8_t *, size_t);
     dugg_edited (*read_sheet)(const uint8_t *, size_t, uint16_t, uint16_t);
     dugg_answer (*write_sheet)(dugg_site, uint8_t *, size_t);
+    dugg_answer (*share_repeated)(uint16_t, uint16_t, uint16_t, uint16_t);
 } maker;
 
 #define MAKER(name, P)                                                                                                \
-    {name,          P##plan,      P##check,      P##load_test,  P##chain,      P##read_site,                          \
-     P##write_site, P##read_plan, P##write_plan, P##read_sheet, P##write_sheet}
+    {name,          P##plan,      P##check,      P##load_test,  P##chain,       P##read_site,                         \
+     P##write_site, P##read_plan, P##write_plan, P##read_sheet, P##write_sheet, P##share_repeated}
 
 static const maker makers[MAKERS] = {
     [LIBRARY] = MAKER("library", dugg_),
@@ -43,19 +44,23 @@ static const maker makers[MAKERS] = {
     [BITS] = {.name = "C bits", .plan = bits_plan, .check = bits_check},
 };
 
-enum { PLAN, CHECK, LOAD_TEST, CHAIN, READ_SITE, WRITE_SITE, READ_PLAN, WRITE_PLAN, READ_SHEET, WRITE_SHEET, OPERATIONS };
+enum {
+    PLAN, CHECK, LOAD_TEST, CHAIN, READ_SITE, WRITE_SITE, READ_PLAN, WRITE_PLAN, READ_SHEET, WRITE_SHEET, SHARE,
+    OPERATIONS
+};
 
 static const char *const operations[OPERATIONS] = {
     "plan", "check", "load test", "chain", "read site", "write site", "read plan", "write plan",
-    "read sheet", "write sheet",
+    "read sheet", "write sheet", "share with repeats",
 };
 
-/* A site with its planned table, its two files and its sheet. */
+/* A site with its planned table, its two files and its sheet, and a flow on it. */
 typedef struct {
     const char *name;
     dugg_site site;
     size_t table_len, site_len, plan_len, sheet_len;
     uint8_t table[MOST], site_file[4096], plan_file[MOST], sheet[4096];
+    uint16_t burst, period, repeats;
 } work;
 
 /* What a call leaves behind. */
@@ -78,7 +83,8 @@ static bool has(const maker *m, int operation)
     case READ_PLAN: return m->read_plan != NULL;
     case WRITE_PLAN: return m->write_plan != NULL;
     case READ_SHEET: return m->read_sheet != NULL;
-    default: return m->write_sheet != NULL;
+    case WRITE_SHEET: return m->write_sheet != NULL;
+    default: return m->share_repeated != NULL;
     }
 }
 
@@ -106,6 +112,7 @@ static void run(const maker *m, int operation, const work *w, left *l)
     case WRITE_PLAN: l->answer = m->write_plan(w->site, w->table, w->table_len, l->bytes, sizeof l->bytes); break;
     case READ_SHEET: keep(l, m->read_sheet(w->sheet, w->sheet_len, w->site.slots, w->site.channels)); break;
     case WRITE_SHEET: l->answer = m->write_sheet(w->site, l->bytes, sizeof l->bytes); break;
+    case SHARE: l->answer = m->share_repeated(w->site.slots, w->burst, w->period, w->repeats); break;
     }
 }
 
@@ -115,6 +122,11 @@ static void size(dugg_site *s, unsigned cells, unsigned slots, unsigned channels
 {
     memset(s, 0, sizeof *s);
     s->cells = cells, s->slots = slots, s->channels = channels;
+}
+
+static void flow(work *w, unsigned burst, unsigned period, unsigned repeats)
+{
+    w->burst = burst, w->period = period, w->repeats = repeats;
 }
 
 /* Each cell reaches the next few, one way. */
@@ -129,29 +141,34 @@ static void make_sites(work w[SITES])
 {
     w[0].name = "small: P1";
     size(&w[0].site, 3, 3, 2);
+    flow(&w[0], 3, 4, 2);
     w[0].site.loads[0] = 5, w[0].site.loads[1] = 1, w[0].site.loads[2] = 4;
     w[0].site.reach[1] = 5;
 
     w[1].name = "middle: tunnel, 2 neighbours either side";
     size(&w[1].site, 12, 32, 4);
+    flow(&w[1], 40, 500, 2);
     tunnel(&w[1].site, 2);
     for (unsigned i = 0; i < 12; i++)
         w[1].site.loads[i] = (const uint16_t[]){50, 40, 38}[i % 3];
 
     w[2].name = "middle: all clash, just full";
     size(&w[2].site, 16, 50, 7);
+    flow(&w[2], 1000, 777, 3);
     tunnel(&w[2].site, 15);
     for (unsigned i = 0; i < 16; i++)
         w[2].site.loads[i] = i < 14 ? 22 : 21;
 
     w[3].name = "largest: tunnel, 3 neighbours either side, just full";
     size(&w[3].site, 32, 128, 16);
+    flow(&w[3], 65535, 1024, 4);
     tunnel(&w[3].site, 3);
     for (unsigned i = 0; i < 32; i++)
         w[3].site.loads[i] = (const uint16_t[]){700, 500, 448, 400}[i % 4];
 
     w[4].name = "largest: all clash, just full";
     size(&w[4].site, 32, 128, 16);
+    flow(&w[4], 65535, 65535, 4);
     tunnel(&w[4].site, 31);
     for (unsigned i = 0; i < 32; i++)
         w[4].site.loads[i] = 64;
@@ -208,22 +225,27 @@ static int agree(const work *w)
 }
 
 /* The same inputs made wrong in a few ways: a load one more or one less, a table too short, files cut, a table of 1
- * throughout, a table whose last forbidden position is reserved. */
+ * throughout, a table whose last forbidden position is reserved; repeats of 0 and of 5, a period of 0, too large a
+ * share. */
 static int agree_when_wrong(const work *w)
 {
     static work wrong;
     wrong = *w;
     wrong.site.loads[w->site.cells - 1]++;
+    wrong.repeats = 0;
     int fine = agree(&wrong);
     wrong.site.loads[w->site.cells - 1] -= 2;
+    wrong.repeats = 5;
     fine &= agree(&wrong);
     wrong = *w;
     wrong.table_len--, wrong.site_len--, wrong.plan_len--, wrong.sheet_len--;
+    flow(&wrong, 65535, 1, 2);
     fine &= agree(&wrong);
     wrong = *w;
     memset(wrong.table, 1, wrong.table_len);
     wrong.site_file[4] = wrong.plan_file[4] = 33;
     wrong.sheet[w->sheet_len - 3] = '2';
+    wrong.period = 0;
     fine &= agree(&wrong);
     wrong = *w;
     size_t last = w->table_len - 1;
@@ -280,6 +302,7 @@ static void print_size(int operation, const work *w)
     case WRITE_SITE: printf("file of %zu bytes", w->site_len); break;
     case READ_SHEET:
     case WRITE_SHEET: printf("sheet of %zu bytes", w->sheet_len); break;
+    case SHARE: printf("burst of %u, period of %u, sent %u times", w->burst, w->period, w->repeats); break;
     default: printf("file of %zu bytes, table of %zu", w->plan_len, w->table_len); break;
     }
 }

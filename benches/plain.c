@@ -211,17 +211,22 @@ dugg_answer NAME(check)(dugg_site site, const uint8_t *table, size_t len)
 
 /* ---- share ---- */
 
-dugg_answer NAME(share)(uint16_t slots, uint16_t burst, uint16_t period)
+dugg_answer NAME(share_repeated)(uint16_t slots, uint16_t burst, uint16_t period, uint16_t repeats)
 {
     if (slots < 1 || slots > SLOTS)
         return answer(1, 0, 0, 0);
-    if (burst == 0 || period == 0)
+    if (burst == 0 || period == 0 || repeats < 1 || repeats > 4)
         return answer(15, 0, 0, 0);
     uint32_t work = (uint32_t)burst * slots;
-    uint32_t share = (work + period - 1) / period;
-    if (share > 65535)
+    uint32_t once = (work + period - 1) / period;
+    if (repeats * once > 65535)
         return answer(16, 0, 0, 0);
-    return answer(0, share, burst + share, slots + (work + share - 1) / share);
+    return answer(0, repeats * once, burst + once, slots + (work + once - 1) / once);
+}
+
+dugg_answer NAME(share)(uint16_t slots, uint16_t burst, uint16_t period)
+{
+    return NAME(share_repeated)(slots, burst, period, 1);
 }
 
 /* ---- house files ---- */

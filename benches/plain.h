@@ -16,6 +16,7 @@
     dugg_answer P##plan(dugg_site site, uint8_t *table, size_t len);                                                  \
     dugg_answer P##check(dugg_site site, const uint8_t *table, size_t len);                                           \
     dugg_answer P##share(uint16_t slots, uint16_t burst, uint16_t period);                                            \
+    dugg_answer P##share_repeated(uint16_t slots, uint16_t burst, uint16_t period, uint16_t repeats);                 \
     dugg_edited P##read_site(const uint8_t *bytes, size_t len);                                                       \
     dugg_answer P##write_site(dugg_site site, uint8_t *out, size_t len);                                              \
     dugg_plan_read P##read_plan(const uint8_t *bytes, size_t len, uint8_t *table, size_t table_len);                  \

@@ -18,7 +18,7 @@
  *   12  bytes after the last record
  *   13  the lent output is too short (value: bytes needed)
  *   14  a left-over bit of a plan is 1
- *   15  burst or period is 0
+ *   15  burst or period is 0, or repeats are not 1 to 4
  *   16  the share is above 65,535
  *   17  the range sheet is malformed (value: its first bad line, from 1)
  *
@@ -84,9 +84,13 @@ dugg_answer dugg_plan(dugg_site site, uint8_t *table, size_t len);
  * lowest position with a clash and the two cells; refusal 7 the lowest cell with a wrong count, and its count. */
 dugg_answer dugg_check(dugg_site site, const uint8_t *table, size_t len);
 
-/* What a flow needs, from its burst in fragments and its period in slots. Done: its share in fragments per superframe,
- * its queue bound in fragments, its delay bound in slots. */
+/* What a flow needs, from its burst in fragments and its period in slots, each fragment sent once. Done: its share in
+ * fragments per superframe, its queue bound in fragments, its delay bound in slots. */
 dugg_answer dugg_share(uint16_t slots, uint16_t burst, uint16_t period);
+
+/* The same with each fragment sent "repeats" times, 1 to 4. The share is that many times the share of one sending; the
+ * two bounds do not change with the repeats. */
+dugg_answer dugg_share_repeated(uint16_t slots, uint16_t burst, uint16_t period, uint16_t repeats);
 
 /* Reads a site file. */
 dugg_edited dugg_read_site(const uint8_t *bytes, size_t len);

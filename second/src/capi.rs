@@ -1,7 +1,7 @@
 //! The C interface of include/duggfrask.h with the prefix `second_`, for the comparison and for the benchmark.
 
 use crate::answer::{done, Answer, Outcome};
-use crate::share::{Fragments, Slots};
+use crate::share::{Fragments, Repeats, Share, Slots};
 use crate::site::Site;
 use crate::{checker, files, judge, planner, share, sheet};
 
@@ -110,7 +110,16 @@ pub unsafe extern "C" fn second_check(site: Site, table: *const u8, len: usize) 
 
 #[no_mangle]
 pub extern "C" fn second_share(slots: u16, burst: u16, period: u16) -> Answer {
-    let share = share::share(Slots(slots as u64), Fragments(burst as u64), Slots(period as u64));
+    share_answer(share::share(Slots(slots as u64), Fragments(burst as u64), Slots(period as u64)))
+}
+
+#[no_mangle]
+pub extern "C" fn second_share_repeated(slots: u16, burst: u16, period: u16, repeats: u16) -> Answer {
+    let (burst, repeats) = (Fragments(burst as u64), Repeats(repeats as u64));
+    share_answer(share::share_of(Slots(slots as u64), burst, Slots(period as u64), repeats))
+}
+
+fn share_answer(share: Outcome<Share>) -> Answer {
     answer(share, |s| [s.share.0, s.queue.0, s.delay.0])
 }
 

@@ -1,5 +1,6 @@
 // The C interface: each call of the product, with its answer as document 01's number and values. The header is include/duggfrask.h.
 use shares::Fragments;
+use shares::Repeats;
 use shares::Slots;
 use site::Site;
 use told::Answer;
@@ -16,7 +17,7 @@ ghost use Rattle.planner.specs.Plan.{planAnswer, planTable};
 ghost use Rattle.planner.specs.Given.{planGiven};
 ghost use Rattle.checker.specs.Check.{checkAnswer};
 ghost use Rattle.checker.specs.Given.{checkGiven};
-ghost use Rattle.shares.specs.Share.{shareOf};
+ghost use Rattle.shares.specs.Share.{shareOf, defaultRepeats};
 ghost use Rattle.shares.specs.Given.{shareGiven};
 ghost use Rattle.sitefile.specs.Read.{readSite};
 ghost use Rattle.sitefile.specs.Write.{siteWritten, siteOut};
@@ -96,12 +97,24 @@ pub extern "C" fn dugg_check(site: Site, table: &[u8]) -> Answer
 
 #[no_mangle]
 pub extern "C" fn dugg_share(slots: u16, burst: u16, period: u16) -> Answer
-    ensures { λ r. ⌜ r ≡ told (shareGiven (shareOf slots burst period)) ⌝ }
+    ensures { λ r. ⌜ r ≡ told (shareGiven (shareOf slots burst period defaultRepeats)) ⌝ }
 {
     told::share_answer(shares::share(
         Slots(slots as u32),
         Fragments(burst as u32),
         Slots(period as u32),
+    ))
+}
+
+#[no_mangle]
+pub extern "C" fn dugg_share_repeated(slots: u16, burst: u16, period: u16, repeats: u16) -> Answer
+    ensures { λ r. ⌜ r ≡ told (shareGiven (shareOf slots burst period repeats)) ⌝ }
+{
+    told::share_answer(shares::share_of(
+        Slots(slots as u32),
+        Fragments(burst as u32),
+        Slots(period as u32),
+        Repeats(repeats as u32),
     ))
 }
 

@@ -3,7 +3,7 @@
 use mathlib.Core.Path.{_≡_, sym, _∙_}
 use mathlib.Core.List.{List}
 use Prim.Native.Nat.{ℕ}
-use Rattle.promises.specs.CapiSays.{DuggChain, DuggCheck, DuggClash, DuggClearReach, DuggFault, DuggLoadTest, DuggPlan, DuggReadPlan, DuggReadSheet, DuggReadSite, DuggSetLoad, DuggSetReach, DuggShare, DuggWritePlan, DuggWriteSheet, DuggWriteSite}
+use Rattle.promises.specs.CapiSays.{DuggChain, DuggCheck, DuggClash, DuggClearReach, DuggFault, DuggLoadTest, DuggPlan, DuggReadPlan, DuggReadSheet, DuggReadSite, DuggSetLoad, DuggSetReach, DuggShare, DuggShareRepeated, DuggWritePlan, DuggWriteSheet, DuggWriteSite}
 use Rattle.site.specs.declared.Site.{Site}
 use Rattle.told.specs.declared.Answer.{Answer}
 use Rattle.told.specs.declared.EditedSite.{EditedSite}
@@ -48,6 +48,10 @@ duggCheck-one site table r q says also = says .answer ∙ sym (also .answer)
 -- capi::dugg_share
 pub duggShare-one : (slots : ℕ) (burst : ℕ) (period : ℕ) (r q : Answer) → DuggShare slots burst period r → DuggShare slots burst period q → (r ≡ q)
 duggShare-one slots burst period r q says also = says .answer ∙ sym (also .answer)
+
+-- capi::dugg_share_repeated
+pub duggShareRepeated-one : (slots : ℕ) (burst : ℕ) (period : ℕ) (repeats : ℕ) (r q : Answer) → DuggShareRepeated slots burst period repeats r → DuggShareRepeated slots burst period repeats q → (r ≡ q)
+duggShareRepeated-one slots burst period repeats r q says also = says .answer ∙ sym (also .answer)
 
 -- capi::dugg_read_site
 pub duggReadSite-one : (bytes : List ℕ) (r q : EditedSite) → DuggReadSite bytes r → DuggReadSite bytes q → (r ≡ q)

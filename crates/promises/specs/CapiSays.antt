@@ -12,7 +12,7 @@ use Rattle.planfile.specs.Write.{planOut, planWritten}
 use Rattle.planner.specs.Given.{planGiven}
 use Rattle.planner.specs.Plan.{planAnswer, planTable}
 use Rattle.shares.specs.Given.{shareGiven}
-use Rattle.shares.specs.Share.{shareOf}
+use Rattle.shares.specs.Share.{defaultRepeats, shareOf}
 use Rattle.sheet.specs.Given.{sheetWrittenGiven}
 use Rattle.sheet.specs.Read.{readSheet}
 use Rattle.sheet.specs.Write.{sheetOut, sheetWritten}
@@ -68,7 +68,11 @@ pub record DuggCheck (site : Site) (table : List ℕ) (r : Answer) : Type 0 wher
 
 -- capi::dugg_share
 pub record DuggShare (slots : ℕ) (burst : ℕ) (period : ℕ) (r : Answer) : Type 0 where
-  pub answer : r ≡ told (shareGiven (shareOf slots burst period))
+  pub answer : r ≡ told (shareGiven (shareOf slots burst period defaultRepeats))
+
+-- capi::dugg_share_repeated
+pub record DuggShareRepeated (slots : ℕ) (burst : ℕ) (period : ℕ) (repeats : ℕ) (r : Answer) : Type 0 where
+  pub answer : r ≡ told (shareGiven (shareOf slots burst period repeats))
 
 -- capi::dugg_read_site
 pub record DuggReadSite (bytes : List ℕ) (r : EditedSite) : Type 0 where

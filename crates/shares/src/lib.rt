@@ -1,8 +1,8 @@
-// The share of a flow (000, inequality 5), with the bounds on its queue and its delay. Slots and fragments are two units: no function here adds one to the other.
+// The share of a flow (000, inequality 5), with repeats, and the bounds on its queue and its delay. Slots, fragments and repeats are three units: no function here adds one to another.
 use site::within;
 ghost use mathlib.Core.Path.{_≡_};
 ghost use Prim.Native.Nat.{_+_, _*_, _≤_, _<_};
-ghost use Rattle.shares.specs.Share.{roundedUp, shareOf};
+ghost use Rattle.shares.specs.Share.{roundedUp, shareOf, defaultRepeats};
 
 // A number of time-slots.
 pub struct Slots(pub u32);
@@ -10,7 +10,16 @@ pub struct Slots(pub u32);
 // A number of fragments.
 pub struct Fragments(pub u32);
 
-// The share, the bound on the queue and the bound on the delay; or T is out of range, the burst or the period is, the share is above 65,535.
+// How many times each fragment is sent.
+pub struct Repeats(pub u32);
+
+// The most repeats that a flow may ask for.
+const MOST_REPEATS: usize = 4;
+
+// The repeats of a caller that gives none.
+const DEFAULT_REPEATS: u32 = 1;
+
+// The share, the bound on the queue and the bound on the delay; or T is out of range, the burst, the period or the repeats are, the share is above 65,535.
 pub enum ShareAnswer {
     Done(Fragments, Fragments, Slots),
     OutOfRange,
@@ -38,6 +47,14 @@ fn share_for(burst: Fragments, period: Slots, slots: Slots) -> Fragments
     Fragments(rounded_up(burst.0 * slots.0, period.0))
 }
 
+// The fragments that are sent when each is sent so many times.
+fn repeated(once: Fragments, repeats: Repeats) -> Fragments
+    requires { ⌜ repeats .0 * once .0 ≤ 33553920 ⌝ }
+    ensures { λ r. ⌜ r .0 ≡ repeats .0 * once .0 ⌝ }
+{
+    Fragments(repeats.0 * once.0)
+}
+
 // How long a burst takes at a share.
 fn time_for(burst: Fragments, share: Fragments, slots: Slots) -> Slots
     requires { ⌜ (0 < share .0) × (burst .0 * slots .0 ≤ 8388480) ⌝ }
@@ -56,15 +73,15 @@ fn add_fragments(a: Fragments, b: Fragments) -> Fragments
 
 // Slots and slots.
 fn add_slots(a: Slots, b: Slots) -> Slots
-    requires { ⌜ (a .0 ≤ 128) × (b .0 ≤ 65535) ⌝ }
+    requires { ⌜ (a .0 ≤ 128) × (b .0 ≤ 8388480) ⌝ }
     ensures { λ r. ⌜ r .0 ≡ a .0 + b .0 ⌝ }
 {
     Slots(a.0 + b.0)
 }
 
-// The share of a flow with its bounds: T is `slots`.
-pub fn share(slots: Slots, burst: Fragments, period: Slots) -> ShareAnswer
-    ensures { λ r. ⌜ r ≡ shareOf (slots .0) (burst .0) (period .0) ⌝ }
+// The share of a flow with its bounds: T is `slots`. The bounds have the share of one sending in them, whatever the repeats.
+pub fn share_of(slots: Slots, burst: Fragments, period: Slots, repeats: Repeats) -> ShareAnswer
+    ensures { λ r. ⌜ r ≡ shareOf (slots .0) (burst .0) (period .0) (repeats .0) ⌝ }
 {
     if !within(slots.0 as usize, 128) {
         return ShareAnswer::OutOfRange;
@@ -75,11 +92,22 @@ pub fn share(slots: Slots, burst: Fragments, period: Slots) -> ShareAnswer
     if !within(period.0 as usize, 65535) {
         return ShareAnswer::BadFlow;
     }
-    let s = share_for(burst, period, slots);
+    if !within(repeats.0 as usize, MOST_REPEATS) {
+        return ShareAnswer::BadFlow;
+    }
+    let once = share_for(burst, period, slots);
+    let s = repeated(once, repeats);
     if 65535 < s.0 {
         return ShareAnswer::BigShare;
     }
-    let queue = add_fragments(burst, s);
-    let delay = add_slots(slots, time_for(burst, s, slots));
+    let queue = add_fragments(burst, once);
+    let delay = add_slots(slots, time_for(burst, once, slots));
     ShareAnswer::Done(s, queue, delay)
+}
+
+// The same for a caller that gives no repeats.
+pub fn share(slots: Slots, burst: Fragments, period: Slots) -> ShareAnswer
+    ensures { λ r. ⌜ r ≡ shareOf (slots .0) (burst .0) (period .0) defaultRepeats ⌝ }
+{
+    share_of(slots, burst, period, Repeats(DEFAULT_REPEATS))
 }

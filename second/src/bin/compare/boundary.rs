@@ -1,5 +1,6 @@
 //! The limits of a site: 32 and 33 cells, 128 and 129 slots, 16 and 17 channels, a table of 65,536 bytes and of one
-//! byte less, each with its neighbours and through every call; flows at their limits, and the two worked shares.
+//! byte less, each with its neighbours and through every call; flows at their limits with every number of
+//! repeats, and the worked shares.
 
 use crate::case::{Call, Case};
 use crate::run::Run;
@@ -8,6 +9,7 @@ use second::site::Site;
 const CELLS: [u16; 6] = [0, 1, 31, 32, 33, 65_535];
 const SLOTS: [u16; 6] = [0, 1, 127, 128, 129, 65_535];
 const CHANNELS: [u16; 6] = [0, 1, 15, 16, 17, 65_535];
+const REPEATS: [u16; 7] = [0, 1, 2, 3, 4, 5, 65_535];
 const TABLE: usize = 65_536;
 
 pub fn compare(run: &mut Run) {
@@ -19,14 +21,22 @@ pub fn compare(run: &mut Run) {
         }
     }
     for period in [4, 5] {
-        run.compare(&Case::of(Call::Share, Site::default()).numbers([3, 3, period]));
+        shares(run, 3, 3, period);
     }
     for slots in SLOTS {
-        for burst in [0, 1, 2, 3, 511, 512, 513, 65_534, 65_535] {
+        for burst in [0, 1, 2, 3, 511, 512, 513, 16_383, 16_384, 21_845, 21_846, 32_767, 32_768, 65_534, 65_535] {
             for period in [0, 1, 2, 3, 127, 128, 129, 65_534, 65_535] {
-                run.compare(&Case::of(Call::Share, Site::default()).numbers([slots, burst, period]));
+                shares(run, slots, burst, period);
             }
         }
+    }
+}
+
+/// One flow without repeats given, and with each number of them and those next to the limits.
+fn shares(run: &mut Run, slots: u16, burst: u16, period: u16) {
+    run.compare(&Case::of(Call::Share, Site::default()).numbers([slots, burst, period]));
+    for repeats in REPEATS {
+        run.compare(&Case::of(Call::ShareRepeated, Site::default()).numbers([slots, burst, period, repeats]));
     }
 }
 

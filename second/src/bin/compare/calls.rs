@@ -16,6 +16,7 @@ extern "C" {
     fn dugg_plan(site: Site, table: *mut u8, len: usize) -> Answer;
     fn dugg_check(site: Site, table: *const u8, len: usize) -> Answer;
     fn dugg_share(slots: u16, burst: u16, period: u16) -> Answer;
+    fn dugg_share_repeated(slots: u16, burst: u16, period: u16, repeats: u16) -> Answer;
     fn dugg_read_site(bytes: *const u8, len: usize) -> Edited;
     fn dugg_write_site(site: Site, out: *mut u8, len: usize) -> Answer;
     fn dugg_read_plan(bytes: *const u8, len: usize, table: *mut u8, table_len: usize) -> PlanRead;
@@ -35,6 +36,7 @@ pub struct Calls {
     pub plan: unsafe extern "C" fn(Site, *mut u8, usize) -> Answer,
     pub check: unsafe extern "C" fn(Site, *const u8, usize) -> Answer,
     pub share: unsafe extern "C" fn(u16, u16, u16) -> Answer,
+    pub share_repeated: unsafe extern "C" fn(u16, u16, u16, u16) -> Answer,
     pub read_site: unsafe extern "C" fn(*const u8, usize) -> Edited,
     pub write_site: unsafe extern "C" fn(Site, *mut u8, usize) -> Answer,
     pub read_plan: unsafe extern "C" fn(*const u8, usize, *mut u8, usize) -> PlanRead,
@@ -54,6 +56,7 @@ pub const LIBRARY: Calls = Calls {
     plan: dugg_plan,
     check: dugg_check,
     share: dugg_share,
+    share_repeated: dugg_share_repeated,
     read_site: dugg_read_site,
     write_site: dugg_write_site,
     read_plan: dugg_read_plan,
@@ -73,6 +76,7 @@ pub const SECOND: Calls = Calls {
     plan: second_plan,
     check: second_check,
     share: second_share,
+    share_repeated: second_share_repeated,
     read_site: second_read_site,
     write_site: second_write_site,
     read_plan: second_read_plan,

@@ -16,6 +16,7 @@ pub enum Call {
     Plan,
     Check,
     Share,
+    ShareRepeated,
     ReadSite,
     WriteSite,
     ReadPlan,
@@ -83,7 +84,7 @@ impl Lent {
 pub struct Case {
     pub call: Call,
     pub site: Site,
-    pub numbers: [u16; 3],
+    pub numbers: [u16; 4],
     /// What is lent to be read: a file, a sheet, or a table to check or to write.
     pub input: Lent,
     /// What is lent to be written: a table to plan or to read into, or a file's output.
@@ -101,11 +102,12 @@ pub struct Seen {
 
 impl Case {
     pub fn of(call: Call, site: Site) -> Case {
-        Case { call, site, numbers: [0; 3], input: Lent::none(), output: Lent::none() }
+        Case { call, site, numbers: [0; 4], input: Lent::none(), output: Lent::none() }
     }
 
-    pub fn numbers(mut self, numbers: [u16; 3]) -> Case {
-        self.numbers = numbers;
+    /// The first few numbers of the call; the others stay 0.
+    pub fn numbers<const K: usize>(mut self, numbers: [u16; K]) -> Case {
+        self.numbers[..K].copy_from_slice(&numbers);
         self
     }
 
@@ -122,7 +124,7 @@ impl Case {
     /// Makes the call on copies of the lent parts.
     pub fn run(&self, calls: &Calls) -> Seen {
         let (input, mut output) = (self.input.clone(), self.output.clone());
-        let (site, [x, y, z]) = (self.site, self.numbers);
+        let (site, [x, y, z, w]) = (self.site, self.numbers);
         let (inp, ilen, out, olen) = (input.pointer(), input.len, output.pointer_mut(), output.len);
         let alone = |answer| (Site::default(), answer);
         // Each pointer has the length that is lent with it, and no two lent parts overlap.
@@ -138,6 +140,7 @@ impl Case {
                 Call::Plan => alone((calls.plan)(site, out, olen)),
                 Call::Check => alone((calls.check)(site, inp, ilen)),
                 Call::Share => alone((calls.share)(x, y, z)),
+                Call::ShareRepeated => alone((calls.share_repeated)(x, y, z, w)),
                 Call::ReadSite => pair((calls.read_site)(inp, ilen)),
                 Call::WriteSite => alone((calls.write_site)(site, out, olen)),
                 Call::ReadPlan => {

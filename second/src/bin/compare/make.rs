@@ -24,6 +24,7 @@ pub fn compare(run: &mut Run, random: &mut Random) {
         Call::Check,
         Call::Check,
         Call::Share,
+        Call::ShareRepeated,
         Call::ReadSite,
         Call::ReadSite,
         Call::WriteSite,
@@ -48,6 +49,10 @@ pub fn compare(run: &mut Run, random: &mut Random) {
         Call::Share => {
             let flow = [near_number(random, 128), flow_number(random), flow_number(random)];
             run.compare(&Case::of(call, Site::default()).numbers(flow));
+        }
+        Call::ShareRepeated => {
+            let [slots, burst, period] = [near_number(random, 128), flow_number(random), flow_number(random)];
+            run.compare(&Case::of(call, Site::default()).numbers([slots, burst, period, near_number(random, 4)]));
         }
         _ => {
             let case = with_site(random, call).numbers_for(random);
