@@ -1,42 +1,19 @@
 /* The benchmark: the time per call of the proved library, the second program, plain C (-O2 and -O3) and C on bit sets,
  * in one run and on the same inputs. It first checks that all give the same answers and the same bytes. It prints
  * markdown. */
-#include <stdbool.h>
 #include <stdio.h>
 #include <stdlib.h>
 #include <string.h>
-#include <time.h>
-#include "plain.h"
+#include "bench.h"
 
-CALLS(second_)
-CALLS(plain2_)
-CALLS(plain3_)
-
-enum { MOST = 65536, REPEATS = 15, SITES = 5 };
-
-enum { LIBRARY, SECOND, C2, C3, BITS, MAKERS };
-
-/* Who is timed: its name and its calls. One that a maker lacks is NULL. */
-typedef struct {
-    const char *name;
-    dugg_answer (*plan)(dugg_site, uint8_t *, size_t);
-    dugg_answer (*check)(dugg_site, const uint8_t *, size_t);
-    dugg_answer (*load_test)(dugg_site);
-    dugg_answer (*chain)(dugg_site);
-    dugg_edited (*read_site)(const uint8_t *, size_t);
-    dugg_answer (*write_site)(dugg_site, uint8_t *, size_t);
-    dugg_plan_read (*read_plan)(const uint8_t *, size_t, uint8_t *, size_t);
-    dugg_answer (*write_plan)(dugg_site, const uint8_t *, size_t, uint8_t *, size_t);
-    dugg_edited (*read_sheet)(const uint8_t *, size_t, uint16_t, uint16_t);
-    dugg_answer (*write_sheet)(dugg_site, uint8_t *, size_t);
-    dugg_answer (*share_repeated)(uint16_t, uint16_t, uint16_t, uint16_t);
-} maker;
+enum { SITES = 5 };
 
 #define MAKER(name, P)                                                                                                \
     {name,          P##plan,      P##check,      P##load_test,  P##chain,       P##read_site,                         \
-     P##write_site, P##read_plan, P##write_plan, P##read_sheet, P##write_sheet, P##share_repeated}
+     P##write_site, P##read_plan, P##write_plan, P##read_sheet, P##write_sheet, P##share_repeated,                    \
+     P##admit}
 
-static const maker makers[MAKERS] = {
+const maker makers[MAKERS] = {
     [LIBRARY] = MAKER("library", dugg_),
     [SECOND] = MAKER("second", second_),
     [C2] = MAKER("C -O2", plain2_),
@@ -118,23 +95,9 @@ static void run(const maker *m, int operation, const work *w, left *l)
 
 /* ---- the sites ---- */
 
-static void size(dugg_site *s, unsigned cells, unsigned slots, unsigned channels)
-{
-    memset(s, 0, sizeof *s);
-    s->cells = cells, s->slots = slots, s->channels = channels;
-}
-
 static void flow(work *w, unsigned burst, unsigned period, unsigned repeats)
 {
     w->burst = burst, w->period = period, w->repeats = repeats;
-}
-
-/* Each cell reaches the next few, one way. */
-static void tunnel(dugg_site *s, unsigned width)
-{
-    for (unsigned i = 0; i < s->cells; i++)
-        for (unsigned j = i + 1; j < s->cells && j <= i + width; j++)
-            s->reach[i] |= 1u << j;
 }
 
 static void make_sites(work w[SITES])
@@ -257,37 +220,17 @@ static int agree_when_wrong(const work *w)
 
 /* ---- time ---- */
 
-static double now(void)
-{
-    struct timespec t;
-    clock_gettime(CLOCK_MONOTONIC, &t);
-    return t.tv_sec * 1e9 + t.tv_nsec;
-}
+/* One operation on one site. */
+typedef struct {
+    int operation;
+    const work *w;
+} job;
 
-static double time_calls(const maker *m, int operation, const work *w, long calls)
+static void call(int m, const void *of)
 {
     static left l;
-    double start = now();
-    for (long k = 0; k < calls; k++)
-        run(m, operation, w, &l);
-    return (now() - start) / calls;
-}
-
-/* The best time per call of each, in nanoseconds, or 0 for one that lacks the call. They take turns, so that all meet
- * the same weather. */
-static void measure(int operation, const work *w, double best[MAKERS])
-{
-    long calls[MAKERS];
-    for (int m = 0; m < MAKERS; m++) {
-        best[m] = has(&makers[m], operation) ? time_calls(&makers[m], operation, w, 3) : 0;
-        calls[m] = best[m] == 0 ? 0 : best[m] > 2e6 ? 1 : 2e6 / best[m];
-    }
-    for (int repeat = 0; repeat < REPEATS; repeat++)
-        for (int m = 0; m < MAKERS; m++) {
-            double t = calls[m] == 0 ? 0 : time_calls(&makers[m], operation, w, calls[m]);
-            if (t < best[m])
-                best[m] = t;
-        }
+    const job *j = of;
+    run(&makers[m], j->operation, j->w, &l);
 }
 
 /* How much a call has to do, in words. */
@@ -307,50 +250,31 @@ static void print_size(int operation, const work *w)
     }
 }
 
-static void print_head(const work *w)
-{
-    printf("\n### %s\n\n", w->name);
-    printf("%u cells, %u slots, %u channels.\n\n", w->site.cells, w->site.slots, w->site.channels);
-    printf("| Call | Size of the work");
-    for (int m = 0; m < MAKERS; m++)
-        printf(" | %s ns", makers[m].name);
-    for (int m = LIBRARY + 1; m < MAKERS; m++)
-        printf(" | library / %s", makers[m].name);
-    printf(" |\n|---|---");
-    for (int m = 0; m < 2 * MAKERS - 1; m++)
-        printf("|---:");
-    printf("|\n");
-}
-
-/* A number in a column, or a dash for 0: the maker lacks the call. */
-static void print_number(double number, int digits)
-{
-    if (number == 0)
-        printf(" | -");
-    else
-        printf(" | %.*f", digits, number);
-}
-
 /* Prints a site's table; raises, for the largest sites, the worst ratios of plan and check, and of the sheet to C -O3. */
 static void table_of(const work *w, double worst[MAKERS], double *sheet)
 {
-    print_head(w);
+    const char *names[MAKERS];
+    for (int m = 0; m < MAKERS; m++)
+        names[m] = makers[m].name;
+    printf("\n### %s\n\n", w->name);
+    printf("%u cells, %u slots, %u channels.\n\n", w->site.cells, w->site.slots, w->site.channels);
+    print_head("Call | Size of the work", names, MAKERS);
     for (int operation = 0; operation < OPERATIONS; operation++) {
         double best[MAKERS];
-        measure(operation, w, best);
+        bool there[MAKERS];
+        for (int m = 0; m < MAKERS; m++)
+            there[m] = has(&makers[m], operation);
+        measure(call, &(job){operation, w}, there, best);
         printf("| %s | ", operations[operation]);
         print_size(operation, w);
-        for (int m = 0; m < MAKERS; m++)
-            print_number(best[m], 0);
+        print_times(best, MAKERS);
         for (int m = LIBRARY + 1; m < MAKERS; m++) {
             double ratio = best[m] == 0 ? 0 : best[LIBRARY] / best[m];
-            print_number(ratio, 2);
             if ((operation == PLAN || operation == CHECK) && largest(w) && ratio > worst[m])
                 worst[m] = ratio;
             if ((operation == READ_SHEET || operation == WRITE_SHEET) && largest(w) && m == C3 && ratio > *sheet)
                 *sheet = ratio;
         }
-        printf(" |\n");
     }
 }
 
@@ -366,12 +290,14 @@ int main(void)
         }
         fine &= agree(&w[k]) & agree_when_wrong(&w[k]);
     }
+    fine &= admit_agree();
     if (!fine)
         return 1;
     printf("All gave the same answers and the same bytes on these inputs before they were timed.\n");
     double worst[MAKERS] = {0}, sheet = 0;
     for (int k = 0; k < SITES; k++)
         table_of(&w[k], worst, &sheet);
+    admit_table();
     printf("\nPlan and check on the largest sites are %s a quarter of C -O3: the worst ratio is %.2f.\n",
            worst[C3] <= 1.25 ? "within" : "NOT within", worst[C3]);
     printf("\nReading and writing the sheets of the largest sites take %s twice the time of C -O3: the worst ratio is %.2f.\n",

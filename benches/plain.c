@@ -1,16 +1,8 @@
 /* The rules of docs/RULES.md in plain C, as a yardstick for the speed of the proved library: fast, but nothing out of
- * the ordinary. Compile with -DPREFIX=name_ ; every call of include/duggfrask.h is then there under that prefix. */
+ * the ordinary. Compile with -DPREFIX=name_ : with the other files plain_*.c, every call of include/duggfrask.h is then
+ * there under that prefix. */
 #include "plain.h"
 #include "site.h"
-
-#ifndef PREFIX
-#define PREFIX plain_
-#endif
-#define EXPAND(M, x) M(x)
-#define JOIN(a, b) a##b
-#define EXPAND_JOIN(a, b) JOIN(a, b)
-#define NAME(call) EXPAND_JOIN(PREFIX, call)
-EXPAND(CALLS, PREFIX)
 
 /* ---- the site ---- */
 
@@ -213,20 +205,12 @@ dugg_answer NAME(check)(dugg_site site, const uint8_t *table, size_t len)
 
 dugg_answer NAME(share_repeated)(uint16_t slots, uint16_t burst, uint16_t period, uint16_t repeats)
 {
-    if (slots < 1 || slots > SLOTS)
-        return answer(1, 0, 0, 0);
-    if (burst == 0 || period == 0 || repeats < 1 || repeats > 4)
-        return answer(15, 0, 0, 0);
-    uint32_t work = (uint32_t)burst * slots;
-    uint32_t once = (work + period - 1) / period;
-    if (repeats * once > 65535)
-        return answer(16, 0, 0, 0);
-    return answer(0, repeats * once, burst + once, slots + (work + once - 1) / once);
+    return share_of(slots, burst, period, repeats);
 }
 
 dugg_answer NAME(share)(uint16_t slots, uint16_t burst, uint16_t period)
 {
-    return NAME(share_repeated)(slots, burst, period, 1);
+    return share_of(slots, burst, period, 1);
 }
 
 /* ---- house files ---- */

@@ -22,10 +22,21 @@
     dugg_plan_read P##read_plan(const uint8_t *bytes, size_t len, uint8_t *table, size_t table_len);                  \
     dugg_answer P##write_plan(dugg_site site, const uint8_t *table, size_t table_len, uint8_t *out, size_t len);      \
     dugg_edited P##read_sheet(const uint8_t *bytes, size_t len, uint16_t slots, uint16_t channels);                   \
-    dugg_answer P##write_sheet(dugg_site site, uint8_t *out, size_t len);
+    dugg_answer P##write_sheet(dugg_site site, uint8_t *out, size_t len);                                             \
+    dugg_answer P##admit(dugg_site site, const dugg_flow *flows, size_t count);
 
-/* The C on bit sets has these two. */
+/* The name of a call in a file that is compiled with -DPREFIX=name_ . */
+#define JOIN(a, b) a##b
+#define EXPAND_JOIN(a, b) JOIN(a, b)
+#define NAME(call) EXPAND_JOIN(PREFIX, call)
+#ifdef PREFIX
+#define DECLARE(P) CALLS(P)
+DECLARE(PREFIX)
+#endif
+
+/* The C on bit sets has these two, and the C that tries all sets of flows has this one. */
 dugg_answer bits_plan(dugg_site site, uint8_t *table, size_t len);
 dugg_answer bits_check(dugg_site site, const uint8_t *table, size_t len);
+dugg_answer sets_admit(dugg_site site, const dugg_flow *flows, size_t count);
 
 #endif

@@ -1,4 +1,5 @@
-/* What the plain C and the C on bit sets share: the answer, the faults of a site record, and who clashes with whom.
+/* What the plain C and the C on bit sets share: the answer, the faults of a site record, who clashes with whom, and
+ * the share of a flow.
  * Inside, cells are counted from 0; in answers they are numbered from 1. */
 #ifndef SITE_H
 #define SITE_H
@@ -53,6 +54,20 @@ static inline void clash_masks(const dugg_site *s, uint32_t mask[CELLS])
     for (unsigned i = 0; i < s->cells; i++)
         for (uint32_t row = s->reach[i]; row != 0; row &= row - 1)
             mask[__builtin_ctz(row)] |= 1u << i;
+}
+
+/* What a flow needs: its share and its two bounds, or refusal 1, 15 or 16. */
+static inline dugg_answer share_of(unsigned slots, unsigned burst, unsigned period, unsigned repeats)
+{
+    if (slots < 1 || slots > SLOTS)
+        return answer(1, 0, 0, 0);
+    if (burst == 0 || period == 0 || repeats < 1 || repeats > 4)
+        return answer(15, 0, 0, 0);
+    uint32_t work = burst * slots;
+    uint32_t once = (work + period - 1) / period;
+    if (repeats * once > 65535)
+        return answer(16, 0, 0, 0);
+    return answer(0, repeats * once, burst + once, slots + (work + once - 1) / once);
 }
 
 #endif

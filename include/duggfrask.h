@@ -1,6 +1,6 @@
 /* Duggfrask, the C interface: plans channel time-slots for the cells of a wireless fieldbus, and checks finished plans.
  *
- * Every call answers a number and up to three values. Number 0 is "done"; 1 to 17 are the refusals of
+ * Every call answers a number and up to three values. Number 0 is "done"; 1 to 19 are the refusals of
  * docs/RULES.md. Values that are not named below are 0. No call keeps anything between calls.
  *
  *    1  cells, slots or channels out of range
@@ -21,6 +21,8 @@
  *   15  burst or period is 0, or repeats are not 1 to 4
  *   16  the share is above 65,535
  *   17  the range sheet is malformed (value: its first bad line, from 1)
+ *   18  more than 16 flows
+ *   19  the site is not chained, all its cells counted
  *
  * A refused file read has one value: where in the file the refused record begins (12: the first byte too many;
  * 4: 0). A sheet has no records: its 17 gives the line, its 3 the lowest row. Cells are numbered from 1, positions
@@ -50,6 +52,10 @@ typedef struct { dugg_site site; dugg_answer answer; } dugg_edited;
 
 /* What a plan file says of its site, or three zeros if the file is refused, and the answer. */
 typedef struct { uint16_t cells, slots, channels; dugg_answer answer; } dugg_plan_read;
+
+/* A flow that asks to be admitted: its cell by number, its burst in fragments, its period in slots, how many times each
+ * fragment is sent, and what it is worth. */
+typedef struct { uint16_t cell, burst, period, repeats, value; } dugg_flow;
 
 /* Is the site record in order? 0, or refusal 1, 2 or 3. Every call that takes a site asks this first. */
 dugg_answer dugg_fault(dugg_site site);
@@ -91,6 +97,13 @@ dugg_answer dugg_share(uint16_t slots, uint16_t burst, uint16_t period);
 /* The same with each fragment sent "repeats" times, 1 to 4. The share is that many times the share of one sending; the
  * two bounds do not change with the repeats. */
 dugg_answer dugg_share_repeated(uint16_t slots, uint16_t burst, uint16_t period, uint16_t repeats);
+
+/* Which of at most 16 flows to admit on a chained site: the set of greatest total value whose shares, summed by cell,
+ * pass the load test; of equals, the set with the smallest number, where flow 1 weighs 1, flow 2 weighs 2, flow 3 weighs
+ * 4 and so on. The site's own loads are set aside. Done: value[0] is the set's number. Refusals: the record's 1, 2 or 3;
+ * 18; 19; then flow by flow 2 for a cell that the site does not have, 15 and 16, each with the flow's number, from 1. A
+ * flow's 2 has the same number as the record's: dugg_fault tells which it is. */
+dugg_answer dugg_admit(dugg_site site, const dugg_flow *flows, size_t count);
 
 /* Reads a site file. */
 dugg_edited dugg_read_site(const uint8_t *bytes, size_t len);

@@ -1,9 +1,10 @@
 //! The C interface of include/duggfrask.h with the prefix `second_`, for the comparison and for the benchmark.
 
+use crate::admit::Flow;
 use crate::answer::{done, Answer, Outcome};
 use crate::share::{Fragments, Repeats, Share, Slots};
 use crate::site::Site;
-use crate::{checker, files, judge, planner, share, sheet};
+use crate::{admit, checker, files, judge, planner, share, sheet};
 
 #[repr(C)]
 #[derive(Clone, Copy, Debug, PartialEq, Eq)]
@@ -37,16 +38,16 @@ fn edited(outcome: Outcome<Site>, if_refused: Site) -> Edited {
     }
 }
 
-/// Lent bytes to read. A pointer with length 0 is not looked at.
-unsafe fn lent<'a>(start: *const u8, len: usize) -> &'a [u8] {
+/// A lent part to read. A pointer with length 0 is not looked at.
+unsafe fn lent<'a, T>(start: *const T, len: usize) -> &'a [T] {
     if len == 0 {
         return &[];
     }
     std::slice::from_raw_parts(start, len)
 }
 
-/// Lent bytes to write.
-unsafe fn lent_out<'a>(start: *mut u8, len: usize) -> &'a mut [u8] {
+/// A lent part to write.
+unsafe fn lent_out<'a, T>(start: *mut T, len: usize) -> &'a mut [T] {
     if len == 0 {
         return &mut [];
     }
@@ -172,4 +173,11 @@ pub unsafe extern "C" fn second_read_sheet(bytes: *const u8, len: usize, slots: 
 #[no_mangle]
 pub unsafe extern "C" fn second_write_sheet(site: Site, out: *mut u8, len: usize) -> Answer {
     answer(sheet::write_sheet(&site, lent_out(out, len)), |written| [written as u64])
+}
+
+/// # Safety
+/// `flows` has `count` flows.
+#[no_mangle]
+pub unsafe extern "C" fn second_admit(site: Site, flows: *const Flow, count: usize) -> Answer {
+    answer(admit::admit(&site, lent(flows, count)), |set| [set as u64])
 }

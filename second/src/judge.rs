@@ -4,46 +4,56 @@
 use crate::answer::Outcome;
 use crate::site::Site;
 
-fn spare(site: &Site, cell: usize) -> bool {
-    site.load(cell) == 0
+fn loads(site: &Site) -> Vec<u64> {
+    (1..=site.count()).map(|cell| site.load(cell)).collect()
 }
 
-/// `None` if the load test holds; otherwise the lowest cell that is over, and by how much. Spares are skipped.
+/// `None` if the load test holds; otherwise the lowest cell that is over, and by how much.
 pub fn load_test(site: &Site) -> Outcome<Option<(usize, u64)>> {
     site.sound()?;
+    Ok(first_over(site, &loads(site)))
+}
+
+/// The load test with these loads in place of the site's own, the first for cell 1. Spares are skipped.
+pub fn first_over(site: &Site, loads: &[u64]) -> Option<(usize, u64)> {
     let room = site.positions() as u64;
     for cell in 1..=site.count() {
-        if spare(site, cell) {
+        if loads[cell - 1] == 0 {
             continue;
         }
-        let mut sum = site.load(cell);
+        let mut sum = loads[cell - 1];
         for lower in 1..cell {
             if site.clash(lower, cell) {
-                sum += site.load(lower);
+                sum += loads[lower - 1];
             }
         }
         if sum > room {
-            return Ok(Some((cell, sum - room)));
+            return Some((cell, sum - room));
         }
     }
-    Ok(None)
+    None
 }
 
-/// `None` if the site is chained; otherwise the first a, b, c, sought by a, then c, then b, where a and c clash and b,
-/// strictly between them, does not clash with the earlier cell a. None of the three is a spare.
+/// `None` if the site is chained; otherwise the first a, b, c that break the chain. None of the three is a spare.
 pub fn chain(site: &Site) -> Outcome<Option<(usize, usize, usize)>> {
     site.sound()?;
+    Ok(first_gap(site, |cell| site.load(cell) > 0))
+}
+
+/// The first a, b, c among the cells that count, sought by a, then c, then b, where a and c clash and b, strictly
+/// between them, does not clash with the earlier cell a.
+pub fn first_gap(site: &Site, counts: impl Fn(usize) -> bool) -> Option<(usize, usize, usize)> {
     for a in 1..=site.count() {
         for c in a + 1..=site.count() {
-            if spare(site, a) || spare(site, c) || !site.clash(a, c) {
+            if !counts(a) || !counts(c) || !site.clash(a, c) {
                 continue;
             }
             for b in a + 1..c {
-                if !spare(site, b) && !site.clash(a, b) {
-                    return Ok(Some((a, b, c)));
+                if counts(b) && !site.clash(a, b) {
+                    return Some((a, b, c));
                 }
             }
         }
     }
-    Ok(None)
+    None
 }

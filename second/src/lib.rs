@@ -1,6 +1,7 @@
 //! The second program: the rules of docs/RULES.md once more, in plain Rust and written from the rules alone, so that
 //! the proved library can be compared with it. Each module holds one section of the rules.
 
+pub mod admit;
 pub mod answer;
 pub mod capi;
 pub mod checker;

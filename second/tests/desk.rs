@@ -1,20 +1,13 @@
 //! The desk examples of docs/RULES.md, each with the verdicts and the plan or check given there.
 
+mod common;
+
+use common::site;
 use second::answer::{refuse, Outcome};
 use second::checker::check;
 use second::judge::{chain, load_test};
 use second::planner::plan;
 use second::site::Site;
-
-/// A site from its sizes, its loads and its pairs "from, to".
-fn site(slots: usize, channels: usize, loads: &[u16], pairs: &[(usize, usize)]) -> Site {
-    let mut site = Site::sized(loads.len(), slots, channels);
-    site.loads[..loads.len()].copy_from_slice(loads);
-    for &(from, to) in pairs {
-        site = site.with_reach(from, to, true).unwrap();
-    }
-    site
-}
 
 /// A table from its rows, a digit for each position.
 fn table(rows: &str) -> Vec<u8> {

@@ -1,4 +1,5 @@
 // The C interface: each call of the product, with its answer as document 01's number and values. The header is include/duggfrask.h.
+use flowlist::Flow;
 use shares::Fragments;
 use shares::Repeats;
 use shares::Slots;
@@ -28,6 +29,8 @@ ghost use Rattle.planfile.specs.Given.{planWrittenGiven};
 ghost use Rattle.sheet.specs.Read.{readSheet};
 ghost use Rattle.sheet.specs.Write.{sheetWritten, sheetOut};
 ghost use Rattle.sheet.specs.Given.{sheetWrittenGiven};
+ghost use Rattle.admission.specs.Admit.{admitAnswer};
+ghost use Rattle.admission.specs.Given.{admitGiven};
 ghost use Rattle.told.specs.Told.{told, toldEdited, toldSiteRead, toldPlanRead, toldSheetRead};
 
 // The exports. Each makes its call and converts the answer; a cell is named by a number of two bytes.
@@ -162,4 +165,11 @@ pub extern "C" fn dugg_write_sheet(site: Site, out: &mut [u8]) -> Answer
     ensures { λ _. ⌜ now (out .exit) ≡ sheetOut site (now (out .entry)) ⌝ }
 {
     told::sheet_written(sheet::write_sheet(site, out))
+}
+
+#[no_mangle]
+pub extern "C" fn dugg_admit(site: Site, flows: &[Flow]) -> Answer
+    ensures { λ r. ⌜ r ≡ told (admitGiven (admitAnswer site (now (flows .entry)))) ⌝ }
+{
+    told::admit_answer(admission::admit(site, flows))
 }

@@ -3,7 +3,8 @@
 use mathlib.Core.Path.{_≡_, sym, _∙_}
 use mathlib.Core.List.{List}
 use Prim.Native.Nat.{ℕ}
-use Rattle.promises.specs.CapiSays.{DuggChain, DuggCheck, DuggClash, DuggClearReach, DuggFault, DuggLoadTest, DuggPlan, DuggReadPlan, DuggReadSheet, DuggReadSite, DuggSetLoad, DuggSetReach, DuggShare, DuggShareRepeated, DuggWritePlan, DuggWriteSheet, DuggWriteSite}
+use Rattle.flowlist.specs.declared.Flow.{Flow}
+use Rattle.promises.specs.CapiSays.{DuggAdmit, DuggChain, DuggCheck, DuggClash, DuggClearReach, DuggFault, DuggLoadTest, DuggPlan, DuggReadPlan, DuggReadSheet, DuggReadSite, DuggSetLoad, DuggSetReach, DuggShare, DuggShareRepeated, DuggWritePlan, DuggWriteSheet, DuggWriteSite}
 use Rattle.site.specs.declared.Site.{Site}
 use Rattle.told.specs.declared.Answer.{Answer}
 use Rattle.told.specs.declared.EditedSite.{EditedSite}
@@ -76,3 +77,7 @@ duggReadSheet-one bytes slots channels r q says also = says .answer ∙ sym (als
 -- capi::dugg_write_sheet
 pub duggWriteSheet-one : (site : Site) (out : List ℕ) (r q : Answer) (out′ out″ : List ℕ) → DuggWriteSheet site out r out′ → DuggWriteSheet site out q out″ → (r ≡ q) × (out′ ≡ out″)
 duggWriteSheet-one site out r q out′ out″ says also = (says .answer ∙ sym (also .answer), says .out-after ∙ sym (also .out-after))
+
+-- capi::dugg_admit
+pub duggAdmit-one : (site : Site) (flows : List Flow) (r q : Answer) → DuggAdmit site flows r → DuggAdmit site flows q → (r ≡ q)
+duggAdmit-one site flows r q says also = says .answer ∙ sym (also .answer)

@@ -7,6 +7,7 @@ pub mod Names
 pub mod Demand3
 pub mod Files
 pub mod Sheets
+pub mod Admission
 pub mod InC
 pub mod SquareOne
 pub mod SiteOne
@@ -17,6 +18,9 @@ pub mod RowsOne
 pub mod PlannerOne
 pub mod CheckerOne
 pub mod SharesOne
+pub mod FlowlistOne
+pub mod BestsetOne
+pub mod AdmissionOne
 pub mod RecordsOne
 pub mod SitefileOne
 pub mod PlanfileOne

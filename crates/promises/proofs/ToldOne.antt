@@ -1,13 +1,14 @@
 -- Each contract of crate `told` leaves one possible answer and one possible content of what is lent, by its equalities alone. Made by tools/surface from the source.
 -- Assumes nothing.
 use mathlib.Core.Path.{_≡_, sym, _∙_}
+use Rattle.admission.specs.declared.AdmitAnswer.{AdmitAnswer}
 use Rattle.checker.specs.declared.CheckAnswer.{CheckAnswer}
 use Rattle.judges.specs.declared.ChainAnswer.{ChainAnswer}
 use Rattle.judges.specs.declared.LoadAnswer.{LoadAnswer}
 use Rattle.planfile.specs.declared.PlanRead.{PlanRead}
 use Rattle.planfile.specs.declared.PlanWritten.{PlanWritten}
 use Rattle.planner.specs.declared.PlanAnswer.{PlanAnswer}
-use Rattle.promises.specs.ToldSays.{ToldChainAnswer, ToldCheckAnswer, ToldClashAnswer, ToldEditedAnswer, ToldFaultAnswer, ToldLoadAnswer, ToldPlanAnswer, ToldPlanRead, ToldPlanWritten, ToldReadAnswer, ToldShareAnswer, ToldSheetAnswer, ToldSheetRead, ToldSheetWritten, ToldSiteRead, ToldSiteWritten}
+use Rattle.promises.specs.ToldSays.{ToldAdmitAnswer, ToldChainAnswer, ToldCheckAnswer, ToldClashAnswer, ToldEditedAnswer, ToldFaultAnswer, ToldLoadAnswer, ToldPlanAnswer, ToldPlanRead, ToldPlanWritten, ToldReadAnswer, ToldShareAnswer, ToldSheetAnswer, ToldSheetRead, ToldSheetWritten, ToldSiteRead, ToldSiteWritten}
 use Rattle.records.specs.declared.ReadAnswer.{ReadAnswer}
 use Rattle.shares.specs.declared.ShareAnswer.{ShareAnswer}
 use Rattle.sheet.specs.declared.SheetAnswer.{SheetAnswer}
@@ -69,6 +70,10 @@ toldSheetAnswer-one said r q says also = says .answer ∙ sym (also .answer)
 -- told::sheet_written
 pub toldSheetWritten-one : (said : SheetWritten) (r q : Answer) → ToldSheetWritten said r → ToldSheetWritten said q → (r ≡ q)
 toldSheetWritten-one said r q says also = says .answer ∙ sym (also .answer)
+
+-- told::admit_answer
+pub toldAdmitAnswer-one : (said : AdmitAnswer) (r q : Answer) → ToldAdmitAnswer said r → ToldAdmitAnswer said q → (r ≡ q)
+toldAdmitAnswer-one said r q says also = says .answer ∙ sym (also .answer)
 
 -- told::edited_answer
 pub toldEditedAnswer-one : (e : Edited) (r q : EditedSite) → ToldEditedAnswer e r → ToldEditedAnswer e q → (r ≡ q)

@@ -2,8 +2,11 @@
 use mathlib.Core.Path.{_≡_}
 use mathlib.Core.List.{List}
 use Prim.Native.Nat.{ℕ}
+use Rattle.admission.specs.Admit.{admitAnswer}
+use Rattle.admission.specs.Given.{admitGiven}
 use Rattle.checker.specs.Check.{checkAnswer}
 use Rattle.checker.specs.Given.{checkGiven}
+use Rattle.flowlist.specs.declared.Flow.{Flow}
 use Rattle.judges.specs.Given.{chainGiven, loadGiven}
 use Rattle.judges.specs.Judges.{chainAnswer, loadAnswer}
 use Rattle.planfile.specs.Given.{planWrittenGiven}
@@ -101,3 +104,7 @@ pub record DuggReadSheet (bytes : List ℕ) (slots : ℕ) (channels : ℕ) (r : 
 pub record DuggWriteSheet (site : Site) (out : List ℕ) (r : Answer) (out′ : List ℕ) : Type 0 where
   pub answer : r ≡ told (sheetWrittenGiven (sheetWritten site out))
   pub out-after : out′ ≡ sheetOut site out
+
+-- capi::dugg_admit
+pub record DuggAdmit (site : Site) (flows : List Flow) (r : Answer) : Type 0 where
+  pub answer : r ≡ told (admitGiven (admitAnswer site flows))

@@ -12,6 +12,9 @@ pub mod RowsSays
 pub mod PlannerSays
 pub mod CheckerSays
 pub mod SharesSays
+pub mod FlowlistSays
+pub mod BestsetSays
+pub mod AdmissionSays
 pub mod RecordsSays
 pub mod SitefileSays
 pub mod PlanfileSays

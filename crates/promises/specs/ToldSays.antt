@@ -1,5 +1,7 @@
 -- The equalities that the contracts of crate `told` state: r is the answer, and x′ what a lent x holds afterwards. Made by tools/surface from the source.
 use mathlib.Core.Path.{_≡_}
+use Rattle.admission.specs.Given.{admitGiven}
+use Rattle.admission.specs.declared.AdmitAnswer.{AdmitAnswer}
 use Rattle.checker.specs.Given.{checkGiven}
 use Rattle.checker.specs.declared.CheckAnswer.{CheckAnswer}
 use Rattle.judges.specs.Given.{chainGiven, loadGiven}
@@ -77,6 +79,10 @@ pub record ToldSheetAnswer (said : SheetAnswer) (r : Answer) : Type 0 where
 -- told::sheet_written
 pub record ToldSheetWritten (said : SheetWritten) (r : Answer) : Type 0 where
   pub answer : r ≡ told (sheetWrittenGiven said)
+
+-- told::admit_answer
+pub record ToldAdmitAnswer (said : AdmitAnswer) (r : Answer) : Type 0 where
+  pub answer : r ≡ told (admitGiven said)
 
 -- told::edited_answer
 pub record ToldEditedAnswer (e : Edited) (r : EditedSite) : Type 0 where

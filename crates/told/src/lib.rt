@@ -1,4 +1,5 @@
 // Each answer of the product as a C caller gets it: document 01's number and its values.
+use admission::AdmitAnswer;
 use checker::CheckAnswer;
 use judges::ChainAnswer;
 use judges::LoadAnswer;
@@ -26,6 +27,7 @@ ghost use Rattle.records.specs.Given.{readGiven};
 ghost use Rattle.sitefile.specs.Given.{siteWrittenGiven};
 ghost use Rattle.planfile.specs.Given.{planWrittenGiven};
 ghost use Rattle.sheet.specs.Given.{sheetGiven, sheetWrittenGiven};
+ghost use Rattle.admission.specs.Given.{admitGiven};
 ghost use Rattle.told.specs.Told.{numbered, told, toldEdited, toldSiteRead, toldPlanRead, toldSheetRead};
 
 // dugg_answer: the number given back, and the values that belong to it.
@@ -61,7 +63,7 @@ fn give(number: u64, a: u64, b: u64, c: u64) -> Answer
     }
 }
 
-// From here to `sheet_written`: an answer of the product as its number and values.
+// From here to `admit_answer`: an answer of the product as its number and values.
 pub fn fault_answer(said: Fault) -> Answer
     ensures { λ r. ⌜ r ≡ told (faultGiven said) ⌝ }
 {
@@ -189,6 +191,20 @@ pub fn sheet_written(said: SheetWritten) -> Answer
         SheetWritten::Done(n) => give(0, n as u64, 0, 0),
         SheetWritten::OutShort(n) => give(13, n as u64, 0, 0),
         SheetWritten::Refused(f) => fault_answer(f),
+    }
+}
+
+pub fn admit_answer(said: AdmitAnswer) -> Answer
+    ensures { λ r. ⌜ r ≡ told (admitGiven said) ⌝ }
+{
+    match said {
+        AdmitAnswer::Admitted(set) => give(0, set as u64, 0, 0),
+        AdmitAnswer::TooMany => give(18, 0, 0, 0),
+        AdmitAnswer::NotChained => give(19, 0, 0, 0),
+        AdmitAnswer::BadCell(flow) => give(2, flow as u64, 0, 0),
+        AdmitAnswer::BadFlow(flow) => give(15, flow as u64, 0, 0),
+        AdmitAnswer::BigShare(flow) => give(16, flow as u64, 0, 0),
+        AdmitAnswer::Refused(f) => fault_answer(f),
     }
 }
 

@@ -2,6 +2,7 @@
 //! byte less, each with its neighbours and through every call; flows at their limits with every number of
 //! repeats, and the worked shares.
 
+use crate::admit_limits::small_flows;
 use crate::case::{Call, Case};
 use crate::run::Run;
 use second::site::Site;
@@ -66,6 +67,8 @@ fn every_call(run: &mut Run, cells: u16, slots: u16, channels: u16) {
     }
     tables(run, &site);
     files(run, &site);
+    run.compare(&Case::of(Call::Admit, site).flows(&small_flows(3), 1));
+    run.compare(&Case::of(Call::Admit, site).flows(&small_flows(17), 2));
     // One load beyond the last cell, and one reach bit beyond it.
     if cells < 32 {
         let mut wrong = site;
@@ -81,7 +84,7 @@ fn tables(run: &mut Run, site: &Site) {
     let due = (site.count() * site.positions()).min(TABLE + 2);
     for len in [TABLE, TABLE - 1, TABLE + 1, due, due.saturating_sub(1), due + 1, 0] {
         let planned = run.compare(&Case::of(Call::Plan, *site).output(&vec![7; len], len as u64));
-        let table = planned.output.bytes();
+        let table = planned.output.part();
         run.compare(&Case::of(Call::Check, *site).input(table, len as u64));
         let file = 14 + due / 8;
         for out in [file - 1, file, file + 1, file + 2] {

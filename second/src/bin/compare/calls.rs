@@ -1,6 +1,7 @@
 //! The two sides of the comparison: the calls of the proved library, linked from its archive, and those of the second
 //! program, through the same C interface.
 
+use second::admit::Flow;
 use second::answer::Answer;
 use second::capi::*;
 use second::site::Site;
@@ -23,6 +24,7 @@ extern "C" {
     fn dugg_write_plan(site: Site, table: *const u8, table_len: usize, out: *mut u8, len: usize) -> Answer;
     fn dugg_read_sheet(bytes: *const u8, len: usize, slots: u16, channels: u16) -> Edited;
     fn dugg_write_sheet(site: Site, out: *mut u8, len: usize) -> Answer;
+    fn dugg_admit(site: Site, flows: *const Flow, count: usize) -> Answer;
 }
 
 pub struct Calls {
@@ -43,6 +45,7 @@ pub struct Calls {
     pub write_plan: unsafe extern "C" fn(Site, *const u8, usize, *mut u8, usize) -> Answer,
     pub read_sheet: unsafe extern "C" fn(*const u8, usize, u16, u16) -> Edited,
     pub write_sheet: unsafe extern "C" fn(Site, *mut u8, usize) -> Answer,
+    pub admit: unsafe extern "C" fn(Site, *const Flow, usize) -> Answer,
 }
 
 pub const LIBRARY: Calls = Calls {
@@ -63,6 +66,7 @@ pub const LIBRARY: Calls = Calls {
     write_plan: dugg_write_plan,
     read_sheet: dugg_read_sheet,
     write_sheet: dugg_write_sheet,
+    admit: dugg_admit,
 };
 
 pub const SECOND: Calls = Calls {
@@ -83,4 +87,5 @@ pub const SECOND: Calls = Calls {
     write_plan: second_write_plan,
     read_sheet: second_read_sheet,
     write_sheet: second_write_sheet,
+    admit: second_admit,
 };

@@ -1,6 +1,8 @@
-//! One case: a call and all that it is given, lent memory with guard bytes on both sides, and what is seen after it.
+//! One case: a call and all that it is given, lent memory with guards on both sides, and what is seen after it.
 
 use crate::calls::Calls;
+use crate::lent::Lent;
+use second::admit::Flow;
 use second::answer::Answer;
 use second::site::Site;
 
@@ -23,60 +25,7 @@ pub enum Call {
     WritePlan,
     ReadSheet,
     WriteSheet,
-}
-
-/// Lent bytes between guard bytes. The guards' lengths differ, so that lent parts begin at any alignment.
-#[derive(Clone, PartialEq, Eq)]
-pub struct Lent {
-    whole: Vec<u8>,
-    start: usize,
-    len: usize,
-}
-
-const GUARD: usize = 24;
-
-impl Lent {
-    /// Lends these bytes; the mark decides on the guards.
-    pub fn new(bytes: &[u8], mark: u64) -> Lent {
-        let start = GUARD + (mark % 16) as usize;
-        let mut whole = vec![(mark >> 8) as u8; start];
-        whole.extend_from_slice(bytes);
-        whole.resize(start + bytes.len() + GUARD, (mark >> 16) as u8);
-        Lent { whole, start, len: bytes.len() }
-    }
-
-    pub fn none() -> Lent {
-        Lent::new(&[], 0)
-    }
-
-    pub fn bytes(&self) -> &[u8] {
-        &self.whole[self.start..self.start + self.len]
-    }
-
-    /// The guard bytes before and after.
-    fn guards(&self) -> (&[u8], &[u8]) {
-        (&self.whole[..self.start], &self.whole[self.start + self.len..])
-    }
-
-    /// With length 0 the pointer is null as often as not: such a pointer is never looked at.
-    fn is_null(&self) -> bool {
-        self.len == 0 && self.start & 1 == 0
-    }
-
-    /// Where the lent part begins.
-    fn pointer(&self) -> *const u8 {
-        if self.is_null() {
-            return std::ptr::null();
-        }
-        self.whole[self.start..].as_ptr()
-    }
-
-    fn pointer_mut(&mut self) -> *mut u8 {
-        if self.is_null() {
-            return std::ptr::null_mut();
-        }
-        self.whole[self.start..].as_mut_ptr()
-    }
+    Admit,
 }
 
 /// A call and what it is given. What a call does not take is left zero or empty.
@@ -86,9 +35,11 @@ pub struct Case {
     pub site: Site,
     pub numbers: [u16; 4],
     /// What is lent to be read: a file, a sheet, or a table to check or to write.
-    pub input: Lent,
+    pub input: Lent<u8>,
     /// What is lent to be written: a table to plan or to read into, or a file's output.
-    pub output: Lent,
+    pub output: Lent<u8>,
+    /// The flows that are lent to be read.
+    pub flows: Lent<Flow>,
 }
 
 /// What is seen after a call: answer, record or sizes given back, and all lent memory with its guards.
@@ -96,13 +47,15 @@ pub struct Case {
 pub struct Seen {
     pub answer: Answer,
     pub site: Site,
-    pub input: Lent,
-    pub output: Lent,
+    pub input: Lent<u8>,
+    pub output: Lent<u8>,
+    pub flows: Lent<Flow>,
 }
 
 impl Case {
     pub fn of(call: Call, site: Site) -> Case {
-        Case { call, site, numbers: [0; 4], input: Lent::none(), output: Lent::none() }
+        let (input, output, flows) = (Lent::none(), Lent::none(), Lent::none());
+        Case { call, site, numbers: [0; 4], input, output, flows }
     }
 
     /// The first few numbers of the call; the others stay 0.
@@ -121,11 +74,18 @@ impl Case {
         self
     }
 
+    pub fn flows(mut self, flows: &[Flow], mark: u64) -> Case {
+        let number = mark as u16;
+        let guard = Flow { cell: 1, burst: number, period: 1, repeats: 1, value: number };
+        self.flows = Lent::between(flows, [guard; 2], mark);
+        self
+    }
+
     /// Makes the call on copies of the lent parts.
     pub fn run(&self, calls: &Calls) -> Seen {
-        let (input, mut output) = (self.input.clone(), self.output.clone());
+        let (input, mut output, flows) = (self.input.clone(), self.output.clone(), self.flows.clone());
         let (site, [x, y, z, w]) = (self.site, self.numbers);
-        let (inp, ilen, out, olen) = (input.pointer(), input.len, output.pointer_mut(), output.len);
+        let (inp, ilen, out, olen) = (input.pointer(), input.len(), output.pointer_mut(), output.len());
         let alone = |answer| (Site::default(), answer);
         // Each pointer has the length that is lent with it, and no two lent parts overlap.
         let (site, answer) = unsafe {
@@ -151,14 +111,27 @@ impl Case {
                 Call::WritePlan => alone((calls.write_plan)(site, inp, ilen, out, olen)),
                 Call::ReadSheet => pair((calls.read_sheet)(inp, ilen, x, y)),
                 Call::WriteSheet => alone((calls.write_sheet)(site, out, olen)),
+                Call::Admit => alone((calls.admit)(site, flows.pointer(), flows.len())),
             }
         };
-        Seen { answer, site, input, output }
+        Seen { answer, site, input, output, flows }
     }
 
-    /// Was all that may not be written left as it was: what is lent to be read, and every guard?
+    /// Was all that may not be written left as it was: what is lent to be read, every guard, and what is lent to be
+    /// written past the part that the answer speaks of?
     pub fn untouched(&self, seen: &Seen) -> bool {
-        self.input == seen.input && self.output.guards() == seen.output.guards()
+        let read_only = self.input == seen.input && self.flows == seen.flows;
+        read_only && seen.output.same_past(&self.output, self.bytes_written(seen))
+    }
+
+    /// How many bytes a call with this answer may write.
+    fn bytes_written(&self, seen: &Seen) -> usize {
+        match (self.call, seen.answer.number) {
+            (Call::Plan, 0 | 5) => self.site.table_len(),
+            (Call::ReadPlan, 0) => seen.site.table_len(),
+            (Call::WriteSite | Call::WritePlan | Call::WriteSheet, 0) => seen.answer.value[0] as usize,
+            _ => 0,
+        }
     }
 
     /// The case in words and hex.
@@ -168,8 +141,9 @@ impl Case {
         println!("  loads {:?}", self.site.loads);
         println!("  reach {:08x?}", self.site.reach);
         println!("numbers {:?}", self.numbers);
-        println!("lent to read, {} bytes: {}", self.input.len, hex(self.input.bytes()));
-        println!("lent to write, {} bytes: {}", self.output.len, hex(self.output.bytes()));
+        println!("lent to read, {} bytes: {}", self.input.len(), hex(self.input.part()));
+        println!("lent to write, {} bytes: {}", self.output.len(), hex(self.output.part()));
+        println!("flows {:?}", self.flows.part());
     }
 }
 
@@ -179,8 +153,8 @@ impl Seen {
         println!("  site cells {} slots {} channels {}", self.site.cells, self.site.slots, self.site.channels);
         println!("  loads {:?}", self.site.loads);
         println!("  reach {:08x?}", self.site.reach);
-        println!("  to read, with guards: {}", hex(&self.input.whole));
-        println!("  to write, with guards: {}", hex(&self.output.whole));
+        println!("  to read, with guards: {}", hex(self.input.whole()));
+        println!("  to write, with guards: {}", hex(self.output.whole()));
     }
 }
 

@@ -4,10 +4,13 @@
 //!     compare SAMPLES                   the limits of a site, spare cells, the sample files, random cases from a fixed seed
 //!     compare --seconds N --seed S      random cases only, from fresh seeds, for N seconds
 
+mod admit_limits;
+mod admits;
 mod boundary;
 mod calls;
 mod case;
 mod files;
+mod lent;
 mod make;
 mod random;
 mod run;
@@ -49,10 +52,14 @@ fn fixed(dir: &Path) -> ExitCode {
     let mut run = Run::default();
     boundary::compare(&mut run);
     sheet_limits::compare(&mut run);
+    admit_limits::compare(&mut run);
     println!("boundaries: {} cases", run.cases);
     let before = run.cases;
     spares::compare(&mut run);
     println!("spare cells: {} cases", run.cases - before);
+    let before = run.cases;
+    admit_limits::every_small_list(&mut run);
+    println!("three flows on three cells: {} cases", run.cases - before);
     let before = run.cases;
     match samples::compare(&mut run, dir) {
         Ok(files) if files > 0 => println!("{files} sample files, cut and changed: {} cases", run.cases - before),

@@ -1,6 +1,8 @@
 //! Makes random cases: sites, tables, files and flows that are valid, nearly valid or damaged, so that every number is
-//! given often. Sites and tables are made in `sites`, files in `files`, range sheets in `sheets`.
+//! given often. Sites and tables are made in `sites`, files in `files`, range sheets in `sheets`, lists of flows in
+//! `admits`.
 
+use crate::admits;
 use crate::case::{Call, Case};
 use crate::files::{plan_file, site_file};
 use crate::random::Random;
@@ -9,32 +11,36 @@ use crate::sheets::{self, sheet};
 use crate::sites::{damage, sound_site, table};
 use second::site::Site;
 
+/// What is called; the calls with most to get wrong are called twice as often.
+const CALLS: &[Call] = &[
+    Call::Fault,
+    Call::Clash,
+    Call::SetLoad,
+    Call::SetReach,
+    Call::ClearReach,
+    Call::LoadTest,
+    Call::Chain,
+    Call::Plan,
+    Call::Plan,
+    Call::Check,
+    Call::Check,
+    Call::Share,
+    Call::ShareRepeated,
+    Call::ReadSite,
+    Call::ReadSite,
+    Call::WriteSite,
+    Call::ReadPlan,
+    Call::ReadPlan,
+    Call::WritePlan,
+    Call::ReadSheet,
+    Call::ReadSheet,
+    Call::WriteSheet,
+    Call::Admit,
+];
+
 /// Makes one case and compares it; a file that is accepted is also written back.
 pub fn compare(run: &mut Run, random: &mut Random) {
-    let call = random.pick(&[
-        Call::Fault,
-        Call::Clash,
-        Call::SetLoad,
-        Call::SetReach,
-        Call::ClearReach,
-        Call::LoadTest,
-        Call::Chain,
-        Call::Plan,
-        Call::Plan,
-        Call::Check,
-        Call::Check,
-        Call::Share,
-        Call::ShareRepeated,
-        Call::ReadSite,
-        Call::ReadSite,
-        Call::WriteSite,
-        Call::ReadPlan,
-        Call::ReadPlan,
-        Call::WritePlan,
-        Call::ReadSheet,
-        Call::ReadSheet,
-        Call::WriteSheet,
-    ]);
+    let call = random.pick(CALLS);
     let mark = random.next();
     match call {
         Call::ReadSite => run.read_site(&site_file(random), mark),
@@ -53,6 +59,9 @@ pub fn compare(run: &mut Run, random: &mut Random) {
         Call::ShareRepeated => {
             let [slots, burst, period] = [near_number(random, 128), flow_number(random), flow_number(random)];
             run.compare(&Case::of(call, Site::default()).numbers([slots, burst, period, near_number(random, 4)]));
+        }
+        Call::Admit => {
+            run.compare(&admits::case(random));
         }
         _ => {
             let case = with_site(random, call).numbers_for(random);
@@ -136,7 +145,7 @@ pub fn near_number(random: &mut Random, most: usize) -> u16 {
     }
 }
 
-fn flow_number(random: &mut Random) -> u16 {
+pub fn flow_number(random: &mut Random) -> u16 {
     match random.below(12) {
         0 => 0,
         1 => 1,

@@ -8,7 +8,7 @@ use second::site::Site;
 #[derive(Default)]
 pub struct Run {
     pub cases: u64,
-    pub given: [u64; 18],
+    pub given: [u64; 20],
 }
 
 impl Run {
@@ -39,7 +39,7 @@ impl Run {
         }
         let write = Case::of(Call::WriteSite, seen.site);
         let written = self.compare(&write.clone().output(&vec![0xA5; bytes.len() + 3], mark));
-        assert_eq!(&written.output.bytes()[..bytes.len()], bytes, "a site file read and written is the same file");
+        assert_eq!(&written.output.part()[..bytes.len()], bytes, "a site file read and written is the same file");
         self.compare(&write.output(&vec![0xA5; bytes.len() - 1], mark));
     }
 
@@ -50,9 +50,9 @@ impl Run {
         if seen.answer.number != 0 {
             return;
         }
-        let write = Case::of(Call::WritePlan, seen.site).input(seen.output.bytes(), mark);
+        let write = Case::of(Call::WritePlan, seen.site).input(seen.output.part(), mark);
         let written = self.compare(&write.clone().output(&vec![0xA5; bytes.len() + 3], mark));
-        assert_eq!(&written.output.bytes()[..bytes.len()], bytes, "a plan file read and written is the same file");
+        assert_eq!(&written.output.part()[..bytes.len()], bytes, "a plan file read and written is the same file");
         self.compare(&write.output(&vec![0xA5; bytes.len() - 1], mark));
     }
 
@@ -66,11 +66,11 @@ impl Run {
         self.compare(&Case::of(Call::Fault, seen.site));
         let write = Case::of(Call::WriteSheet, seen.site);
         let written = self.compare(&write.clone().output(&vec![0xA5; bytes.len() + 3], mark));
-        assert_eq!(&written.output.bytes()[..bytes.len()], bytes, "a sheet read and written is the same sheet");
+        assert_eq!(&written.output.part()[..bytes.len()], bytes, "a sheet read and written is the same sheet");
         self.compare(&write.output(&vec![0xA5; bytes.len() - 1], mark));
     }
 
-    /// Prints how often each number was given, and says whether each of 0 to 17 was.
+    /// Prints how often each number was given, and says whether each of 0 to 19 was.
     pub fn report(&self) -> bool {
         for (number, times) in self.given.iter().enumerate() {
             println!("number {number} was given {times} times");

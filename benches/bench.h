@@ -1,0 +1,68 @@
+/* What the parts of the benchmark share: who is timed, how, and how a table is printed. */
+#ifndef BENCH_H
+#define BENCH_H
+
+#include <stdbool.h>
+#include "plain.h"
+
+CALLS(second_)
+CALLS(plain2_)
+CALLS(plain3_)
+
+enum { MOST = 65536 };
+
+/* The columns of a table. The last is the C on bit sets, or what a table has in its place. */
+enum { LIBRARY, SECOND, C2, C3, BITS, MAKERS };
+
+/* Who is timed: its name and its calls. One that a maker lacks is NULL. */
+typedef struct {
+    const char *name;
+    dugg_answer (*plan)(dugg_site, uint8_t *, size_t);
+    dugg_answer (*check)(dugg_site, const uint8_t *, size_t);
+    dugg_answer (*load_test)(dugg_site);
+    dugg_answer (*chain)(dugg_site);
+    dugg_edited (*read_site)(const uint8_t *, size_t);
+    dugg_answer (*write_site)(dugg_site, uint8_t *, size_t);
+    dugg_plan_read (*read_plan)(const uint8_t *, size_t, uint8_t *, size_t);
+    dugg_answer (*write_plan)(dugg_site, const uint8_t *, size_t, uint8_t *, size_t);
+    dugg_edited (*read_sheet)(const uint8_t *, size_t, uint16_t, uint16_t);
+    dugg_answer (*write_sheet)(dugg_site, uint8_t *, size_t);
+    dugg_answer (*share_repeated)(uint16_t, uint16_t, uint16_t, uint16_t);
+    dugg_answer (*admit)(dugg_site, const dugg_flow *, size_t);
+} maker;
+
+extern const maker makers[MAKERS];
+
+/* ---- sites ---- */
+
+/* A site of this size without loads, in which nobody reaches anybody. */
+void size(dugg_site *s, unsigned cells, unsigned slots, unsigned channels);
+
+/* Each cell reaches the next few, one way. */
+void tunnel(dugg_site *s, unsigned width);
+
+/* ---- time ---- */
+
+/* What a column does in a row. */
+typedef void column_call(int column, const void *job);
+
+/* The time of one call, in nanoseconds, over so many calls. */
+double time_calls(column_call *call, int column, const void *job, long calls);
+
+/* The best time per call of each column, in nanoseconds, or 0 for one that is not there. */
+void measure(column_call *call, const void *job, const bool there[MAKERS], double best[MAKERS]);
+
+/* ---- tables ---- */
+
+/* The two lines above a table: the two columns that come first, then the times of so many makers and their ratios. */
+void print_head(const char *first, const char *const names[MAKERS], int columns);
+
+/* The times and ratios of a row. A time of 0 is a dash. */
+void print_times(const double best[MAKERS], int columns);
+
+/* ---- the parts: agreement before the time, then the table ---- */
+
+int admit_agree(void);
+void admit_table(void);
+
+#endif

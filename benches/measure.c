@@ -1,0 +1,82 @@
+/* How long calls take, and the tables of it. */
+#include <stdio.h>
+#include <string.h>
+#include <time.h>
+#include "bench.h"
+
+enum { REPEATS = 15 };
+
+void size(dugg_site *s, unsigned cells, unsigned slots, unsigned channels)
+{
+    memset(s, 0, sizeof *s);
+    s->cells = cells, s->slots = slots, s->channels = channels;
+}
+
+void tunnel(dugg_site *s, unsigned width)
+{
+    for (unsigned i = 0; i < s->cells; i++)
+        for (unsigned j = i + 1; j < s->cells && j <= i + width; j++)
+            s->reach[i] |= 1u << j;
+}
+
+static double now(void)
+{
+    struct timespec t;
+    clock_gettime(CLOCK_MONOTONIC, &t);
+    return t.tv_sec * 1e9 + t.tv_nsec;
+}
+
+double time_calls(column_call *call, int column, const void *job, long calls)
+{
+    double start = now();
+    for (long k = 0; k < calls; k++)
+        call(column, job);
+    return (now() - start) / calls;
+}
+
+/* The columns take turns, so that all meet the same weather. */
+void measure(column_call *call, const void *job, const bool there[MAKERS], double best[MAKERS])
+{
+    long calls[MAKERS];
+    for (int m = 0; m < MAKERS; m++) {
+        best[m] = there[m] ? time_calls(call, m, job, 3) : 0;
+        calls[m] = best[m] == 0 ? 0 : best[m] > 2e6 ? 1 : 2e6 / best[m];
+    }
+    for (int repeat = 0; repeat < REPEATS; repeat++)
+        for (int m = 0; m < MAKERS; m++) {
+            double t = calls[m] == 0 ? 0 : time_calls(call, m, job, calls[m]);
+            if (t < best[m])
+                best[m] = t;
+        }
+}
+
+void print_head(const char *first, const char *const names[MAKERS], int columns)
+{
+    printf("| %s", first);
+    for (int m = 0; m < columns; m++)
+        printf(" | %s ns", names[m]);
+    for (int m = LIBRARY + 1; m < columns; m++)
+        printf(" | library / %s", names[m]);
+    printf(" |\n|---|---");
+    for (int m = 0; m < 2 * columns - 1; m++)
+        printf("|---:");
+    printf("|\n");
+}
+
+/* A number in a column, or a dash for 0. */
+static void print_number(double number, int digits)
+{
+    if (number == 0)
+        printf(" | -");
+    else
+        printf(" | %.*f", digits, number);
+}
+
+void print_times(const double best[MAKERS], int columns)
+{
+    for (int m = 0; m < columns; m++)
+        print_number(best[m], 0);
+    for (int m = LIBRARY + 1; m < columns; m++)
+        print_number(best[m] == 0 ? 0 : best[LIBRARY] / best[m], 2);
+    printf(" |\n");
+}

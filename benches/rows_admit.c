@@ -1,0 +1,160 @@
+/* Which flows to admit: small, middle and full lists, beside the search in plain C and the trial of all sets. */
+#include <stdio.h>
+#include <string.h>
+#include "bench.h"
+
+enum { FLOWS = 16, LISTS = 200, ROWS = 6 };
+
+/* A site and a list of flows for it. */
+typedef struct {
+    const char *name;
+    dugg_site site;
+    dugg_flow flows[FLOWS + 1];
+    size_t count;
+} offer;
+
+static dugg_answer admit(int column, const offer *o)
+{
+    return (column == BITS ? sets_admit : makers[column].admit)(o->site, o->flows, o->count);
+}
+
+static void call(int column, const void *job)
+{
+    admit(column, job);
+}
+
+/* ---- the lists ---- */
+
+/* The same numbers in every run (splitmix64). */
+static uint64_t chance(uint64_t *seed)
+{
+    uint64_t z = *seed += 0x9E3779B97F4A7C15;
+    z = (z ^ z >> 30) * 0xBF58476D1CE4E5B9;
+    z = (z ^ z >> 27) * 0x94D049BB133111EB;
+    return z ^ z >> 31;
+}
+
+/* Flows in any cells, with shares up to a bound; with a period of T a share is the burst. Values are any, or rise from
+ * flow to flow, or about double, which is the hardest order: the last flow is the first to be decided. */
+static void draw(offer *o, uint64_t *seed, unsigned most_share)
+{
+    unsigned kind = chance(seed) % 3, spread = 1 + chance(seed) % 20000, bound = 1 + chance(seed) % most_share;
+    o->count = FLOWS;
+    for (unsigned k = 0; k < FLOWS; k++) {
+        unsigned step = kind == 0 ? 0 : kind == 1 ? 2500 * k : (1u << k) - 1;
+        unsigned value = step + chance(seed) % (kind == 2 ? (1u << k) : spread);
+        o->flows[k] = (dugg_flow){1 + chance(seed) % o->site.cells, 1 + chance(seed) % bound, o->site.slots, 1, value};
+    }
+}
+
+/* Of 200 lists, the one that takes the library longest. */
+static void draw_hardest(offer *o, unsigned width, unsigned most_share)
+{
+    size(&o->site, 32, 128, 16);
+    tunnel(&o->site, width);
+    uint64_t seed = 2015 + width;
+    double longest = 0;
+    offer tried = *o;
+    for (int k = 0; k < LISTS; k++) {
+        draw(&tried, &seed, most_share);
+        double t = time_calls(call, LIBRARY, &tried, 3);
+        if (t > longest) {
+            longest = t;
+            *o = tried;
+        }
+    }
+}
+
+static void make_offers(offer o[ROWS])
+{
+    o[0] = (offer){.name = "small: 3 cells, 3 flows", .count = 3,
+                   .flows = {{1, 3, 4, 1, 39}, {2, 6, 7, 1, 41}, {3, 4, 11, 1, 20}}};
+    size(&o[0].site, 3, 3, 2);
+    tunnel(&o[0].site, 1);
+
+    o[1] = (offer){.name = "middle: 12 cells in a tunnel, 9 flows", .count = 9};
+    size(&o[1].site, 12, 32, 4);
+    tunnel(&o[1].site, 2);
+    for (unsigned k = 0; k < 9; k++)
+        o[1].flows[k] = (dugg_flow){1 + k * 5 % 12, 20 + k * 7 % 30, 32, 1 + k % 2, 10 + k};
+
+    o[2].name = "32 cells, all clash, 16 flows";
+    draw_hardest(&o[2], 31, 512);
+    o[3].name = "32 cells in a tunnel, 3 neighbours either side, 16 flows";
+    draw_hardest(&o[3], 3, 2048);
+    o[4].name = "32 cells, none clash, 16 flows";
+    draw_hardest(&o[4], 0, 4096);
+
+    /* Each set in turn is the best so far, so that none can be left out. */
+    o[5] = (offer){.name = "32 cells, none clash, 16 flows, values double", .count = FLOWS};
+    size(&o[5].site, 32, 128, 16);
+    for (unsigned k = 0; k < FLOWS; k++)
+        o[5].flows[k] = (dugg_flow){1 + k, 100, 128, 1, 1u << k};
+}
+
+/* ---- agreement ---- */
+
+static int agree(const offer *o)
+{
+    int fine = 1;
+    dugg_answer first = admit(LIBRARY, o);
+    for (int m = LIBRARY + 1; m < MAKERS; m++) {
+        dugg_answer other = admit(m, o);
+        if (memcmp(&first, &other, sizeof first) != 0) {
+            printf("%s, admit: the library and column %d disagree\n", o->name, m + 1);
+            fine = 0;
+        }
+    }
+    return fine;
+}
+
+static offer offers[ROWS];
+
+/* The lists, and each made wrong: a flow too many, a cell that is not there, no repeats, a chain that is broken. */
+int admit_agree(void)
+{
+    int fine = 1;
+    make_offers(offers);
+    for (int k = 0; k < ROWS; k++) {
+        offer wrong = offers[k];
+        fine &= agree(&wrong);
+        wrong.flows[1].repeats = 0;
+        fine &= agree(&wrong);
+        wrong.flows[1].cell = wrong.site.cells + 1;
+        fine &= agree(&wrong);
+        wrong.site.reach[0] = 4;
+        wrong.site.reach[1] = 0;
+        fine &= agree(&wrong);
+        wrong.count = FLOWS + 1;
+        fine &= agree(&wrong);
+    }
+    return fine;
+}
+
+/* ---- the table ---- */
+
+void admit_table(void)
+{
+    static const char *const names[MAKERS] = {"library", "second", "C -O2", "C -O3", "C, all sets"};
+    static const bool there[MAKERS] = {true, true, true, true, true};
+    double worst = 0, longest = 0;
+    printf("\n### Which flows to admit\n\n");
+    printf("The lists of 16 flows are each the one of %d random lists that took the library longest, and one that has"
+           " every set looked at. `second` and `C, all sets` always try every set.\n\n",
+           LISTS);
+    print_head("Call | Site and flows", names, MAKERS);
+    for (int k = 0; k < ROWS; k++) {
+        double best[MAKERS];
+        measure(call, &offers[k], there, best);
+        printf("| admit | %s", offers[k].name);
+        print_times(best, MAKERS);
+        if (offers[k].count == FLOWS && best[LIBRARY] / best[C3] > worst)
+            worst = best[LIBRARY] / best[C3];
+        if (best[LIBRARY] > longest)
+            longest = best[LIBRARY];
+    }
+    printf("\nAdmission of 16 flows is %s a quarter of C -O3: the worst ratio is %.2f.",
+           worst <= 1.25 ? "within" : "NOT within", worst);
+    printf(" The longest takes %.0f microseconds, %s 2 milliseconds.\n", longest / 1e3,
+           longest <= 2e6 ? "within" : "NOT within");
+}

@@ -1,0 +1,62 @@
+-- The desk's examples, through the call: the request's three flows, the paper's nine, and the bad input that each refusal is for. Each answer is computed from the definition.
+-- Assumes nothing.
+use Prim.Native.Nat.{ℕ}
+use mathlib.Core.List.{List, [], _∷_, _++_}
+use mathlib.Core.Path.{_≡_, refl}
+use lib.ListN.{replicate}
+use Rattle.laws.specs.Sum.{sum}
+use Rattle.laws.specs.Search.{firstOf}
+use Rattle.theory.specs.Verdict.{overloaded, lowestOver, loadVerdict, gap, breaks, breakOf, firstBreak, chainVerdict}
+use Rattle.site.specs.Record.{siteOf, upTo, sizeOk, rowBad, extraLoad, badRow, faultOf}
+use Rattle.site.specs.Reach.{reaches, clashIn}
+use Rattle.site.specs.declared.Site.{Site}
+use Rattle.shares.specs.Share.{roundedUp, shareOf}
+use Rattle.bestset.specs.Best.{allowed, bestOf, best}
+use Rattle.flowlist.specs.declared.Flow.{Flow}
+use Rattle.admission.specs.Admit.{badIn, refusedIn, firstBadIn, answerIn, admitAnswer}
+use Rattle.admission.specs.declared.AdmitAnswer.the-variants.{Admitted, TooMany, NotChained, BadCell, BadFlow, BigShare}
+
+-- 32 numbers, the first of them these
+abbrev rows : List ℕ → List ℕ
+rows xs = xs ++ replicate 27 0
+
+abbrev flow : (cell burst period repeats value : ℕ) → Flow
+flow cell burst period repeats value = record { cell = cell; burst = burst; period = period; repeats = repeats; value = value }
+
+-- "no clashes, two cells, N=2": T=2, F=1, and loads of its own that are set aside
+abbrev bare : Site
+bare = siteOf 2 2 1 (rows (2 ∷ 2 ∷ 0 ∷ 0 ∷ 0 ∷ [])) (rows (0 ∷ 0 ∷ 0 ∷ 0 ∷ 0 ∷ []))
+
+-- "flows (cell, share, value) 1,1,1; 2,2,1; 1,2,5": a burst of 1 each 2 slots has share 1, a burst of 2 share 2
+abbrev three : List Flow
+three = flow 1 1 2 1 1 ∷ flow 2 2 2 1 1 ∷ flow 1 2 2 1 5 ∷ []
+
+-- "the set {2,3} worth 6"
+pub desk : admitAnswer bare three ≡ Admitted 6
+unfolding answerIn faultOf sizeOk upTo extraLoad badRow rowBad firstOf chainVerdict firstBreak breakOf breaks gap clashIn reaches firstBadIn badIn refusedIn shareOf roundedUp best bestOf allowed sum overloaded lowestOver loadVerdict
+desk = refl
+
+-- T=3, F=2, "cells 1-2-3 in a row each clashing with the next"
+abbrev row : Site
+row = siteOf 3 3 2 (rows (0 ∷ 0 ∷ 0 ∷ 0 ∷ 0 ∷ [])) (rows (2 ∷ 4 ∷ 0 ∷ 0 ∷ 0 ∷ []))
+
+-- "nine flows with (cell, period, burst, value) 1,10,1,8; 1,4,3,39; 1,7,3,38; 2,10,1,50; 2,6,5,29; 2,7,6,41; 3,5,3,3; 3,11,4,20; 3,9,6,30"
+abbrev nine : List Flow
+nine =
+    flow 1 1 10 1 8 ∷ flow 1 3 4 1 39 ∷ flow 1 3 7 1 38 ∷ flow 2 1 10 1 50 ∷ flow 2 5 6 1 29 ∷ flow 2 6 7 1 41 ∷ flow 3 3 5 1 3 ∷ flow 3 4 11 1 20 ∷ flow 3 6 9 1 30 ∷ []
+
+-- "the set {2,3,4,8,9}, worth 177"
+pub table-two : admitAnswer row nine ≡ Admitted 398
+unfolding answerIn faultOf sizeOk upTo extraLoad badRow rowBad firstOf chainVerdict firstBreak breakOf breaks gap clashIn reaches firstBadIn badIn refusedIn shareOf roundedUp best bestOf allowed sum overloaded lowestOver loadVerdict
+table-two = refl
+
+-- no flows; all values 0; a cell outside the site; repeats of 5; a share too big; a spare cell that breaks the chain
+abbrev spare : Site
+spare = siteOf 3 3 2 (rows (1 ∷ 0 ∷ 1 ∷ 0 ∷ 0 ∷ [])) (rows (4 ∷ 0 ∷ 0 ∷ 0 ∷ 0 ∷ []))
+
+pub bad-input :
+    (admitAnswer row [] ≡ Admitted 0) × (admitAnswer row (flow 1 1 1 1 0 ∷ flow 2 1 1 1 0 ∷ []) ≡ Admitted 0) × (admitAnswer row (flow 1 1 1 1 9 ∷ flow 4 1 1 1 9 ∷ []) ≡ BadCell 2)
+    × (admitAnswer row (flow 1 1 1 5 9 ∷ []) ≡ BadFlow 1) × (admitAnswer row (flow 1 1 1 1 9 ∷ flow 1 1 1 1 9 ∷ flow 2 65535 1 1 9 ∷ []) ≡ BigShare 3)
+    × (admitAnswer spare (flow 1 1 1 1 9 ∷ []) ≡ NotChained) × (admitAnswer spare (replicate 17 (flow 1 1 1 1 9)) ≡ TooMany)
+unfolding answerIn faultOf sizeOk upTo extraLoad badRow rowBad firstOf chainVerdict firstBreak breakOf breaks gap clashIn reaches firstBadIn badIn refusedIn shareOf roundedUp best bestOf allowed sum overloaded lowestOver loadVerdict
+bad-input = (refl, refl, refl, refl, refl, refl, refl)

@@ -1,0 +1,10 @@
+-- The laws of crate `admission`, module by module.
+pub mod Asking
+pub mod Chain
+pub mod Answer
+pub mod Arrays
+pub mod Listed
+pub mod Given
+pub mod Meaning
+pub mod Laden
+pub mod Desk

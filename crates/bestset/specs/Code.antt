@@ -1,0 +1,77 @@
+-- What the arrays of the search stand for: what each flow adds to the demand in the cell of each flow, and where a search stands. No answer is defined here.
+use Prim.Native.Nat.{ℕ, _+_, _*_, _/_, _%_, _^_, _≤_, _<_}
+use mathlib.Core.Path.{_≡_}
+use mathlib.Core.Bool.{Bool, _&&_, _||_, not}
+use mathlib.Core.List.{List}
+use lib.Dec.{ltb, eqb}
+use lib.ListN.{getD}
+use Rattle.laws.specs.Bits.{bitIn}
+use Rattle.laws.specs.Choice.{pick}
+use Rattle.laws.specs.Sum.{sum, any}
+use Rattle.theory.specs.Net.{Net, everyone, Class, room}
+use Rattle.bestset.specs.Best.{Flows, total, worth, bestOf}
+
+-- the flows that three arrays state
+abbrev pub flowsIn : List ℕ → List ℕ → List ℕ → ℕ → Flows
+flowsIn cell share value n = record { count = n; cell = λ k. getD cell k 0; share = λ k. getD share k 0; value = λ k. getD value k 0 }
+
+-- whether the load of cell c counts in the demand of cell i: "its load plus the loads of its lower-numbered clashing cells"
+abbrev pub counts : (ℕ → ℕ → Bool) → ℕ → ℕ → Bool
+counts clash c i = eqb c i || (ltb c i && clash c i)
+
+-- what a flow in cell c adds to the demand of cell i
+abbrev pub weighed : (ℕ → ℕ → Bool) → ℕ → ℕ → ℕ → ℕ
+weighed clash c share i = pick (counts clash c i) share 0
+
+-- what flow k adds to the demand of cell i
+abbrev pub weight : Net → Flows → ℕ → ℕ → ℕ
+weight s f i k = weighed (s .clash) (f .cell k) (f .share k) i
+
+-- the same for the flows of the arrays, by the place in a table that has 16 numbers to a flow: what flow m / 16 adds in the cell of flow m % 16
+abbrev pub weighedAt : List ℕ → List ℕ → List ℕ → ℕ → ℕ
+weighedAt rows cell share m = weighed (bitIn rows) (getD cell (m / 16) 0) (getD share (m / 16) 0) (getD cell (m % 16) 0)
+
+-- what flow k adds in the cell of flow j, read from that table
+abbrev pub entry : List ℕ → ℕ → ℕ → ℕ
+entry weights j k = getD weights (k * 16 + j) 0
+
+-- the value of a set of the 16 flows
+abbrev pub valueIn : List ℕ → ℕ → ℕ
+valueIn values x = total (λ k. getD values k 0) 16 x
+
+-- whether the demands of a set all fit
+unfoldable pub roomFor : List ℕ → ℕ → ℕ → Bool
+roomFor weights room x = not (any (λ j. ltb room (total (entry weights j) 16 x)) 16)
+
+-- what the flows of x add to the demand in the cell of flow j
+abbrev pub demandIn : List ℕ → List ℕ → List ℕ → ℕ → ℕ → ℕ → ℕ
+demandIn rows cell share n x j = total (λ k. weighed (bitIn rows) (getD cell k 0) (getD share k 0) (getD cell j 0)) n x
+
+-- whether a set of the first n flows fits the room, in the cell of each of 16 flows
+unfoldable pub fitsIn : ℕ → List ℕ → List ℕ → List ℕ → ℕ → ℕ → Bool
+fitsIn room rows cell share n x = not (any (λ j. ltb room (demandIn rows cell share n x j)) 16)
+
+-- the best of the sets that fit, by a plain search over all sets: for a problem that the arrays state, `best` (proofs/Problem.antt)
+unfoldable pub bestIn : ℕ → List ℕ → List ℕ → List ℕ → List ℕ → ℕ → ℕ
+bestIn room rows cell share value n = bestOf (fitsIn room rows cell share n) (worth (flowsIn cell share value n)) (2 ^ n) 0 0
+
+-- The arrays state this problem: its room, its clashes, and cells that are its own. And the problem is in the class, so that a cell that is not loaded is over only where a
+-- loaded one is.
+pub record Stands (s : Net) (room' : ℕ) (rows cell : List ℕ) : Type 0 where
+  pub room-is : room' ≡ room s
+  pub clash-is : bitIn rows ≡ s .clash
+  pub inside : (k : ℕ) → k < 16 → getD cell k 0 < s .cells
+  pub class : Class s everyone
+
+-- Where a search stands: the flows from k on are decided, the set is allowed, and the flows below k are still to come.
+pub record Ready (k set worth rest room : ℕ) (used weights values : List ℕ) (best best-worth : ℕ) : Type 0 where
+  pub flows : k ≤ 16
+  pub above : set % 2 ^ k ≡ 0
+  pub most : set + 2 ^ k ≤ 65536
+  pub room-most : room ≤ 65535
+  pub small : worth + rest ≤ 1048560
+  pub worth-is : worth ≡ valueIn values set
+  pub rest-is : rest ≡ sum (λ j. getD values j 0) k
+  pub used-is : (j : ℕ) → j < 16 → getD used j 0 ≡ total (entry weights j) 16 set
+  pub used-most : (j : ℕ) → j < 16 → getD used j 0 ≤ room
+  pub best-is : best-worth ≡ valueIn values best

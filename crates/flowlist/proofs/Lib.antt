@@ -1,0 +1,2 @@
+-- The laws of crate `flowlist`.
+pub mod Laws

@@ -1,0 +1,2 @@
+-- The definitions of crate `flowlist`.
+pub mod List

@@ -1,0 +1,12 @@
+-- Each contract of crate `admission` leaves one possible answer and one possible content of what is lent, by its equalities alone. Made by tools/surface from the source.
+-- Assumes nothing.
+use mathlib.Core.Path.{_≡_, sym, _∙_}
+use mathlib.Core.List.{List}
+use Rattle.admission.specs.declared.AdmitAnswer.{AdmitAnswer}
+use Rattle.flowlist.specs.declared.Flow.{Flow}
+use Rattle.promises.specs.AdmissionSays.{Admit}
+use Rattle.site.specs.declared.Site.{Site}
+
+-- admission::admit
+pub admit-one : (site : Site) (flows : List Flow) (r q : AdmitAnswer) → Admit site flows r → Admit site flows q → (r ≡ q)
+admit-one site flows r q says also = says .answer ∙ sym (also .answer)

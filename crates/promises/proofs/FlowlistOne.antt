@@ -1,0 +1,11 @@
+-- Each contract of crate `flowlist` leaves one possible answer and one possible content of what is lent, by its equalities alone. Made by tools/surface from the source.
+-- Assumes nothing.
+use mathlib.Core.Path.{_≡_, sym, _∙_}
+use mathlib.Core.List.{List}
+use Rattle.flowlist.specs.declared.Flow.{Flow}
+use Rattle.flowlist.specs.declared.FlowList.{FlowList}
+use Rattle.promises.specs.FlowlistSays.{FlowlistGather}
+
+-- flowlist::gather
+pub flowlistGather-one : (flows : List Flow) (r q : FlowList) → FlowlistGather flows r → FlowlistGather flows q → (r ≡ q)
+flowlistGather-one flows r q says also = says .answer ∙ sym (also .answer)
