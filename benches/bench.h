@@ -29,11 +29,21 @@ typedef struct {
     dugg_answer (*write_sheet)(dugg_site, uint8_t *, size_t);
     dugg_answer (*share_repeated)(uint16_t, uint16_t, uint16_t, uint16_t);
     dugg_answer (*admit)(dugg_site, const dugg_flow *, size_t);
+    dugg_answer (*plan_words)(dugg_site, uint32_t *, size_t);
+    dugg_answer (*check_words)(dugg_site, const uint32_t *, size_t);
+    dugg_answer (*to_words)(dugg_site, const uint8_t *, size_t, uint32_t *, size_t);
+    dugg_answer (*to_bytes)(dugg_site, const uint32_t *, size_t, uint8_t *, size_t);
 } maker;
 
 extern const maker makers[MAKERS];
 
 /* ---- sites ---- */
+
+/* The sites of the tables. From TUNNEL on they are of the largest size. */
+enum { P1, MIDDLE_TUNNEL, MIDDLE_ALL, TUNNEL, ALL_CLASH, NONE_CLASH, MIXED, NONE_MIXED, NAMED_SITES };
+
+const char *site_name(int site);
+dugg_site site_of(int site);
 
 /* A site of this size without loads, in which nobody reaches anybody. */
 void size(dugg_site *s, unsigned cells, unsigned slots, unsigned channels);
@@ -64,5 +74,7 @@ void print_times(const double best[MAKERS], int columns);
 
 int admit_agree(void);
 void admit_table(void);
+int words_agree(void);
+void words_table(void);
 
 #endif

@@ -8,10 +8,12 @@
 
 enum { SITES = 5 };
 
+static const int sites[SITES] = {P1, MIDDLE_TUNNEL, MIDDLE_ALL, TUNNEL, ALL_CLASH};
+
 #define MAKER(name, P)                                                                                                \
-    {name,          P##plan,      P##check,      P##load_test,  P##chain,       P##read_site,                         \
-     P##write_site, P##read_plan, P##write_plan, P##read_sheet, P##write_sheet, P##share_repeated,                    \
-     P##admit}
+    {name,           P##plan,        P##check,      P##load_test,  P##chain,       P##read_site,                      \
+     P##write_site,  P##read_plan,   P##write_plan, P##read_sheet, P##write_sheet, P##share_repeated,                 \
+     P##admit,       P##plan_words,  P##check_words, P##to_words,  P##to_bytes}
 
 const maker makers[MAKERS] = {
     [LIBRARY] = MAKER("library", dugg_),
@@ -95,46 +97,12 @@ static void run(const maker *m, int operation, const work *w, left *l)
 
 /* ---- the sites ---- */
 
+/* The bursts, periods and repeats of a flow on each. */
+static const uint16_t flows[SITES][3] = {{3, 4, 2}, {40, 500, 2}, {1000, 777, 3}, {65535, 1024, 4}, {65535, 65535, 4}};
+
 static void flow(work *w, unsigned burst, unsigned period, unsigned repeats)
 {
     w->burst = burst, w->period = period, w->repeats = repeats;
-}
-
-static void make_sites(work w[SITES])
-{
-    w[0].name = "small: P1";
-    size(&w[0].site, 3, 3, 2);
-    flow(&w[0], 3, 4, 2);
-    w[0].site.loads[0] = 5, w[0].site.loads[1] = 1, w[0].site.loads[2] = 4;
-    w[0].site.reach[1] = 5;
-
-    w[1].name = "middle: tunnel, 2 neighbours either side";
-    size(&w[1].site, 12, 32, 4);
-    flow(&w[1], 40, 500, 2);
-    tunnel(&w[1].site, 2);
-    for (unsigned i = 0; i < 12; i++)
-        w[1].site.loads[i] = (const uint16_t[]){50, 40, 38}[i % 3];
-
-    w[2].name = "middle: all clash, just full";
-    size(&w[2].site, 16, 50, 7);
-    flow(&w[2], 1000, 777, 3);
-    tunnel(&w[2].site, 15);
-    for (unsigned i = 0; i < 16; i++)
-        w[2].site.loads[i] = i < 14 ? 22 : 21;
-
-    w[3].name = "largest: tunnel, 3 neighbours either side, just full";
-    size(&w[3].site, 32, 128, 16);
-    flow(&w[3], 65535, 1024, 4);
-    tunnel(&w[3].site, 3);
-    for (unsigned i = 0; i < 32; i++)
-        w[3].site.loads[i] = (const uint16_t[]){700, 500, 448, 400}[i % 4];
-
-    w[4].name = "largest: all clash, just full";
-    size(&w[4].site, 32, 128, 16);
-    flow(&w[4], 65535, 65535, 4);
-    tunnel(&w[4].site, 31);
-    for (unsigned i = 0; i < 32; i++)
-        w[4].site.loads[i] = 64;
 }
 
 static bool largest(const work *w)
@@ -281,16 +249,18 @@ static void table_of(const work *w, double worst[MAKERS], double *sheet)
 int main(void)
 {
     static work w[SITES];
-    make_sites(w);
     int fine = 1;
     for (int k = 0; k < SITES; k++) {
+        w[k].name = site_name(sites[k]);
+        w[k].site = site_of(sites[k]);
+        flow(&w[k], flows[k][0], flows[k][1], flows[k][2]);
         if (make_files(&w[k]) != 0) {
             printf("%s: has no plan\n", w[k].name);
             return 1;
         }
         fine &= agree(&w[k]) & agree_when_wrong(&w[k]);
     }
-    fine &= admit_agree();
+    fine &= admit_agree() & words_agree();
     if (!fine)
         return 1;
     printf("All gave the same answers and the same bytes on these inputs before they were timed.\n");
@@ -298,6 +268,7 @@ int main(void)
     for (int k = 0; k < SITES; k++)
         table_of(&w[k], worst, &sheet);
     admit_table();
+    words_table();
     printf("\nPlan and check on the largest sites are %s a quarter of C -O3: the worst ratio is %.2f.\n",
            worst[C3] <= 1.25 ? "within" : "NOT within", worst[C3]);
     printf("\nReading and writing the sheets of the largest sites take %s twice the time of C -O3: the worst ratio is %.2f.\n",

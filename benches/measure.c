@@ -1,23 +1,9 @@
 /* How long calls take, and the tables of it. */
 #include <stdio.h>
-#include <string.h>
 #include <time.h>
 #include "bench.h"
 
 enum { REPEATS = 15 };
-
-void size(dugg_site *s, unsigned cells, unsigned slots, unsigned channels)
-{
-    memset(s, 0, sizeof *s);
-    s->cells = cells, s->slots = slots, s->channels = channels;
-}
-
-void tunnel(dugg_site *s, unsigned width)
-{
-    for (unsigned i = 0; i < s->cells; i++)
-        for (unsigned j = i + 1; j < s->cells && j <= i + width; j++)
-            s->reach[i] |= 1u << j;
-}
 
 static double now(void)
 {

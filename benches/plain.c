@@ -159,13 +159,6 @@ dugg_answer NAME(plan)(dugg_site site, uint8_t *table, size_t len)
     return answer(0, 0, 0, 0);
 }
 
-/* Adds one cell's reservations to the words of all positions. */
-static void gather(uint32_t *restrict words, const uint8_t *restrict row, size_t n, unsigned cell)
-{
-    for (size_t p = 0; p < n; p++)
-        words[p] |= (uint32_t)(row[p] == 1) << cell;
-}
-
 static unsigned count(const uint8_t *row, size_t n)
 {
     unsigned ones = 0;

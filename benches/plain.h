@@ -23,7 +23,11 @@
     dugg_answer P##write_plan(dugg_site site, const uint8_t *table, size_t table_len, uint8_t *out, size_t len);      \
     dugg_edited P##read_sheet(const uint8_t *bytes, size_t len, uint16_t slots, uint16_t channels);                   \
     dugg_answer P##write_sheet(dugg_site site, uint8_t *out, size_t len);                                             \
-    dugg_answer P##admit(dugg_site site, const dugg_flow *flows, size_t count);
+    dugg_answer P##admit(dugg_site site, const dugg_flow *flows, size_t count);                                       \
+    dugg_answer P##plan_words(dugg_site site, uint32_t *words, size_t count);                                         \
+    dugg_answer P##check_words(dugg_site site, const uint32_t *words, size_t count);                                  \
+    dugg_answer P##to_words(dugg_site site, const uint8_t *table, size_t len, uint32_t *words, size_t count);         \
+    dugg_answer P##to_bytes(dugg_site site, const uint32_t *words, size_t count, uint8_t *table, size_t len);
 
 /* The name of a call in a file that is compiled with -DPREFIX=name_ . */
 #define JOIN(a, b) a##b

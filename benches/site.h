@@ -1,5 +1,5 @@
-/* What the plain C and the C on bit sets share: the answer, the faults of a site record, who clashes with whom, and
- * the share of a flow.
+/* What the plain C and the C on bit sets share: the answer, the faults of a site record, who clashes with whom, the
+ * share of a flow, and the words of a table.
  * Inside, cells are counted from 0; in answers they are numbered from 1. */
 #ifndef SITE_H
 #define SITE_H
@@ -68,6 +68,13 @@ static inline dugg_answer share_of(unsigned slots, unsigned burst, unsigned peri
     if (repeats * once > 65535)
         return answer(16, 0, 0, 0);
     return answer(0, repeats * once, burst + once, slots + (work + once - 1) / once);
+}
+
+/* Adds one cell's reservations to the words of all positions. */
+static inline void gather(uint32_t *restrict words, const uint8_t *restrict row, size_t n, unsigned cell)
+{
+    for (size_t p = 0; p < n; p++)
+        words[p] |= (uint32_t)(row[p] == 1) << cell;
 }
 
 #endif

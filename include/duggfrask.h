@@ -7,7 +7,7 @@
  *    2  a load beyond the last cell (value: lowest such cell), or a load edit of a cell that is not there (the cell)
  *    3  a reach row or bit beyond the last cell, or of a cell to itself (value: lowest row); or an edit or a pair that
  *       names a cell that is not there, or one cell twice (in an edit the value is its "from")
- *    4  the lent table is too short
+ *    4  the lent table is too short, or too few words are lent
  *    5  the planner finds no room (values: cell, fragments short)
  *    6  two clashing cells transmit at one position (values: position, first cell, second cell)
  *    7  a cell has the wrong number of reservations (values: cell, its count)
@@ -89,6 +89,24 @@ dugg_answer dugg_plan(dugg_site site, uint8_t *table, size_t len);
 /* Is the finished table valid for the site? A byte that is 1 means transmit, any other is silence. Refusal 6 gives the
  * lowest position with a clash and the two cells; refusal 7 the lowest cell with a wrong count, and its count. */
 dugg_answer dugg_check(dugg_site site, const uint8_t *table, size_t len);
+
+/* A table as words: one for each position, slots * channels of them, position after position. Bit i-1 of a word is set
+ * when cell i transmits there. Bits past the last cell are read as silence and written as 0. "count" is the number of
+ * words lent; too few are refusal 4, and words past slots * channels are not written. */
+
+/* Plans the site into words. The answer is that of dugg_plan, and the words are those of its table. Refusal 5 leaves
+ * the slots * channels words 0. */
+dugg_answer dugg_plan_words(dugg_site site, uint32_t *words, size_t count);
+
+/* Are the words a valid table for the site? The answer is that of dugg_check for the bytes of the words. */
+dugg_answer dugg_check_words(dugg_site site, const uint32_t *words, size_t count);
+
+/* Writes a table as words: a byte that is 1 sets its bit, any other does not. */
+dugg_answer dugg_to_words(dugg_site site, const uint8_t *table, size_t len, uint32_t *words, size_t count);
+
+/* Writes words as a table: 1 where a cell transmits and 0 elsewhere. Bytes past cells * slots * channels are not
+ * written. */
+dugg_answer dugg_to_bytes(dugg_site site, const uint32_t *words, size_t count, uint8_t *table, size_t len);
 
 /* What a flow needs, from its burst in fragments and its period in slots, each fragment sent once. Done: its share in
  * fragments per superframe, its queue bound in fragments, its delay bound in slots. */

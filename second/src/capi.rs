@@ -4,7 +4,7 @@ use crate::admit::Flow;
 use crate::answer::{done, Answer, Outcome};
 use crate::share::{Fragments, Repeats, Share, Slots};
 use crate::site::Site;
-use crate::{admit, checker, files, judge, planner, share, sheet};
+use crate::{admit, checker, files, judge, planner, share, sheet, words};
 
 #[repr(C)]
 #[derive(Clone, Copy, Debug, PartialEq, Eq)]
@@ -180,4 +180,44 @@ pub unsafe extern "C" fn second_write_sheet(site: Site, out: *mut u8, len: usize
 #[no_mangle]
 pub unsafe extern "C" fn second_admit(site: Site, flows: *const Flow, count: usize) -> Answer {
     answer(admit::admit(&site, lent(flows, count)), |set| [set as u64])
+}
+
+/// # Safety
+/// `words` has `count` words.
+#[no_mangle]
+pub unsafe extern "C" fn second_plan_words(site: Site, words: *mut u32, count: usize) -> Answer {
+    answer(words::plan_words(&site, lent_out(words, count)), |()| [])
+}
+
+/// # Safety
+/// `words` has `count` words.
+#[no_mangle]
+pub unsafe extern "C" fn second_check_words(site: Site, words: *const u32, count: usize) -> Answer {
+    answer(words::check_words(&site, lent(words, count)), |()| [])
+}
+
+/// # Safety
+/// `table` has `len` bytes, `words` has `count` words, and they do not overlap.
+#[no_mangle]
+pub unsafe extern "C" fn second_to_words(
+    site: Site,
+    table: *const u8,
+    len: usize,
+    words: *mut u32,
+    count: usize,
+) -> Answer {
+    answer(words::to_words(&site, lent(table, len), lent_out(words, count)), |()| [])
+}
+
+/// # Safety
+/// `words` has `count` words, `table` has `len` bytes, and they do not overlap.
+#[no_mangle]
+pub unsafe extern "C" fn second_to_bytes(
+    site: Site,
+    words: *const u32,
+    count: usize,
+    table: *mut u8,
+    len: usize,
+) -> Answer {
+    answer(words::to_bytes(&site, lent(words, count), lent_out(table, len)), |()| [])
 }

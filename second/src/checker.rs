@@ -4,27 +4,32 @@ use crate::answer::{refuse, Outcome};
 use crate::planner::{table_fits, RESERVED};
 use crate::site::Site;
 
-/// Is the table valid for the site? Refusal 6 comes before refusal 7.
+/// Is the table valid for the site?
 pub fn check(site: &Site, table: &[u8]) -> Outcome<()> {
     site.sound()?;
     table_fits(site, table.len())?;
-    no_clash(site, table)?;
-    counts_right(site, table)
+    judge(site, |cell, position| transmits(site, table, cell, position))
 }
 
-fn transmits(site: &Site, table: &[u8], cell: usize, position: usize) -> bool {
+pub fn transmits(site: &Site, table: &[u8], cell: usize, position: usize) -> bool {
     table[(cell - 1) * site.positions() + position] == RESERVED
 }
 
+/// Are the transmissions, by cell and position, valid for the site? Refusal 6 comes before refusal 7.
+pub fn judge(site: &Site, sends: impl Fn(usize, usize) -> bool) -> Outcome<()> {
+    no_clash(site, &sends)?;
+    counts_right(site, &sends)
+}
+
 /// Refusal 6: the lowest position with a clash; there the pair with the lowest first cell, then second.
-fn no_clash(site: &Site, table: &[u8]) -> Outcome<()> {
+fn no_clash(site: &Site, sends: impl Fn(usize, usize) -> bool) -> Outcome<()> {
     for position in 0..site.positions() {
         for first in 1..=site.count() {
-            if !transmits(site, table, first, position) {
+            if !sends(first, position) {
                 continue;
             }
             for second in first + 1..=site.count() {
-                if transmits(site, table, second, position) && site.clash(first, second) {
+                if sends(second, position) && site.clash(first, second) {
                     return refuse(6, &[position as u64, first as u64, second as u64]);
                 }
             }
@@ -34,10 +39,9 @@ fn no_clash(site: &Site, table: &[u8]) -> Outcome<()> {
 }
 
 /// Refusal 7: the lowest cell that does not hold 1 exactly as often as its load, and how often it does.
-fn counts_right(site: &Site, table: &[u8]) -> Outcome<()> {
+fn counts_right(site: &Site, sends: impl Fn(usize, usize) -> bool) -> Outcome<()> {
     for cell in 1..=site.count() {
-        let held = (0..site.positions()).filter(|&position| transmits(site, table, cell, position));
-        let count = held.count() as u64;
+        let count = (0..site.positions()).filter(|&position| sends(cell, position)).count() as u64;
         if count != site.load(cell) {
             return refuse(7, &[cell as u64, count]);
         }

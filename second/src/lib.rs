@@ -12,3 +12,4 @@ pub mod planner;
 pub mod share;
 pub mod sheet;
 pub mod site;
+pub mod words;

@@ -2,17 +2,12 @@
 
 mod common;
 
-use common::site;
+use common::{p1, p4, site, table};
 use second::answer::{refuse, Outcome};
 use second::checker::check;
 use second::judge::{chain, load_test};
 use second::planner::plan;
 use second::site::Site;
-
-/// A table from its rows, a digit for each position.
-fn table(rows: &str) -> Vec<u8> {
-    rows.bytes().filter(u8::is_ascii_digit).map(|digit| digit - b'0').collect()
-}
 
 fn planned(site: &Site) -> Outcome<Vec<u8>> {
     let mut table = vec![9; site.table_len()];
@@ -23,14 +18,6 @@ fn planned(site: &Site) -> Outcome<Vec<u8>> {
             Err(refusal)
         }
     }
-}
-
-fn p1(loads: &[u16]) -> Site {
-    site(3, 2, loads, &[(2, 1), (2, 3)])
-}
-
-fn p4() -> Site {
-    site(2, 1, &[1, 1, 1, 1], &[(1, 3), (2, 4), (3, 4)])
 }
 
 fn p6(loads: &[u16]) -> Site {

@@ -18,6 +18,10 @@ ghost use Rattle.planner.specs.Plan.{planAnswer, planTable};
 ghost use Rattle.planner.specs.Given.{planGiven};
 ghost use Rattle.checker.specs.Check.{checkAnswer};
 ghost use Rattle.checker.specs.Given.{checkGiven};
+ghost use Rattle.wordtable.specs.Plan.{planWordsAnswer, planWords};
+ghost use Rattle.wordtable.specs.Check.{checkWordsAnswer};
+ghost use Rattle.wordtable.specs.Forms.{formAnswer, toWords, toBytes};
+ghost use Rattle.wordtable.specs.Given.{formGiven};
 ghost use Rattle.shares.specs.Share.{shareOf, defaultRepeats};
 ghost use Rattle.shares.specs.Given.{shareGiven};
 ghost use Rattle.sitefile.specs.Read.{readSite};
@@ -96,6 +100,37 @@ pub extern "C" fn dugg_check(site: Site, table: &[u8]) -> Answer
     ensures { λ r. ⌜ r ≡ told (checkGiven (checkAnswer site (now (table .entry)))) ⌝ }
 {
     told::check_answer(checker::check(site, table))
+}
+
+#[no_mangle]
+pub extern "C" fn dugg_plan_words(site: Site, words: &mut [u32]) -> Answer
+    ensures { λ r. ⌜ r ≡ told (planGiven (planWordsAnswer site (now (words .entry)))) ⌝ }
+    ensures { λ _. ⌜ now (words .exit) ≡ planWords site (now (words .entry)) ⌝ }
+{
+    told::plan_answer(wordtable::plan_words(site, words))
+}
+
+#[no_mangle]
+pub extern "C" fn dugg_check_words(site: Site, words: &[u32]) -> Answer
+    ensures { λ r. ⌜ r ≡ told (checkGiven (checkWordsAnswer site (now (words .entry)))) ⌝ }
+{
+    told::check_answer(wordtable::check_words(site, words))
+}
+
+#[no_mangle]
+pub extern "C" fn dugg_to_words(site: Site, table: &[u8], words: &mut [u32]) -> Answer
+    ensures { λ r. ⌜ r ≡ told (formGiven (formAnswer site (now (table .entry)) (now (words .entry)))) ⌝ }
+    ensures { λ _. ⌜ now (words .exit) ≡ toWords site (now (table .entry)) (now (words .entry)) ⌝ }
+{
+    told::form_answer(wordtable::to_words(site, table, words))
+}
+
+#[no_mangle]
+pub extern "C" fn dugg_to_bytes(site: Site, words: &[u32], table: &mut [u8]) -> Answer
+    ensures { λ r. ⌜ r ≡ told (formGiven (formAnswer site (now (table .entry)) (now (words .entry)))) ⌝ }
+    ensures { λ _. ⌜ now (table .exit) ≡ toBytes site (now (words .entry)) (now (table .entry)) ⌝ }
+{
+    told::form_answer(wordtable::to_bytes(site, words, table))
 }
 
 #[no_mangle]

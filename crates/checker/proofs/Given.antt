@@ -49,7 +49,7 @@ pub check-apart : (a b : CheckAnswer) → checkProper a ≡ true → checkProper
 check-apart a b p q e = sym (read-back a p) ∙ ap readBack e ∙ read-back b q
 
 -- no call answers a refusal with no fault
-verdict-proper : (v : TableVerdict) → checkProper (verdictOf v) ≡ true
+pub verdict-proper : (v : TableVerdict) → checkProper (verdictOf v) ≡ true
 unfolding verdictOf
 verdict-proper valid = refl
 verdict-proper (clash k a c) = refl

@@ -150,3 +150,8 @@ shares-any p n row =
     bit-and (wordOf p n) row j ∙ ap (λ b. b && bitAt row j) (word-bit p n j h)))
     ∙ ap not (word-empty (λ c. p c && bitAt row c) n)
     ∙ Bool·not-not (any (λ c. p c && bitAt row c) n)
+
+-- the word of a test that is asked only where t holds
+pub word-gate : (t : Bool) (p : ℕ → Bool) (n : ℕ) → wordOf (λ i. t && p i) n ≡ pick t (wordOf p n) 0
+word-gate true p n = refl
+word-gate false p n = none-word (λ _. false) n (λ _ _. refl)

@@ -44,7 +44,7 @@ pub plan-apart : (a b : PlanAnswer) → planProper a ≡ true → planProper b �
 plan-apart a b p q e = sym (read-back a p) ∙ ap readBack e ∙ read-back b q
 
 -- no call answers a refusal with no fault
-run-proper : (o : Outcome) → planProper (answerOf o) ≡ true
+pub run-proper : (o : Outcome) → planProper (answerOf o) ≡ true
 run-proper (planned t) = refl
 run-proper (noRoom c m) = refl
 

@@ -4,7 +4,7 @@ use mathlib.Core.Path.{_≡_, sym, _∙_}
 use mathlib.Core.List.{List}
 use Prim.Native.Nat.{ℕ}
 use Rattle.flowlist.specs.declared.Flow.{Flow}
-use Rattle.promises.specs.CapiSays.{DuggAdmit, DuggChain, DuggCheck, DuggClash, DuggClearReach, DuggFault, DuggLoadTest, DuggPlan, DuggReadPlan, DuggReadSheet, DuggReadSite, DuggSetLoad, DuggSetReach, DuggShare, DuggShareRepeated, DuggWritePlan, DuggWriteSheet, DuggWriteSite}
+use Rattle.promises.specs.CapiSays.{DuggAdmit, DuggChain, DuggCheck, DuggCheckWords, DuggClash, DuggClearReach, DuggFault, DuggLoadTest, DuggPlan, DuggPlanWords, DuggReadPlan, DuggReadSheet, DuggReadSite, DuggSetLoad, DuggSetReach, DuggShare, DuggShareRepeated, DuggToBytes, DuggToWords, DuggWritePlan, DuggWriteSheet, DuggWriteSite}
 use Rattle.site.specs.declared.Site.{Site}
 use Rattle.told.specs.declared.Answer.{Answer}
 use Rattle.told.specs.declared.EditedSite.{EditedSite}
@@ -45,6 +45,22 @@ duggPlan-one site table r q table′ table″ says also = (says .answer ∙ sym 
 -- capi::dugg_check
 pub duggCheck-one : (site : Site) (table : List ℕ) (r q : Answer) → DuggCheck site table r → DuggCheck site table q → (r ≡ q)
 duggCheck-one site table r q says also = says .answer ∙ sym (also .answer)
+
+-- capi::dugg_plan_words
+pub duggPlanWords-one : (site : Site) (words : List ℕ) (r q : Answer) (words′ words″ : List ℕ) → DuggPlanWords site words r words′ → DuggPlanWords site words q words″ → (r ≡ q) × (words′ ≡ words″)
+duggPlanWords-one site words r q words′ words″ says also = (says .answer ∙ sym (also .answer), says .words-after ∙ sym (also .words-after))
+
+-- capi::dugg_check_words
+pub duggCheckWords-one : (site : Site) (words : List ℕ) (r q : Answer) → DuggCheckWords site words r → DuggCheckWords site words q → (r ≡ q)
+duggCheckWords-one site words r q says also = says .answer ∙ sym (also .answer)
+
+-- capi::dugg_to_words
+pub duggToWords-one : (site : Site) (table : List ℕ) (words : List ℕ) (r q : Answer) (words′ words″ : List ℕ) → DuggToWords site table words r words′ → DuggToWords site table words q words″ → (r ≡ q) × (words′ ≡ words″)
+duggToWords-one site table words r q words′ words″ says also = (says .answer ∙ sym (also .answer), says .words-after ∙ sym (also .words-after))
+
+-- capi::dugg_to_bytes
+pub duggToBytes-one : (site : Site) (words : List ℕ) (table : List ℕ) (r q : Answer) (table′ table″ : List ℕ) → DuggToBytes site words table r table′ → DuggToBytes site words table q table″ → (r ≡ q) × (table′ ≡ table″)
+duggToBytes-one site words table r q table′ table″ says also = (says .answer ∙ sym (also .answer), says .table-after ∙ sym (also .table-after))
 
 -- capi::dugg_share
 pub duggShare-one : (slots : ℕ) (burst : ℕ) (period : ℕ) (r q : Answer) → DuggShare slots burst period r → DuggShare slots burst period q → (r ≡ q)

@@ -8,6 +8,7 @@ pub mod Demand3
 pub mod Files
 pub mod Sheets
 pub mod Admission
+pub mod Words
 pub mod InC
 pub mod SquareOne
 pub mod SiteOne
@@ -17,6 +18,8 @@ pub mod JudgesOne
 pub mod RowsOne
 pub mod PlannerOne
 pub mod CheckerOne
+pub mod StretchesOne
+pub mod WordtableOne
 pub mod SharesOne
 pub mod FlowlistOne
 pub mod BestsetOne

@@ -8,7 +8,7 @@ use Rattle.judges.specs.declared.LoadAnswer.{LoadAnswer}
 use Rattle.planfile.specs.declared.PlanRead.{PlanRead}
 use Rattle.planfile.specs.declared.PlanWritten.{PlanWritten}
 use Rattle.planner.specs.declared.PlanAnswer.{PlanAnswer}
-use Rattle.promises.specs.ToldSays.{ToldAdmitAnswer, ToldChainAnswer, ToldCheckAnswer, ToldClashAnswer, ToldEditedAnswer, ToldFaultAnswer, ToldLoadAnswer, ToldPlanAnswer, ToldPlanRead, ToldPlanWritten, ToldReadAnswer, ToldShareAnswer, ToldSheetAnswer, ToldSheetRead, ToldSheetWritten, ToldSiteRead, ToldSiteWritten}
+use Rattle.promises.specs.ToldSays.{ToldAdmitAnswer, ToldChainAnswer, ToldCheckAnswer, ToldClashAnswer, ToldEditedAnswer, ToldFaultAnswer, ToldFormAnswer, ToldLoadAnswer, ToldPlanAnswer, ToldPlanRead, ToldPlanWritten, ToldReadAnswer, ToldShareAnswer, ToldSheetAnswer, ToldSheetRead, ToldSheetWritten, ToldSiteRead, ToldSiteWritten}
 use Rattle.records.specs.declared.ReadAnswer.{ReadAnswer}
 use Rattle.shares.specs.declared.ShareAnswer.{ShareAnswer}
 use Rattle.sheet.specs.declared.SheetAnswer.{SheetAnswer}
@@ -22,6 +22,7 @@ use Rattle.sitefile.specs.declared.SiteWritten.{SiteWritten}
 use Rattle.told.specs.declared.Answer.{Answer}
 use Rattle.told.specs.declared.EditedSite.{EditedSite}
 use Rattle.told.specs.declared.PlanReadC.{PlanReadC}
+use Rattle.wordtable.specs.declared.FormAnswer.{FormAnswer}
 
 -- told::fault_answer
 pub toldFaultAnswer-one : (said : Fault) (r q : Answer) → ToldFaultAnswer said r → ToldFaultAnswer said q → (r ≡ q)
@@ -46,6 +47,10 @@ toldPlanAnswer-one said r q says also = says .answer ∙ sym (also .answer)
 -- told::check_answer
 pub toldCheckAnswer-one : (said : CheckAnswer) (r q : Answer) → ToldCheckAnswer said r → ToldCheckAnswer said q → (r ≡ q)
 toldCheckAnswer-one said r q says also = says .answer ∙ sym (also .answer)
+
+-- told::form_answer
+pub toldFormAnswer-one : (said : FormAnswer) (r q : Answer) → ToldFormAnswer said r → ToldFormAnswer said q → (r ≡ q)
+toldFormAnswer-one said r q says also = says .answer ∙ sym (also .answer)
 
 -- told::share_answer
 pub toldShareAnswer-one : (said : ShareAnswer) (r q : Answer) → ToldShareAnswer said r → ToldShareAnswer said q → (r ≡ q)

@@ -4,7 +4,15 @@ use mathlib.Core.Path.{_≡_, sym, _∙_}
 use mathlib.Core.Bool.{Bool}
 use mathlib.Core.List.{List}
 use Prim.Native.Nat.{ℕ}
-use Rattle.promises.specs.WordsSays.{WordsFirstIn, WordsHas, WordsJoinRow, WordsLowest, WordsSecondIn, WordsWordAt}
+use Rattle.promises.specs.WordsSays.{WordsAddRow, WordsFirstIn, WordsHas, WordsJoinRow, WordsLay, WordsLowest, WordsSecondIn, WordsWordAt}
+
+-- words::lay
+pub wordsLay-one : (words : List ℕ) (from : ℕ) (m : ℕ) (word : ℕ) (words′ words″ : List ℕ) → WordsLay words from m word words′ → WordsLay words from m word words″ → (words′ ≡ words″)
+wordsLay-one words from m word words′ words″ says also = says .words-after ∙ sym (also .words-after)
+
+-- words::add_row
+pub wordsAddRow-one : (words : List ℕ) (table : List ℕ) (from : ℕ) (n : ℕ) (bit : ℕ) (words′ words″ : List ℕ) → WordsAddRow words table from n bit words′ → WordsAddRow words table from n bit words″ → (words′ ≡ words″)
+wordsAddRow-one words table from n bit words′ words″ says also = says .words-after ∙ sym (also .words-after)
 
 -- words::join_row
 pub wordsJoinRow-one : (words : List ℕ) (marks : List ℕ) (table : List ℕ) (from : ℕ) (n : ℕ) (bit : ℕ) (row : ℕ) (words′ words″ : List ℕ) (marks′ marks″ : List ℕ) → WordsJoinRow words marks table from n bit row words′ marks′ → WordsJoinRow words marks table from n bit row words″ marks″ → (words′ ≡ words″) × (marks′ ≡ marks″)

@@ -31,6 +31,10 @@ use Rattle.told.specs.Told.{told, toldEdited, toldPlanRead, toldSheetRead, told
 use Rattle.told.specs.declared.Answer.{Answer}
 use Rattle.told.specs.declared.EditedSite.{EditedSite}
 use Rattle.told.specs.declared.PlanReadC.{PlanReadC}
+use Rattle.wordtable.specs.Check.{checkWordsAnswer}
+use Rattle.wordtable.specs.Forms.{formAnswer, toBytes, toWords}
+use Rattle.wordtable.specs.Given.{formGiven}
+use Rattle.wordtable.specs.Plan.{planWords, planWordsAnswer}
 
 -- capi::dugg_fault
 pub record DuggFault (site : Site) (r : Answer) : Type 0 where
@@ -68,6 +72,25 @@ pub record DuggPlan (site : Site) (table : List ℕ) (r : Answer) (table′ : Li
 -- capi::dugg_check
 pub record DuggCheck (site : Site) (table : List ℕ) (r : Answer) : Type 0 where
   pub answer : r ≡ told (checkGiven (checkAnswer site table))
+
+-- capi::dugg_plan_words
+pub record DuggPlanWords (site : Site) (words : List ℕ) (r : Answer) (words′ : List ℕ) : Type 0 where
+  pub answer : r ≡ told (planGiven (planWordsAnswer site words))
+  pub words-after : words′ ≡ planWords site words
+
+-- capi::dugg_check_words
+pub record DuggCheckWords (site : Site) (words : List ℕ) (r : Answer) : Type 0 where
+  pub answer : r ≡ told (checkGiven (checkWordsAnswer site words))
+
+-- capi::dugg_to_words
+pub record DuggToWords (site : Site) (table : List ℕ) (words : List ℕ) (r : Answer) (words′ : List ℕ) : Type 0 where
+  pub answer : r ≡ told (formGiven (formAnswer site table words))
+  pub words-after : words′ ≡ toWords site table words
+
+-- capi::dugg_to_bytes
+pub record DuggToBytes (site : Site) (words : List ℕ) (table : List ℕ) (r : Answer) (table′ : List ℕ) : Type 0 where
+  pub answer : r ≡ told (formGiven (formAnswer site table words))
+  pub table-after : table′ ≡ toBytes site words table
 
 -- capi::dugg_share
 pub record DuggShare (slots : ℕ) (burst : ℕ) (period : ℕ) (r : Answer) : Type 0 where

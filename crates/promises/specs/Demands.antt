@@ -21,6 +21,10 @@ Accepted s = faultGiven (faultOf s) ≡ done
 abbrev pub LongEnough : Site → List ℕ → Type 0
 LongEnough s table = size s ≤ length table
 
+-- the same of words: W6, "refusal 4 when fewer than N words are lent"
+abbrev pub WordsEnough : Site → List ℕ → Type 0
+WordsEnough s words = positions s ≤ length words
+
 -- "Definition 1 (Valid Schedule)" of 000, word for word over a site and its table. Condition 1: where a cell transmits, no cell that it clashes with does, whichever is the
 -- lower. Condition 2: each cell transmits as often as its load says.
 pub record DefinitionOne (s : Site) (t : List ℕ) : Type 0 where

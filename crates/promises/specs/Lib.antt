@@ -11,6 +11,8 @@ pub mod JudgesSays
 pub mod RowsSays
 pub mod PlannerSays
 pub mod CheckerSays
+pub mod StretchesSays
+pub mod WordtableSays
 pub mod SharesSays
 pub mod FlowlistSays
 pub mod BestsetSays

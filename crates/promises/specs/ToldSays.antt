@@ -31,6 +31,8 @@ use Rattle.told.specs.Told.{told, toldEdited, toldPlanRead, toldSheetRead, told
 use Rattle.told.specs.declared.Answer.{Answer}
 use Rattle.told.specs.declared.EditedSite.{EditedSite}
 use Rattle.told.specs.declared.PlanReadC.{PlanReadC}
+use Rattle.wordtable.specs.Given.{formGiven}
+use Rattle.wordtable.specs.declared.FormAnswer.{FormAnswer}
 
 -- told::fault_answer
 pub record ToldFaultAnswer (said : Fault) (r : Answer) : Type 0 where
@@ -55,6 +57,10 @@ pub record ToldPlanAnswer (said : PlanAnswer) (r : Answer) : Type 0 where
 -- told::check_answer
 pub record ToldCheckAnswer (said : CheckAnswer) (r : Answer) : Type 0 where
   pub answer : r ≡ told (checkGiven said)
+
+-- told::form_answer
+pub record ToldFormAnswer (said : FormAnswer) (r : Answer) : Type 0 where
+  pub answer : r ≡ told (formGiven said)
 
 -- told::share_answer
 pub record ToldShareAnswer (said : ShareAnswer) (r : Answer) : Type 0 where

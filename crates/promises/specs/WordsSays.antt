@@ -11,6 +11,14 @@ use Rattle.words.specs.Clashes.{firstIn, secondIn}
 use Rattle.words.specs.Words.{joinedAt, markedAt, wordAt}
 use lib.Seq.{sets}
 
+-- words::lay
+pub record WordsLay (words : List ℕ) (from : ℕ) (m : ℕ) (word : ℕ) (words′ : List ℕ) : Type 0 where
+  pub words-after : words′ ≡ sets words from (listOf (λ _. word) m)
+
+-- words::add_row
+pub record WordsAddRow (words : List ℕ) (table : List ℕ) (from : ℕ) (n : ℕ) (bit : ℕ) (words′ : List ℕ) : Type 0 where
+  pub words-after : words′ ≡ sets words 0 (listOf (joinedAt words table from bit) n)
+
 -- words::join_row
 pub record WordsJoinRow (words : List ℕ) (marks : List ℕ) (table : List ℕ) (from : ℕ) (n : ℕ) (bit : ℕ) (row : ℕ) (words′ : List ℕ) (marks′ : List ℕ) : Type 0 where
   pub words-after : words′ ≡ sets words 0 (listOf (joinedAt words table from bit) n)

@@ -8,18 +8,17 @@
 use mathlib.Core.Path.{_≡_, refl, sym, ap, _∙_}
 use mathlib.Core.Bool.{Bool, true, false, _&&_}
 use mathlib.Core.List.{List, [], _∷_, _++_, append-assoc}
-use mathlib.Core.Logic.{⊎-elim}
 use Prim.Native.Nat.{ℕ, zero, suc, _+_, _-_, _≤_, _<_}
 use native.Mathlib.Omega.{arith}
-use native.Mathlib.Nat.{add-zero, zero-add, not-suc-le-zero, le-of-suc-le-suc, eq-or-lt-of-le}
+use native.Mathlib.Nat.{add-zero, zero-add}
 use lib.Dec.{eqb, ltb}
 use lib.ListN.{length, getD, take, drop, take-append-drop, length-append}
 use lib.Seq.{ext-getD, take-add, take-at, drop-at, length-take-le, drop-drop}
 use borrow.Author.Tests.{lt-ltb, eqb-true}
 use Rattle.laws.specs.Choice.{pick}
-use Rattle.laws.specs.Sum.{bit, sum, count}
+use Rattle.laws.specs.Sum.{bit, count}
 use Rattle.laws.specs.Part.{part, put}
-use Rattle.laws.proofs.Sums.{count-most}
+use Rattle.laws.proofs.Sums.{count-most, count-below}
 use Rattle.theory.specs.Greedy.{fill, unmet}
 use Rattle.theory.proofs.Row.{fill-length, fill-at, unmet-count}
 use Rattle.theory.proofs.Loops.{filling, fill-zero, unmet-stop}
@@ -58,15 +57,6 @@ unmet-append u k (suc l) (b ∷ x) y =
     (unmet-append u (suc k) (suc l) x y))
 
 -- ---- fragments for every idle position
-
-count-below : (f : ℕ → Bool) (p n : ℕ) → p < n → f p ≡ true → count f p < count f n
-unfolding sum
-count-below f p zero h e = absurd (not-suc-le-zero h)
-count-below f p (suc n) h e =
-    ⊎-elim
-    (λ q. let one : bit (f n) ≡ 1 = ap bit (ap f (sym q) ∙ e) in let same : count f p ≡ count f n = ap (count f) q in omega arith)
-    (λ q. omega (arith, count-below f p n q e))
-    (eq-or-lt-of-le (le-of-suc-le-suc h))
 
 sure : (f t : Bool) (w : ℕ) → (f ≡ true → t ≡ true) → pick (f && t) 1 w ≡ pick f 1 w
 sure true t w h = rw (h refl)

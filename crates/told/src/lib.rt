@@ -17,11 +17,13 @@ use site::Fault;
 use site::Site;
 use sitefile::SiteRead;
 use sitefile::SiteWritten;
+use wordtable::FormAnswer;
 ghost use mathlib.Core.Path.{_≡_};
 ghost use Rattle.site.specs.Given.{faultGiven, clashGiven};
 ghost use Rattle.judges.specs.Given.{loadGiven, chainGiven};
 ghost use Rattle.planner.specs.Given.{planGiven};
 ghost use Rattle.checker.specs.Given.{checkGiven};
+ghost use Rattle.wordtable.specs.Given.{formGiven};
 ghost use Rattle.shares.specs.Given.{shareGiven};
 ghost use Rattle.records.specs.Given.{readGiven};
 ghost use Rattle.sitefile.specs.Given.{siteWrittenGiven};
@@ -125,6 +127,16 @@ pub fn check_answer(said: CheckAnswer) -> Answer
         CheckAnswer::Clash(position, a, c) => give(6, position as u64, a as u64, c as u64),
         CheckAnswer::Count(cell, count) => give(7, cell as u64, count as u64, 0),
         CheckAnswer::Refused(f) => fault_answer(f),
+    }
+}
+
+pub fn form_answer(said: FormAnswer) -> Answer
+    ensures { λ r. ⌜ r ≡ told (formGiven said) ⌝ }
+{
+    match said {
+        FormAnswer::Done => give(0, 0, 0, 0),
+        FormAnswer::TableShort => give(4, 0, 0, 0),
+        FormAnswer::Refused(f) => fault_answer(f),
     }
 }
 

@@ -1,4 +1,5 @@
-//! Sites and tables for the examples.
+//! Sites and tables of the examples.
+#![allow(dead_code)]
 
 use second::site::Site;
 
@@ -10,4 +11,17 @@ pub fn site(slots: usize, channels: usize, loads: &[u16], pairs: &[(usize, usize
         site = site.with_reach(from, to, true).unwrap();
     }
     site
+}
+
+/// A table from its rows, a digit for each position.
+pub fn table(rows: &str) -> Vec<u8> {
+    rows.bytes().filter(u8::is_ascii_digit).map(|digit| digit - b'0').collect()
+}
+
+pub fn p1(loads: &[u16]) -> Site {
+    site(3, 2, loads, &[(2, 1), (2, 3)])
+}
+
+pub fn p4() -> Site {
+    site(2, 1, &[1, 1, 1, 1], &[(1, 3), (2, 4), (3, 4)])
 }

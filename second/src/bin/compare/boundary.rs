@@ -7,9 +7,9 @@ use crate::case::{Call, Case};
 use crate::run::Run;
 use second::site::Site;
 
-const CELLS: [u16; 6] = [0, 1, 31, 32, 33, 65_535];
-const SLOTS: [u16; 6] = [0, 1, 127, 128, 129, 65_535];
-const CHANNELS: [u16; 6] = [0, 1, 15, 16, 17, 65_535];
+pub const CELLS: [u16; 6] = [0, 1, 31, 32, 33, 65_535];
+pub const SLOTS: [u16; 6] = [0, 1, 127, 128, 129, 65_535];
+pub const CHANNELS: [u16; 6] = [0, 1, 15, 16, 17, 65_535];
 const REPEATS: [u16; 7] = [0, 1, 2, 3, 4, 5, 65_535];
 const TABLE: usize = 65_536;
 

@@ -25,6 +25,10 @@ extern "C" {
     fn dugg_read_sheet(bytes: *const u8, len: usize, slots: u16, channels: u16) -> Edited;
     fn dugg_write_sheet(site: Site, out: *mut u8, len: usize) -> Answer;
     fn dugg_admit(site: Site, flows: *const Flow, count: usize) -> Answer;
+    fn dugg_plan_words(site: Site, words: *mut u32, count: usize) -> Answer;
+    fn dugg_check_words(site: Site, words: *const u32, count: usize) -> Answer;
+    fn dugg_to_words(site: Site, table: *const u8, len: usize, words: *mut u32, count: usize) -> Answer;
+    fn dugg_to_bytes(site: Site, words: *const u32, count: usize, table: *mut u8, len: usize) -> Answer;
 }
 
 pub struct Calls {
@@ -46,6 +50,10 @@ pub struct Calls {
     pub read_sheet: unsafe extern "C" fn(*const u8, usize, u16, u16) -> Edited,
     pub write_sheet: unsafe extern "C" fn(Site, *mut u8, usize) -> Answer,
     pub admit: unsafe extern "C" fn(Site, *const Flow, usize) -> Answer,
+    pub plan_words: unsafe extern "C" fn(Site, *mut u32, usize) -> Answer,
+    pub check_words: unsafe extern "C" fn(Site, *const u32, usize) -> Answer,
+    pub to_words: unsafe extern "C" fn(Site, *const u8, usize, *mut u32, usize) -> Answer,
+    pub to_bytes: unsafe extern "C" fn(Site, *const u32, usize, *mut u8, usize) -> Answer,
 }
 
 pub const LIBRARY: Calls = Calls {
@@ -67,6 +75,10 @@ pub const LIBRARY: Calls = Calls {
     read_sheet: dugg_read_sheet,
     write_sheet: dugg_write_sheet,
     admit: dugg_admit,
+    plan_words: dugg_plan_words,
+    check_words: dugg_check_words,
+    to_words: dugg_to_words,
+    to_bytes: dugg_to_bytes,
 };
 
 pub const SECOND: Calls = Calls {
@@ -88,4 +100,8 @@ pub const SECOND: Calls = Calls {
     read_sheet: second_read_sheet,
     write_sheet: second_write_sheet,
     admit: second_admit,
+    plan_words: second_plan_words,
+    check_words: second_check_words,
+    to_words: second_to_words,
+    to_bytes: second_to_bytes,
 };

@@ -4,6 +4,7 @@ use crate::calls::Calls;
 use crate::lent::Lent;
 use second::admit::Flow;
 use second::answer::Answer;
+use second::capi::{Edited, PlanRead};
 use second::site::Site;
 
 #[derive(Clone, Copy, Debug, PartialEq, Eq)]
@@ -26,6 +27,10 @@ pub enum Call {
     ReadSheet,
     WriteSheet,
     Admit,
+    PlanWords,
+    CheckWords,
+    ToWords,
+    ToBytes,
 }
 
 /// A call and what it is given. What a call does not take is left zero or empty.
@@ -40,6 +45,8 @@ pub struct Case {
     pub output: Lent<u8>,
     /// The flows that are lent to be read.
     pub flows: Lent<Flow>,
+    /// The words that are lent, to be read or to be written.
+    pub words: Lent<u32>,
 }
 
 /// What is seen after a call: answer, record or sizes given back, and all lent memory with its guards.
@@ -50,12 +57,13 @@ pub struct Seen {
     pub input: Lent<u8>,
     pub output: Lent<u8>,
     pub flows: Lent<Flow>,
+    pub words: Lent<u32>,
 }
 
 impl Case {
     pub fn of(call: Call, site: Site) -> Case {
-        let (input, output, flows) = (Lent::none(), Lent::none(), Lent::none());
-        Case { call, site, numbers: [0; 4], input, output, flows }
+        let (input, output, flows, words) = (Lent::none(), Lent::none(), Lent::none(), Lent::none());
+        Case { call, site, numbers: [0; 4], input, output, flows, words }
     }
 
     /// The first few numbers of the call; the others stay 0.
@@ -81,11 +89,18 @@ impl Case {
         self
     }
 
+    pub fn words(mut self, words: &[u32], mark: u64) -> Case {
+        self.words = Lent::between(words, [(mark >> 8) as u32, (mark >> 16) as u32], mark);
+        self
+    }
+
     /// Makes the call on copies of the lent parts.
     pub fn run(&self, calls: &Calls) -> Seen {
-        let (input, mut output, flows) = (self.input.clone(), self.output.clone(), self.flows.clone());
+        let (input, mut output) = (self.input.clone(), self.output.clone());
+        let (flows, mut words) = (self.flows.clone(), self.words.clone());
         let (site, [x, y, z, w]) = (self.site, self.numbers);
         let (inp, ilen, out, olen) = (input.pointer(), input.len(), output.pointer_mut(), output.len());
+        let (read, write, count) = (words.pointer(), words.pointer_mut(), words.len());
         let alone = |answer| (Site::default(), answer);
         // Each pointer has the length that is lent with it, and no two lent parts overlap.
         let (site, answer) = unsafe {
@@ -103,33 +118,43 @@ impl Case {
                 Call::ShareRepeated => alone((calls.share_repeated)(x, y, z, w)),
                 Call::ReadSite => pair((calls.read_site)(inp, ilen)),
                 Call::WriteSite => alone((calls.write_site)(site, out, olen)),
-                Call::ReadPlan => {
-                    let read = (calls.read_plan)(inp, ilen, out, olen);
-                    let (cells, slots, channels) = (read.cells, read.slots, read.channels);
-                    (Site { cells, slots, channels, ..Site::default() }, read.answer)
-                }
+                Call::ReadPlan => sizes((calls.read_plan)(inp, ilen, out, olen)),
                 Call::WritePlan => alone((calls.write_plan)(site, inp, ilen, out, olen)),
                 Call::ReadSheet => pair((calls.read_sheet)(inp, ilen, x, y)),
                 Call::WriteSheet => alone((calls.write_sheet)(site, out, olen)),
                 Call::Admit => alone((calls.admit)(site, flows.pointer(), flows.len())),
+                Call::PlanWords => alone((calls.plan_words)(site, write, count)),
+                Call::CheckWords => alone((calls.check_words)(site, read, count)),
+                Call::ToWords => alone((calls.to_words)(site, inp, ilen, write, count)),
+                Call::ToBytes => alone((calls.to_bytes)(site, read, count, out, olen)),
             }
         };
-        Seen { answer, site, input, output, flows }
+        Seen { answer, site, input, output, flows, words }
     }
 
     /// Was all that may not be written left as it was: what is lent to be read, every guard, and what is lent to be
     /// written past the part that the answer speaks of?
     pub fn untouched(&self, seen: &Seen) -> bool {
         let read_only = self.input == seen.input && self.flows == seen.flows;
-        read_only && seen.output.same_past(&self.output, self.bytes_written(seen))
+        read_only
+            && seen.output.same_past(&self.output, self.bytes_written(seen))
+            && seen.words.same_past(&self.words, self.words_written(seen))
     }
 
     /// How many bytes a call with this answer may write.
     fn bytes_written(&self, seen: &Seen) -> usize {
         match (self.call, seen.answer.number) {
-            (Call::Plan, 0 | 5) => self.site.table_len(),
+            (Call::Plan, 0 | 5) | (Call::ToBytes, 0) => self.site.table_len(),
             (Call::ReadPlan, 0) => seen.site.table_len(),
             (Call::WriteSite | Call::WritePlan | Call::WriteSheet, 0) => seen.answer.value[0] as usize,
+            _ => 0,
+        }
+    }
+
+    /// How many words a call with this answer may write.
+    fn words_written(&self, seen: &Seen) -> usize {
+        match (self.call, seen.answer.number) {
+            (Call::PlanWords, 0 | 5) | (Call::ToWords, 0) => self.site.positions(),
             _ => 0,
         }
     }
@@ -144,6 +169,7 @@ impl Case {
         println!("lent to read, {} bytes: {}", self.input.len(), hex(self.input.part()));
         println!("lent to write, {} bytes: {}", self.output.len(), hex(self.output.part()));
         println!("flows {:?}", self.flows.part());
+        println!("words {:08x?}", self.words.part());
     }
 }
 
@@ -155,11 +181,17 @@ impl Seen {
         println!("  reach {:08x?}", self.site.reach);
         println!("  to read, with guards: {}", hex(self.input.whole()));
         println!("  to write, with guards: {}", hex(self.output.whole()));
+        println!("  words, with guards: {:08x?}", self.words.whole());
     }
 }
 
-fn pair(edited: second::capi::Edited) -> (Site, Answer) {
+fn pair(edited: Edited) -> (Site, Answer) {
     (edited.site, edited.answer)
+}
+
+fn sizes(read: PlanRead) -> (Site, Answer) {
+    let (cells, slots, channels) = (read.cells, read.slots, read.channels);
+    (Site { cells, slots, channels, ..Site::default() }, read.answer)
 }
 
 fn hex(bytes: &[u8]) -> String {

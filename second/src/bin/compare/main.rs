@@ -19,6 +19,8 @@ mod sheet_limits;
 mod sheets;
 mod sites;
 mod spares;
+mod word_limits;
+mod word_tables;
 
 use random::Random;
 use run::Run;
@@ -53,6 +55,7 @@ fn fixed(dir: &Path) -> ExitCode {
     boundary::compare(&mut run);
     sheet_limits::compare(&mut run);
     admit_limits::compare(&mut run);
+    word_limits::compare(&mut run);
     println!("boundaries: {} cases", run.cases);
     let before = run.cases;
     spares::compare(&mut run);

@@ -1,6 +1,6 @@
 //! Makes random cases: sites, tables, files and flows that are valid, nearly valid or damaged, so that every number is
 //! given often. Sites and tables are made in `sites`, files in `files`, range sheets in `sheets`, lists of flows in
-//! `admits`.
+//! `admits`, tables of words in `word_tables`.
 
 use crate::admits;
 use crate::case::{Call, Case};
@@ -9,6 +9,7 @@ use crate::random::Random;
 use crate::run::Run;
 use crate::sheets::{self, sheet};
 use crate::sites::{damage, sound_site, table};
+use crate::word_tables;
 use second::site::Site;
 
 /// What is called; the calls with most to get wrong are called twice as often.
@@ -36,6 +37,10 @@ const CALLS: &[Call] = &[
     Call::ReadSheet,
     Call::WriteSheet,
     Call::Admit,
+    Call::PlanWords,
+    Call::CheckWords,
+    Call::ToWords,
+    Call::ToBytes,
 ];
 
 /// Makes one case and compares it; a file that is accepted is also written back.
@@ -62,6 +67,9 @@ pub fn compare(run: &mut Run, random: &mut Random) {
         }
         Call::Admit => {
             run.compare(&admits::case(random));
+        }
+        Call::PlanWords | Call::CheckWords | Call::ToWords | Call::ToBytes => {
+            run.compare(&word_tables::case(random, call));
         }
         _ => {
             let case = with_site(random, call).numbers_for(random);
@@ -113,7 +121,7 @@ fn with_site(random: &mut Random, call: Call) -> Case {
 }
 
 /// The length that is due, mostly; otherwise one off, longer, shorter or 0.
-fn near(random: &mut Random, due: usize) -> usize {
+pub fn near(random: &mut Random, due: usize) -> usize {
     match random.below(16) {
         0 => due.saturating_sub(1),
         1 => due + 1,
@@ -124,7 +132,7 @@ fn near(random: &mut Random, due: usize) -> usize {
     }
 }
 
-fn resized(random: &mut Random, mut table: Vec<u8>, due: usize) -> Vec<u8> {
+pub fn resized(random: &mut Random, mut table: Vec<u8>, due: usize) -> Vec<u8> {
     let len = near(random, due);
     if len > table.len() {
         let more = random.bytes(len - table.len());

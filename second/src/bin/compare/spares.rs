@@ -31,7 +31,7 @@ fn verdicts(run: &mut Run, site: Site) {
 }
 
 /// Bit k of `clashes` is for pair k, and digit i of `loads`, to the base 3, is the load of cell i.
-fn four_cells(clashes: usize, loads: u16) -> Site {
+pub fn four_cells(clashes: usize, loads: u16) -> Site {
     let mut site = Site::sized(4, 2, 1);
     for (k, (a, b)) in PAIRS.into_iter().enumerate() {
         site.reach[a] |= ((clashes >> k & 1) as u32) << b;

@@ -1,0 +1,15 @@
+-- `stretches::weight` meets its contract: a case for each way out. Assumes nothing.
+use Prim.Native.Nat.{_≤_, _<_}
+use native.Mathlib.Omega.{arith}
+use borrow.Author.Tests.{lt-ltb, le-ltb}
+use Rattle.stretches.proofs.weight.Statement.{statement}
+use Rattle.stretches.proofs.weight.Tie as tie
+
+returns : tie.Need-returns
+returns c = let h : 0 < c .before .args .left = omega (arith, c .if1 .taken) in rw (lt-ltb _ _ h)
+
+returns-2 : tie.Need-returns-2
+returns-2 c = let h : c .before .args .left ≤ 0 = omega (arith, c .if1 .left) in rw (le-ltb _ _ h)
+
+pub weight-spec : {M : Type 1} → statement M
+weight-spec = tie.close (tie.spec returns returns-2)
