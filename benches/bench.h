@@ -33,6 +33,7 @@ typedef struct {
     dugg_answer (*check_words)(dugg_site, const uint32_t *, size_t);
     dugg_answer (*to_words)(dugg_site, const uint8_t *, size_t, uint32_t *, size_t);
     dugg_answer (*to_bytes)(dugg_site, const uint32_t *, size_t, uint8_t *, size_t);
+    dugg_answer (*mend)(dugg_site, uint8_t *, size_t, uint16_t *, size_t);
 } maker;
 
 extern const maker makers[MAKERS];
@@ -50,6 +51,9 @@ void size(dugg_site *s, unsigned cells, unsigned slots, unsigned channels);
 
 /* Each cell reaches the next few, one way. */
 void tunnel(dugg_site *s, unsigned width);
+
+/* A random number, the same in every run for the same seed (splitmix64). */
+uint64_t chance(uint64_t *seed);
 
 /* ---- time ---- */
 
@@ -76,5 +80,7 @@ int admit_agree(void);
 void admit_table(void);
 int words_agree(void);
 void words_table(void);
+int mend_agree(void);
+void mend_table(void);
 
 #endif

@@ -13,7 +13,7 @@ static const int sites[SITES] = {P1, MIDDLE_TUNNEL, MIDDLE_ALL, TUNNEL, ALL_CLAS
 #define MAKER(name, P)                                                                                                \
     {name,           P##plan,        P##check,      P##load_test,  P##chain,       P##read_site,                      \
      P##write_site,  P##read_plan,   P##write_plan, P##read_sheet, P##write_sheet, P##share_repeated,                 \
-     P##admit,       P##plan_words,  P##check_words, P##to_words,  P##to_bytes}
+     P##admit,       P##plan_words,  P##check_words, P##to_words,  P##to_bytes,    P##mend}
 
 const maker makers[MAKERS] = {
     [LIBRARY] = MAKER("library", dugg_),
@@ -260,7 +260,7 @@ int main(void)
         }
         fine &= agree(&w[k]) & agree_when_wrong(&w[k]);
     }
-    fine &= admit_agree() & words_agree();
+    fine &= admit_agree() & words_agree() & mend_agree();
     if (!fine)
         return 1;
     printf("All gave the same answers and the same bytes on these inputs before they were timed.\n");
@@ -269,6 +269,7 @@ int main(void)
         table_of(&w[k], worst, &sheet);
     admit_table();
     words_table();
+    mend_table();
     printf("\nPlan and check on the largest sites are %s a quarter of C -O3: the worst ratio is %.2f.\n",
            worst[C3] <= 1.25 ? "within" : "NOT within", worst[C3]);
     printf("\nReading and writing the sheets of the largest sites take %s twice the time of C -O3: the worst ratio is %.2f.\n",

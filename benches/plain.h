@@ -27,7 +27,8 @@
     dugg_answer P##plan_words(dugg_site site, uint32_t *words, size_t count);                                         \
     dugg_answer P##check_words(dugg_site site, const uint32_t *words, size_t count);                                  \
     dugg_answer P##to_words(dugg_site site, const uint8_t *table, size_t len, uint32_t *words, size_t count);         \
-    dugg_answer P##to_bytes(dugg_site site, const uint32_t *words, size_t count, uint8_t *table, size_t len);
+    dugg_answer P##to_bytes(dugg_site site, const uint32_t *words, size_t count, uint8_t *table, size_t len);         \
+    dugg_answer P##mend(dugg_site site, uint8_t *table, size_t len, uint16_t *changes, size_t count);
 
 /* The name of a call in a file that is compiled with -DPREFIX=name_ . */
 #define JOIN(a, b) a##b

@@ -25,15 +25,6 @@ static void call(int column, const void *job)
 
 /* ---- the lists ---- */
 
-/* The same numbers in every run (splitmix64). */
-static uint64_t chance(uint64_t *seed)
-{
-    uint64_t z = *seed += 0x9E3779B97F4A7C15;
-    z = (z ^ z >> 30) * 0xBF58476D1CE4E5B9;
-    z = (z ^ z >> 27) * 0x94D049BB133111EB;
-    return z ^ z >> 31;
-}
-
 /* Flows in any cells, with shares up to a bound; with a period of T a share is the burst. Values are any, or rise from
  * flow to flow, or about double, which is the hardest order: the last flow is the first to be decided. */
 static void draw(offer *o, uint64_t *seed, unsigned most_share)

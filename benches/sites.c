@@ -1,4 +1,4 @@
-/* The sites that calls are timed on. */
+/* The sites that calls are timed on, and random numbers. */
 #include <string.h>
 #include "bench.h"
 
@@ -13,6 +13,14 @@ void tunnel(dugg_site *s, unsigned width)
     for (unsigned i = 0; i < s->cells; i++)
         for (unsigned j = i + 1; j < s->cells && j <= i + width; j++)
             s->reach[i] |= 1u << j;
+}
+
+uint64_t chance(uint64_t *seed)
+{
+    uint64_t z = *seed += 0x9E3779B97F4A7C15;
+    z = (z ^ z >> 30) * 0xBF58476D1CE4E5B9;
+    z = (z ^ z >> 27) * 0x94D049BB133111EB;
+    return z ^ z >> 31;
 }
 
 const char *site_name(int site)

@@ -108,6 +108,16 @@ dugg_answer dugg_to_words(dugg_site site, const uint8_t *table, size_t len, uint
  * written. */
 dugg_answer dugg_to_bytes(dugg_site site, const uint32_t *words, size_t count, uint8_t *table, size_t len);
 
+/* Mends a table from another planner where it stands, and lists the changes. Cells in rising number: each keeps its
+ * reservations in rising position where no earlier clashing cell stands, until its load is met; drops the rest; then
+ * takes the lowest free positions until it is met. A byte that is added becomes 1, one that is dropped 0; every other
+ * byte stays. The changes stand by cell, then position, four numbers each: cell, position, what it was, what it is (1
+ * reservation, 0 silence). "count" is how many numbers the list has; what is left over after whole fours, and entries
+ * past the last change, are not written. Done: how many changes. Refusal 4: the table is short; 5: the first cell
+ * without room, and how many fragments are short; 13: how many changes there are, where the list has no room for them.
+ * A refusal leaves table and list as they were. */
+dugg_answer dugg_mend(dugg_site site, uint8_t *table, size_t len, uint16_t *changes, size_t count);
+
 /* What a flow needs, from its burst in fragments and its period in slots, each fragment sent once. Done: its share in
  * fragments per superframe, its queue bound in fragments, its delay bound in slots. */
 dugg_answer dugg_share(uint16_t slots, uint16_t burst, uint16_t period);

@@ -4,7 +4,7 @@ use crate::admit::Flow;
 use crate::answer::{done, Answer, Outcome};
 use crate::share::{Fragments, Repeats, Share, Slots};
 use crate::site::Site;
-use crate::{admit, checker, files, judge, planner, share, sheet, words};
+use crate::{admit, checker, files, judge, mender, planner, share, sheet, words};
 
 #[repr(C)]
 #[derive(Clone, Copy, Debug, PartialEq, Eq)]
@@ -220,4 +220,17 @@ pub unsafe extern "C" fn second_to_bytes(
     len: usize,
 ) -> Answer {
     answer(words::to_bytes(&site, lent(words, count), lent_out(table, len)), |()| [])
+}
+
+/// # Safety
+/// `table` has `len` bytes, `changes` has `count` numbers, and they do not overlap.
+#[no_mangle]
+pub unsafe extern "C" fn second_mend(
+    site: Site,
+    table: *mut u8,
+    len: usize,
+    changes: *mut u16,
+    count: usize,
+) -> Answer {
+    answer(mender::mend(&site, lent_out(table, len), lent_out(changes, count)), |changes| [changes as u64])
 }

@@ -8,6 +8,7 @@ pub mod checker;
 pub mod files;
 pub mod judge;
 pub mod listing;
+pub mod mender;
 pub mod planner;
 pub mod share;
 pub mod sheet;

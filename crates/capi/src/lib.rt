@@ -22,6 +22,8 @@ ghost use Rattle.wordtable.specs.Plan.{planWordsAnswer, planWords};
 ghost use Rattle.wordtable.specs.Check.{checkWordsAnswer};
 ghost use Rattle.wordtable.specs.Forms.{formAnswer, toWords, toBytes};
 ghost use Rattle.wordtable.specs.Given.{formGiven};
+ghost use Rattle.mender.specs.Mend.{mendAnswer, mendTable, mendList};
+ghost use Rattle.mender.specs.Given.{mendGiven};
 ghost use Rattle.shares.specs.Share.{shareOf, defaultRepeats};
 ghost use Rattle.shares.specs.Given.{shareGiven};
 ghost use Rattle.sitefile.specs.Read.{readSite};
@@ -131,6 +133,15 @@ pub extern "C" fn dugg_to_bytes(site: Site, words: &[u32], table: &mut [u8]) -> 
     ensures { λ _. ⌜ now (table .exit) ≡ toBytes site (now (words .entry)) (now (table .entry)) ⌝ }
 {
     told::form_answer(wordtable::to_bytes(site, words, table))
+}
+
+#[no_mangle]
+pub extern "C" fn dugg_mend(site: Site, table: &mut [u8], changes: &mut [u16]) -> Answer
+    ensures { λ r. ⌜ r ≡ told (mendGiven (mendAnswer site (now (table .entry)) (now (changes .entry)))) ⌝ }
+    ensures { λ _. ⌜ now (table .exit) ≡ mendTable site (now (table .entry)) (now (changes .entry)) ⌝ }
+    ensures { λ _. ⌜ now (changes .exit) ≡ mendList site (now (table .entry)) (now (changes .entry)) ⌝ }
+{
+    told::mend_answer(mender::mend(site, table, changes))
 }
 
 #[no_mangle]

@@ -4,7 +4,7 @@ use mathlib.Core.Path.{_≡_, sym, _∙_}
 use mathlib.Core.List.{List}
 use Prim.Native.Nat.{ℕ}
 use Rattle.flowlist.specs.declared.Flow.{Flow}
-use Rattle.promises.specs.CapiSays.{DuggAdmit, DuggChain, DuggCheck, DuggCheckWords, DuggClash, DuggClearReach, DuggFault, DuggLoadTest, DuggPlan, DuggPlanWords, DuggReadPlan, DuggReadSheet, DuggReadSite, DuggSetLoad, DuggSetReach, DuggShare, DuggShareRepeated, DuggToBytes, DuggToWords, DuggWritePlan, DuggWriteSheet, DuggWriteSite}
+use Rattle.promises.specs.CapiSays.{DuggAdmit, DuggChain, DuggCheck, DuggCheckWords, DuggClash, DuggClearReach, DuggFault, DuggLoadTest, DuggMend, DuggPlan, DuggPlanWords, DuggReadPlan, DuggReadSheet, DuggReadSite, DuggSetLoad, DuggSetReach, DuggShare, DuggShareRepeated, DuggToBytes, DuggToWords, DuggWritePlan, DuggWriteSheet, DuggWriteSite}
 use Rattle.site.specs.declared.Site.{Site}
 use Rattle.told.specs.declared.Answer.{Answer}
 use Rattle.told.specs.declared.EditedSite.{EditedSite}
@@ -61,6 +61,10 @@ duggToWords-one site table words r q words′ words″ says also = (says .answer
 -- capi::dugg_to_bytes
 pub duggToBytes-one : (site : Site) (words : List ℕ) (table : List ℕ) (r q : Answer) (table′ table″ : List ℕ) → DuggToBytes site words table r table′ → DuggToBytes site words table q table″ → (r ≡ q) × (table′ ≡ table″)
 duggToBytes-one site words table r q table′ table″ says also = (says .answer ∙ sym (also .answer), says .table-after ∙ sym (also .table-after))
+
+-- capi::dugg_mend
+pub duggMend-one : (site : Site) (table : List ℕ) (changes : List ℕ) (r q : Answer) (table′ table″ : List ℕ) (changes′ changes″ : List ℕ) → DuggMend site table changes r table′ changes′ → DuggMend site table changes q table″ changes″ → (r ≡ q) × (table′ ≡ table″) × (changes′ ≡ changes″)
+duggMend-one site table changes r q table′ table″ changes′ changes″ says also = (says .answer ∙ sym (also .answer), says .table-after ∙ sym (also .table-after), says .changes-after ∙ sym (also .changes-after))
 
 -- capi::dugg_share
 pub duggShare-one : (slots : ℕ) (burst : ℕ) (period : ℕ) (r q : Answer) → DuggShare slots burst period r → DuggShare slots burst period q → (r ≡ q)

@@ -9,6 +9,7 @@ pub mod Files
 pub mod Sheets
 pub mod Admission
 pub mod Words
+pub mod Mending
 pub mod InC
 pub mod SquareOne
 pub mod SiteOne
@@ -20,6 +21,7 @@ pub mod PlannerOne
 pub mod CheckerOne
 pub mod StretchesOne
 pub mod WordtableOne
+pub mod MenderOne
 pub mod SharesOne
 pub mod FlowlistOne
 pub mod BestsetOne

@@ -5,10 +5,11 @@ use Rattle.admission.specs.declared.AdmitAnswer.{AdmitAnswer}
 use Rattle.checker.specs.declared.CheckAnswer.{CheckAnswer}
 use Rattle.judges.specs.declared.ChainAnswer.{ChainAnswer}
 use Rattle.judges.specs.declared.LoadAnswer.{LoadAnswer}
+use Rattle.mender.specs.declared.MendAnswer.{MendAnswer}
 use Rattle.planfile.specs.declared.PlanRead.{PlanRead}
 use Rattle.planfile.specs.declared.PlanWritten.{PlanWritten}
 use Rattle.planner.specs.declared.PlanAnswer.{PlanAnswer}
-use Rattle.promises.specs.ToldSays.{ToldAdmitAnswer, ToldChainAnswer, ToldCheckAnswer, ToldClashAnswer, ToldEditedAnswer, ToldFaultAnswer, ToldFormAnswer, ToldLoadAnswer, ToldPlanAnswer, ToldPlanRead, ToldPlanWritten, ToldReadAnswer, ToldShareAnswer, ToldSheetAnswer, ToldSheetRead, ToldSheetWritten, ToldSiteRead, ToldSiteWritten}
+use Rattle.promises.specs.ToldSays.{ToldAdmitAnswer, ToldChainAnswer, ToldCheckAnswer, ToldClashAnswer, ToldEditedAnswer, ToldFaultAnswer, ToldFormAnswer, ToldLoadAnswer, ToldMendAnswer, ToldPlanAnswer, ToldPlanRead, ToldPlanWritten, ToldReadAnswer, ToldShareAnswer, ToldSheetAnswer, ToldSheetRead, ToldSheetWritten, ToldSiteRead, ToldSiteWritten}
 use Rattle.records.specs.declared.ReadAnswer.{ReadAnswer}
 use Rattle.shares.specs.declared.ShareAnswer.{ShareAnswer}
 use Rattle.sheet.specs.declared.SheetAnswer.{SheetAnswer}
@@ -51,6 +52,10 @@ toldCheckAnswer-one said r q says also = says .answer ∙ sym (also .answer)
 -- told::form_answer
 pub toldFormAnswer-one : (said : FormAnswer) (r q : Answer) → ToldFormAnswer said r → ToldFormAnswer said q → (r ≡ q)
 toldFormAnswer-one said r q says also = says .answer ∙ sym (also .answer)
+
+-- told::mend_answer
+pub toldMendAnswer-one : (said : MendAnswer) (r q : Answer) → ToldMendAnswer said r → ToldMendAnswer said q → (r ≡ q)
+toldMendAnswer-one said r q says also = says .answer ∙ sym (also .answer)
 
 -- told::share_answer
 pub toldShareAnswer-one : (said : ShareAnswer) (r q : Answer) → ToldShareAnswer said r → ToldShareAnswer said q → (r ≡ q)

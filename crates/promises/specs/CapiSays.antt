@@ -9,6 +9,8 @@ use Rattle.checker.specs.Given.{checkGiven}
 use Rattle.flowlist.specs.declared.Flow.{Flow}
 use Rattle.judges.specs.Given.{chainGiven, loadGiven}
 use Rattle.judges.specs.Judges.{chainAnswer, loadAnswer}
+use Rattle.mender.specs.Given.{mendGiven}
+use Rattle.mender.specs.Mend.{mendAnswer, mendList, mendTable}
 use Rattle.planfile.specs.Given.{planWrittenGiven}
 use Rattle.planfile.specs.Read.{planTableRead, readPlan}
 use Rattle.planfile.specs.Write.{planOut, planWritten}
@@ -91,6 +93,12 @@ pub record DuggToWords (site : Site) (table : List ℕ) (words : List ℕ) (r : 
 pub record DuggToBytes (site : Site) (words : List ℕ) (table : List ℕ) (r : Answer) (table′ : List ℕ) : Type 0 where
   pub answer : r ≡ told (formGiven (formAnswer site table words))
   pub table-after : table′ ≡ toBytes site words table
+
+-- capi::dugg_mend
+pub record DuggMend (site : Site) (table : List ℕ) (changes : List ℕ) (r : Answer) (table′ : List ℕ) (changes′ : List ℕ) : Type 0 where
+  pub answer : r ≡ told (mendGiven (mendAnswer site table changes))
+  pub table-after : table′ ≡ mendTable site table changes
+  pub changes-after : changes′ ≡ mendList site table changes
 
 -- capi::dugg_share
 pub record DuggShare (slots : ℕ) (burst : ℕ) (period : ℕ) (r : Answer) : Type 0 where

@@ -13,6 +13,7 @@ pub mod PlannerSays
 pub mod CheckerSays
 pub mod StretchesSays
 pub mod WordtableSays
+pub mod MenderSays
 pub mod SharesSays
 pub mod FlowlistSays
 pub mod BestsetSays

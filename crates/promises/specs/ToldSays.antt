@@ -7,6 +7,8 @@ use Rattle.checker.specs.declared.CheckAnswer.{CheckAnswer}
 use Rattle.judges.specs.Given.{chainGiven, loadGiven}
 use Rattle.judges.specs.declared.ChainAnswer.{ChainAnswer}
 use Rattle.judges.specs.declared.LoadAnswer.{LoadAnswer}
+use Rattle.mender.specs.Given.{mendGiven}
+use Rattle.mender.specs.declared.MendAnswer.{MendAnswer}
 use Rattle.planfile.specs.Given.{planWrittenGiven}
 use Rattle.planfile.specs.declared.PlanRead.{PlanRead}
 use Rattle.planfile.specs.declared.PlanWritten.{PlanWritten}
@@ -61,6 +63,10 @@ pub record ToldCheckAnswer (said : CheckAnswer) (r : Answer) : Type 0 where
 -- told::form_answer
 pub record ToldFormAnswer (said : FormAnswer) (r : Answer) : Type 0 where
   pub answer : r ≡ told (formGiven said)
+
+-- told::mend_answer
+pub record ToldMendAnswer (said : MendAnswer) (r : Answer) : Type 0 where
+  pub answer : r ≡ told (mendGiven said)
 
 -- told::share_answer
 pub record ToldShareAnswer (said : ShareAnswer) (r : Answer) : Type 0 where

@@ -3,6 +3,7 @@ use admission::AdmitAnswer;
 use checker::CheckAnswer;
 use judges::ChainAnswer;
 use judges::LoadAnswer;
+use mender::MendAnswer;
 use planfile::PlanRead;
 use planfile::PlanWritten;
 use planner::PlanAnswer;
@@ -24,6 +25,7 @@ ghost use Rattle.judges.specs.Given.{loadGiven, chainGiven};
 ghost use Rattle.planner.specs.Given.{planGiven};
 ghost use Rattle.checker.specs.Given.{checkGiven};
 ghost use Rattle.wordtable.specs.Given.{formGiven};
+ghost use Rattle.mender.specs.Given.{mendGiven};
 ghost use Rattle.shares.specs.Given.{shareGiven};
 ghost use Rattle.records.specs.Given.{readGiven};
 ghost use Rattle.sitefile.specs.Given.{siteWrittenGiven};
@@ -137,6 +139,18 @@ pub fn form_answer(said: FormAnswer) -> Answer
         FormAnswer::Done => give(0, 0, 0, 0),
         FormAnswer::TableShort => give(4, 0, 0, 0),
         FormAnswer::Refused(f) => fault_answer(f),
+    }
+}
+
+pub fn mend_answer(said: MendAnswer) -> Answer
+    ensures { λ r. ⌜ r ≡ told (mendGiven said) ⌝ }
+{
+    match said {
+        MendAnswer::Done(many) => give(0, many as u64, 0, 0),
+        MendAnswer::TableShort => give(4, 0, 0, 0),
+        MendAnswer::NoRoom(cell, short) => give(5, cell as u64, short as u64, 0),
+        MendAnswer::ListShort(many) => give(13, many as u64, 0, 0),
+        MendAnswer::Refused(f) => fault_answer(f),
     }
 }
 

@@ -29,6 +29,7 @@ extern "C" {
     fn dugg_check_words(site: Site, words: *const u32, count: usize) -> Answer;
     fn dugg_to_words(site: Site, table: *const u8, len: usize, words: *mut u32, count: usize) -> Answer;
     fn dugg_to_bytes(site: Site, words: *const u32, count: usize, table: *mut u8, len: usize) -> Answer;
+    fn dugg_mend(site: Site, table: *mut u8, len: usize, changes: *mut u16, count: usize) -> Answer;
 }
 
 pub struct Calls {
@@ -54,6 +55,7 @@ pub struct Calls {
     pub check_words: unsafe extern "C" fn(Site, *const u32, usize) -> Answer,
     pub to_words: unsafe extern "C" fn(Site, *const u8, usize, *mut u32, usize) -> Answer,
     pub to_bytes: unsafe extern "C" fn(Site, *const u32, usize, *mut u8, usize) -> Answer,
+    pub mend: unsafe extern "C" fn(Site, *mut u8, usize, *mut u16, usize) -> Answer,
 }
 
 pub const LIBRARY: Calls = Calls {
@@ -79,6 +81,7 @@ pub const LIBRARY: Calls = Calls {
     check_words: dugg_check_words,
     to_words: dugg_to_words,
     to_bytes: dugg_to_bytes,
+    mend: dugg_mend,
 };
 
 pub const SECOND: Calls = Calls {
@@ -104,4 +107,5 @@ pub const SECOND: Calls = Calls {
     check_words: second_check_words,
     to_words: second_to_words,
     to_bytes: second_to_bytes,
+    mend: second_mend,
 };

@@ -31,6 +31,7 @@ pub enum Call {
     CheckWords,
     ToWords,
     ToBytes,
+    Mend,
 }
 
 /// A call and what it is given. What a call does not take is left zero or empty.
@@ -41,12 +42,14 @@ pub struct Case {
     pub numbers: [u16; 4],
     /// What is lent to be read: a file, a sheet, or a table to check or to write.
     pub input: Lent<u8>,
-    /// What is lent to be written: a table to plan or to read into, or a file's output.
+    /// What is lent to be written: a table to plan, to mend or to read into, or a file's output.
     pub output: Lent<u8>,
     /// The flows that are lent to be read.
     pub flows: Lent<Flow>,
     /// The words that are lent, to be read or to be written.
     pub words: Lent<u32>,
+    /// The list of changes that is lent to be written.
+    pub list: Lent<u16>,
 }
 
 /// What is seen after a call: answer, record or sizes given back, and all lent memory with its guards.
@@ -58,12 +61,14 @@ pub struct Seen {
     pub output: Lent<u8>,
     pub flows: Lent<Flow>,
     pub words: Lent<u32>,
+    pub list: Lent<u16>,
 }
 
 impl Case {
     pub fn of(call: Call, site: Site) -> Case {
-        let (input, output, flows, words) = (Lent::none(), Lent::none(), Lent::none(), Lent::none());
-        Case { call, site, numbers: [0; 4], input, output, flows, words }
+        let (input, output) = (Lent::none(), Lent::none());
+        let (flows, words, list) = (Lent::none(), Lent::none(), Lent::none());
+        Case { call, site, numbers: [0; 4], input, output, flows, words, list }
     }
 
     /// The first few numbers of the call; the others stay 0.
@@ -94,10 +99,15 @@ impl Case {
         self
     }
 
+    pub fn list(mut self, numbers: &[u16], mark: u64) -> Case {
+        self.list = Lent::between(numbers, [(mark >> 8) as u16, (mark >> 16) as u16], mark);
+        self
+    }
+
     /// Makes the call on copies of the lent parts.
     pub fn run(&self, calls: &Calls) -> Seen {
         let (input, mut output) = (self.input.clone(), self.output.clone());
-        let (flows, mut words) = (self.flows.clone(), self.words.clone());
+        let (flows, mut words, mut list) = (self.flows.clone(), self.words.clone(), self.list.clone());
         let (site, [x, y, z, w]) = (self.site, self.numbers);
         let (inp, ilen, out, olen) = (input.pointer(), input.len(), output.pointer_mut(), output.len());
         let (read, write, count) = (words.pointer(), words.pointer_mut(), words.len());
@@ -127,9 +137,10 @@ impl Case {
                 Call::CheckWords => alone((calls.check_words)(site, read, count)),
                 Call::ToWords => alone((calls.to_words)(site, inp, ilen, write, count)),
                 Call::ToBytes => alone((calls.to_bytes)(site, read, count, out, olen)),
+                Call::Mend => alone((calls.mend)(site, out, olen, list.pointer_mut(), list.len())),
             }
         };
-        Seen { answer, site, input, output, flows, words }
+        Seen { answer, site, input, output, flows, words, list }
     }
 
     /// Was all that may not be written left as it was: what is lent to be read, every guard, and what is lent to be
@@ -139,12 +150,13 @@ impl Case {
         read_only
             && seen.output.same_past(&self.output, self.bytes_written(seen))
             && seen.words.same_past(&self.words, self.words_written(seen))
+            && seen.list.same_past(&self.list, self.numbers_written(seen))
     }
 
     /// How many bytes a call with this answer may write.
     fn bytes_written(&self, seen: &Seen) -> usize {
         match (self.call, seen.answer.number) {
-            (Call::Plan, 0 | 5) | (Call::ToBytes, 0) => self.site.table_len(),
+            (Call::Plan, 0 | 5) | (Call::ToBytes | Call::Mend, 0) => self.site.table_len(),
             (Call::ReadPlan, 0) => seen.site.table_len(),
             (Call::WriteSite | Call::WritePlan | Call::WriteSheet, 0) => seen.answer.value[0] as usize,
             _ => 0,
@@ -155,6 +167,14 @@ impl Case {
     fn words_written(&self, seen: &Seen) -> usize {
         match (self.call, seen.answer.number) {
             (Call::PlanWords, 0 | 5) | (Call::ToWords, 0) => self.site.positions(),
+            _ => 0,
+        }
+    }
+
+    /// How many numbers of the list a call with this answer may write: four for each change.
+    fn numbers_written(&self, seen: &Seen) -> usize {
+        match (self.call, seen.answer.number) {
+            (Call::Mend, 0) => 4 * seen.answer.value[0] as usize,
             _ => 0,
         }
     }
@@ -170,6 +190,7 @@ impl Case {
         println!("lent to write, {} bytes: {}", self.output.len(), hex(self.output.part()));
         println!("flows {:?}", self.flows.part());
         println!("words {:08x?}", self.words.part());
+        println!("list {:?}", self.list.part());
     }
 }
 
@@ -182,6 +203,7 @@ impl Seen {
         println!("  to read, with guards: {}", hex(self.input.whole()));
         println!("  to write, with guards: {}", hex(self.output.whole()));
         println!("  words, with guards: {:08x?}", self.words.whole());
+        println!("  list, with guards: {:?}", self.list.whole());
     }
 }
 

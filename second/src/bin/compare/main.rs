@@ -12,6 +12,8 @@ mod case;
 mod files;
 mod lent;
 mod make;
+mod mend_limits;
+mod mends;
 mod random;
 mod run;
 mod samples;
@@ -56,6 +58,7 @@ fn fixed(dir: &Path) -> ExitCode {
     sheet_limits::compare(&mut run);
     admit_limits::compare(&mut run);
     word_limits::compare(&mut run);
+    mend_limits::compare(&mut run);
     println!("boundaries: {} cases", run.cases);
     let before = run.cases;
     spares::compare(&mut run);
@@ -63,6 +66,9 @@ fn fixed(dir: &Path) -> ExitCode {
     let before = run.cases;
     admit_limits::every_small_list(&mut run);
     println!("three flows on three cells: {} cases", run.cases - before);
+    let before = run.cases;
+    mend_limits::every_small_table(&mut run);
+    println!("small tables mended: {} cases", run.cases - before);
     let before = run.cases;
     match samples::compare(&mut run, dir) {
         Ok(files) if files > 0 => println!("{files} sample files, cut and changed: {} cases", run.cases - before),

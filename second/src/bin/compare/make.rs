@@ -1,10 +1,11 @@
 //! Makes random cases: sites, tables, files and flows that are valid, nearly valid or damaged, so that every number is
 //! given often. Sites and tables are made in `sites`, files in `files`, range sheets in `sheets`, lists of flows in
-//! `admits`, tables of words in `word_tables`.
+//! `admits`, tables of words in `word_tables`, tables to mend in `mends`.
 
 use crate::admits;
 use crate::case::{Call, Case};
 use crate::files::{plan_file, site_file};
+use crate::mends;
 use crate::random::Random;
 use crate::run::Run;
 use crate::sheets::{self, sheet};
@@ -41,6 +42,8 @@ const CALLS: &[Call] = &[
     Call::CheckWords,
     Call::ToWords,
     Call::ToBytes,
+    Call::Mend,
+    Call::Mend,
 ];
 
 /// Makes one case and compares it; a file that is accepted is also written back.
@@ -70,6 +73,9 @@ pub fn compare(run: &mut Run, random: &mut Random) {
         }
         Call::PlanWords | Call::CheckWords | Call::ToWords | Call::ToBytes => {
             run.compare(&word_tables::case(random, call));
+        }
+        Call::Mend => {
+            run.compare(&mends::case(random));
         }
         _ => {
             let case = with_site(random, call).numbers_for(random);

@@ -1,0 +1,130 @@
+-- How a call ends. Where every cell stands, the words and counts are those of what stands, so that the changes that are written are the rule's; the ways out of the call,
+-- each with its answer, its table and its list. Assumes nothing.
+use mathlib.Core.Path.{_≡_, refl, sym, ap, ap₂, _∙_}
+use mathlib.Core.Bool.{Bool, false}
+use mathlib.Core.List.{List}
+use Prim.Native.Nat.{ℕ, _+_, _*_, _≤_, _<_}
+use native.Mathlib.Omega.{arith}
+use borrow.Author.Tests.{lt-ltb, le-ltb}
+use lib.Dec.{ltb}
+use lib.ListN.{length}
+use lib.Seq.{sets}
+use Rattle.laws.specs.Choice.{pick}
+use Rattle.laws.specs.Bits.{bitIn}
+use Rattle.theory.specs.Net.{Net}
+use Rattle.theory.specs.Greedy.{reserved, Outcome, planned, noRoom}
+use Rattle.site.specs.Record.{size, faultOf, isFine}
+use Rattle.site.specs.Reach.{clashOf, netOf}
+use Rattle.site.proofs.Reach.{clash-sym}
+use Rattle.site.specs.declared.Site.{Site}
+use Rattle.site.specs.declared.Fault.{Fault}
+use Rattle.site.specs.declared.Fault.the-variants.{Fine}
+use Rattle.mending.specs.Mend.{mend}
+use Rattle.mending.specs.Changes.{changes, follow}
+use Rattle.mending.proofs.Changes.{count-cong, number-cong, changes-cong}
+use Rattle.mending.proofs.Mended.{mended-follows}
+use Rattle.mender.specs.Mend.{numberOf, listed, stoodOf, answerOf, tableAfter, listAfter, mendAnswer, mendTable, mendList}
+use Rattle.mender.specs.Words.{standsIn, allCount, TwoWay, Counted, Says}
+use Rattle.mender.specs.declared.Stood.the-variants.{All, Short}
+use Rattle.mender.specs.declared.MendAnswer.the-variants.{Done, TableShort, NoRoom, ListShort, Refused}
+
+-- ---- what stands, by the answer of the cells' turns
+
+pub record Whole (s : Net) (u : List ℕ) (number : ℕ) : Type 0 where
+  pub table : List ℕ
+  pub mends : mend s u ≡ planned table
+  pub all : number ≡ numberOf s u table
+
+pub record Lacking (s : Net) (u : List ℕ) (cell short : ℕ) : Type 0 where
+  pub index : ℕ
+  pub mends : mend s u ≡ noRoom index short
+  pub named : cell ≡ index + 1
+
+module _ (s : Net) (u : List ℕ) where
+  whole-at : (o : Outcome) (m : ℕ) → mend s u ≡ o → All m ≡ stoodOf s u o → Whole s u m
+  whole-at (planned t) m e h = record { table = t; mends = e; all = cc }
+  whole-at (noRoom c l) m e h = let z : _≡_ {A = ℕ} 0 1 = cc in absurd (omega arith)
+
+  pub whole : (m : ℕ) → All m ≡ stoodOf s u (mend s u) → Whole s u m
+  whole m = whole-at (mend s u) m refl
+
+  lacking-at : (o : Outcome) (c m : ℕ) → mend s u ≡ o → Short c m ≡ stoodOf s u o → Lacking s u c m
+  lacking-at (planned t) c m e h = let z : _≡_ {A = ℕ} 0 1 = cc in absurd (omega arith)
+  lacking-at (noRoom i l) c m e h = let q : l ≡ m = cc in record { index = i; mends = e ∙ ap (noRoom i) q; named = cc }
+
+  pub lacking : (c m : ℕ) → Short c m ≡ stoodOf s u (mend s u) → Lacking s u c m
+  lacking c m = lacking-at (mend s u) c m refl
+
+-- ---- a cell that finds no room
+
+module _ (s : Net) (u l : List ℕ) (cell short : ℕ) (lack : Lacking s u cell short) where
+  pub no-room : NoRoom cell short ≡ answerOf s u l (mend s u)
+  no-room = ap (λ c. NoRoom c short) (lack .named) ∙ sym (ap (answerOf s u l) (lack .mends))
+
+  pub no-table : u ≡ tableAfter s u l (mend s u)
+  no-table = sym (ap (tableAfter s u l) (lack .mends))
+
+  pub no-list : l ≡ listAfter s u l (mend s u)
+  no-list = sym (ap (listAfter s u l) (lack .mends))
+
+-- ---- every cell stands
+
+module _ (s : Net) (u l words counts : List ℕ) (number : ℕ) (all : Whole s u number) (says : Says (s .cells) (s .width) (all .table) u words counts) where
+  abbrev t : List ℕ
+  t = all .table
+
+  pub end-counted : Counted (s .cells) (s .width) words u counts
+  end-counted i h =
+      says .counted i h
+      ∙ sym (count-cong (standsIn words) (reserved (s .width) t) (reserved (s .width) u) (reserved (s .width) u) i (s .width) (λ k m. says .stands i k h m) (λ k _. refl))
+
+  pub end-number : number ≡ allCount (s .cells) (s .width) words u
+  end-number =
+      all .all
+      ∙ sym (number-cong (standsIn words) (reserved (s .width) t) (reserved (s .width) u) (reserved (s .width) u) (s .width) (s .cells) (says .stands) (λ i k _ _. refl))
+
+  the-changes : changes (standsIn words) (reserved (s .width) u) (s .width) (s .cells) ≡ listed s u t
+  the-changes = changes-cong (standsIn words) (reserved (s .width) t) (reserved (s .width) u) (reserved (s .width) u) (s .width) (s .cells) (says .stands) (λ i k _ _. refl)
+
+  pub end-answer : pick (ltb (length l) (4 * number)) (ListShort number) (Done number) ≡ answerOf s u l (mend s u)
+  end-answer =
+      ap (λ m. pick (ltb (length l) (4 * m)) (ListShort m) (Done m)) (all .all) ∙ sym (ap (answerOf s u l) (all .mends))
+
+  pub end-table : pick (ltb (length l) (4 * number)) u (follow (s .width) (changes (standsIn words) (reserved (s .width) u) (s .width) (s .cells)) u) ≡ tableAfter s u l (mend s u)
+  end-table =
+      ap₂ (λ m z. pick (ltb (length l) (4 * m)) u z) (all .all) (ap (λ z. follow (s .width) z u) the-changes ∙ mended-follows s u t (all .mends))
+      ∙ sym (ap (tableAfter s u l) (all .mends))
+
+  pub end-list : pick (ltb (length l) (4 * number)) l (sets l 0 (changes (standsIn words) (reserved (s .width) u) (s .width) (s .cells))) ≡ listAfter s u l (mend s u)
+  end-list =
+      ap₂ (λ m z. pick (ltb (length l) (4 * m)) l (sets l 0 z)) (all .all) the-changes ∙ sym (ap (listAfter s u l) (all .mends))
+
+-- ---- the call
+
+-- clash rows that state who clashes say it both ways
+pub both-ways : (s : Site) (rows : List ℕ) → bitIn rows ≡ clashOf s → TwoWay rows
+both-ways s rows e a b =
+    ap (λ (f : ℕ → ℕ → Bool). f a b) e ∙ clash-sym (s .reach) a b ∙ sym (ap (λ (f : ℕ → ℕ → Bool). f b a) e)
+
+module _ (s : Site) (u l : List ℕ) where
+  pub refused-ends : (f : Fault) → faultOf s ≡ f → isFine f ≡ false → (Refused f ≡ mendAnswer s u l) × ((u ≡ mendTable s u l) × (l ≡ mendList s u l))
+  unfolding mendAnswer mendTable mendList
+  refused-ends f e h = rw (e, h) (refl, (refl, refl))
+
+  pub short-ends : faultOf s ≡ Fine → length u < size s → (TableShort ≡ mendAnswer s u l) × ((u ≡ mendTable s u l) × (l ≡ mendList s u l))
+  unfolding mendAnswer mendTable mendList
+  short-ends e h = rw (e, lt-ltb (length u) (size s) h) (refl, (refl, refl))
+
+  -- record and table are good
+  module _ (e : faultOf s ≡ Fine) (h : size s ≤ length u) where
+    pub good-answer : mendAnswer s u l ≡ answerOf (netOf s) u l (mend (netOf s) u)
+    unfolding mendAnswer
+    good-answer = rw (e, le-ltb (length u) (size s) h)
+
+    pub good-table : mendTable s u l ≡ tableAfter (netOf s) u l (mend (netOf s) u)
+    unfolding mendTable
+    good-table = rw (e, le-ltb (length u) (size s) h)
+
+    pub good-list : mendList s u l ≡ listAfter (netOf s) u l (mend (netOf s) u)
+    unfolding mendList
+    good-list = rw (e, le-ltb (length u) (size s) h)

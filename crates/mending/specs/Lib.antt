@@ -1,0 +1,4 @@
+-- The definitions of crate `mending`, module by module.
+pub mod Mend
+pub mod Keep
+pub mod Changes

@@ -1,0 +1,192 @@
+-- W7, over the public calls and in the document's numbers: what a fitter may rely on who mends a table from another planner. Crate `mender` proves what its answers mean and
+-- crate `mending` what the rule gives; here they stand beside the checker and the judges. Assumes nothing.
+use mathlib.Core.Path.{_≡_, refl, sym, ap, _∙_}
+use mathlib.Core.Bool.{Bool, true, false, _&&_, not}
+use mathlib.Core.List.{List, [], _∷_}
+use mathlib.Core.Logic.{_⊎_, inl, inr, ⊎-elim}
+use Prim.Native.Nat.{ℕ, _+_, _*_, _≤_, _<_}
+use native.Mathlib.Omega.{arith}
+use lib.ListN.{length, take, drop}
+use lib.Seq.{sets}
+use Rattle.laws.specs.Choice.{Rising}
+use Rattle.laws.specs.Sum.{bit, count}
+use Rattle.laws.proofs.Any.{any-eq}
+use Rattle.laws.proofs.Sums.{sum-eq}
+use Rattle.laws.proofs.Stores.{take-sets}
+use Rattle.theory.specs.Net.{taken}
+use Rattle.theory.specs.Greedy.{reserved, planned}
+use Rattle.theory.specs.Named.{Fails}
+use Rattle.theory.proofs.Exact.{chained-class, covers-loaded}
+use Rattle.site.specs.Record.{positions, size, loadAt}
+use Rattle.site.specs.Reach.{netOf}
+use Rattle.site.specs.declared.Site.{Site}
+use Rattle.judges.specs.Judges.{counted, loadAnswer, chainAnswer}
+use Rattle.judges.specs.Given.{loadGiven, chainGiven}
+use Rattle.judges.proofs.Meaning.{chained-means}
+use Rattle.checker.specs.Check.{checkAnswer}
+use Rattle.checker.specs.Given.{checkGiven}
+use Rattle.mending.specs.Mend.{stand, overlay}
+use Rattle.mending.specs.Changes.{changed, entry, changes, changeCount, follow}
+use Rattle.mending.proofs.Changes as list
+use Rattle.mending.proofs.Overlay.{overlay-length, overlay-reserved}
+use Rattle.mending.proofs.Mended as rule
+use Rattle.mender.specs.Mend.{mendAnswer, mendTable, mendList}
+use Rattle.mender.specs.Given.{mendGiven}
+use Rattle.mender.specs.declared.MendAnswer.the-variants.{Done, NoRoom, ListShort}
+use Rattle.mender.proofs.Given.{mend-apart, mend-proper}
+use Rattle.mender.proofs.Meaning as means
+use Rattle.promises.specs.Numbers.{done, doneWith, refused}
+use Rattle.promises.specs.Demands.{LongEnough}
+use Rattle.promises.proofs.Numbers.{accepted-number, chain-number}
+use Rattle.promises.proofs.Demand2.{check-is-valid, load-is-C1}
+
+planned-one : (t v : List ℕ) → planned t ≡ planned v → t ≡ v
+planned-one t v e = cc
+
+module _ (s : Site) (u l : List ℕ) where
+  -- the call gives back 0 and n
+  abbrev pub MendedBy : ℕ → Type 0
+  MendedBy n = mendGiven (mendAnswer s u l) ≡ doneWith (n ∷ [])
+
+  done-number : (n : ℕ) → MendedBy n → mendAnswer s u l ≡ Done n
+  done-number n e = mend-apart (mendAnswer s u l) (Done n) (mend-proper s u l) refl e
+
+  went : (n : ℕ) → MendedBy n → means.Mended s u l n
+  went n e = means.done-means s u l n (done-number n e)
+
+  mended-long : (n : ℕ) → MendedBy n → length (mendTable s u l) ≡ length u
+  mended-long n e = let d = went n e in ap length (d .table) ∙ overlay-length (d .stands) u
+
+  -- "The mended table is valid (the checker says so)."
+  pub mended-checks : (n : ℕ) → MendedBy n → checkGiven (checkAnswer s (mendTable s u l)) ≡ done
+  mended-checks n e =
+      let d = went n e in
+      check-is-valid s (mendTable s u l) .1 (accepted-number s .1 (d .fine), omega (arith, d .long, mended-long n e), means.done-valid s u l n (done-number n e))
+
+  -- "A valid table yields no change": with a list of any length, and byte for byte
+  pub valid-unchanged : checkGiven (checkAnswer s u) ≡ done → MendedBy 0 × (mendTable s u l ≡ u) × (mendList s u l ≡ l)
+  valid-unchanged e =
+      let v = check-is-valid s u .0 e in
+      let r = rule.valid-mends (netOf s) u (v .2) in
+      let a = means.means-done s u l (accepted-number s .0 (v .0)) (v .1) (r .table) (r .mends) (omega (arith, r .number)) in
+      let is : mendAnswer s u l ≡ Done 0 = a ∙ ap Done (r .number) in
+      let d = means.done-means s u l 0 is in
+      let same : d .stands ≡ r .table = planned-one (d .stands) (r .table) (sym (d .mends) ∙ r .mends) in (
+        ap mendGiven is,
+        d .table ∙ ap (λ t. overlay t u) same ∙ r .bytes,
+        d .list ∙ ap (λ t. sets l 0 (changes (reserved (positions s) t) (reserved (positions s) u) (positions s) (s .cells))) same ∙ ap (sets l 0) (r .none),
+      )
+
+  -- "With a list long enough, a table is mended whenever the load test holds, and on a chained site only then. Any table, whatever its bytes."
+  pub mended-when : loadGiven (loadAnswer s) ≡ done → LongEnough s u → 4 * size s ≤ length l → (n : ℕ) × MendedBy n
+  mended-when e long room =
+      let h = load-is-C1 s .0 e in
+      let r = means.test-done s u l (counted s) (covers-loaded (netOf s)) (accepted-number s .0 (h .0)) long room (h .1) in
+      (r .0, ap mendGiven (r .1))
+
+  pub mended-only : chainGiven (chainAnswer s) ≡ done → (n : ℕ) → MendedBy n → loadGiven (loadAnswer s) ≡ done
+  mended-only e n m =
+      let d = went n m in
+      let c = chained-means s .0 (chain-number s .0 e) in
+      load-is-C1 s .1 (accepted-number s .1 (d .fine), rule.mends-test (netOf s) u (counted s) (covers-loaded (netOf s)) (chained-class (netOf s) (counted s) (c .1)) (d .stands) (d .mends))
+
+  -- "all of them, 5 too, leave table and list untouched"
+  pub refused-untouched : (mendGiven (mendAnswer s u l) .number ≡ 0 → ⊥) → (mendTable s u l ≡ u) × (mendList s u l ≡ l)
+  refused-untouched h = means.untouched s u l (λ n e. h (ap (λ a. mendGiven a .number) e))
+
+  -- "then 5 (cell, fragments short)": the first cell whose load can't be met, before any look at the list
+  pub five-of-mend : (cell short : ℕ) → mendGiven (mendAnswer s u l) ≡ refused 5 (cell ∷ short ∷ [])
+      → (k : ℕ) × ((cell ≡ k + 1) × Fails (netOf s) (stand (netOf s) u) (s .cells) k short)
+  five-of-mend cell short e = means.short-means s u l cell short (mend-apart (mendAnswer s u l) (NoRoom cell short) (mend-proper s u l) refl e) .2
+
+  -- "then 13 with the number of changes where the list is too short": a list of four times that many is long enough
+  pub thirteen-of-mend : (n : ℕ) → mendGiven (mendAnswer s u l) ≡ refused 13 (n ∷ [])
+      → (length l < 4 * n) × ((m : List ℕ) → 4 * n ≤ length m → mendGiven (mendAnswer s u m) ≡ doneWith (n ∷ []))
+  thirteen-of-mend n e =
+      let w = means.list-means s u l n (mend-apart (mendAnswer s u l) (ListShort n) (mend-proper s u l) refl e) in
+      let r = w .2 .1 in (
+        r .2,
+        λ m h. ap mendGiven (means.means-done s u m (w .0) (w .1) (w .2 .0) (r .0) (omega (arith, r .1)) ∙ ap Done (sym (r .1))),
+      )
+
+  -- ---- the list
+
+  module _ (n : ℕ) (e : MendedBy n) where
+    abbrev d : means.Mended s u l n
+    d = went n e
+
+    abbrev is : ℕ → ℕ → Bool
+    is = reserved (positions s) (mendTable s u l)
+
+    abbrev was : ℕ → ℕ → Bool
+    was = reserved (positions s) u
+
+    fits : s .cells * positions s ≤ length u
+    fits = d .long
+
+    now-is : (i k : ℕ) → i < s .cells → k < positions s → reserved (positions s) (d .stands) i k ≡ is i k
+    now-is i k h w =
+        sym (ap (λ t. reserved (positions s) t i k) (d .table)
+        ∙ overlay-reserved (s .cells) (positions s) (d .stands) u (rule.mend-size (netOf s) u (d .stands) (d .mends)) fits i k h w)
+
+    -- the list is the changes from the old table to the new one, and "Entries past the last change stay"
+    pub list-is : mendList s u l ≡ sets l 0 (changes (reserved (positions s) (mendTable s u l)) (reserved (positions s) u) (positions s) (s .cells))
+    list-is =
+        d .list
+        ∙ ap (sets l 0) (list.changes-cong (reserved (positions s) (d .stands)) is was was (positions s) (s .cells) now-is (λ i k _ _. refl))
+
+    -- there are n of them
+    pub list-counts : n ≡ changeCount (reserved (positions s) (mendTable s u l)) (reserved (positions s) u) (positions s) (s .cells)
+    list-counts =
+        d .number ∙ list.number-cong (reserved (positions s) (d .stands)) is was was (positions s) (s .cells) now-is (λ i k _ _. refl)
+
+    listed-are : take (4 * n) (mendList s u l) ≡ changes is was (positions s) (s .cells)
+    listed-are =
+        ap (take (4 * n)) list-is
+        ∙ take-sets (4 * n) (changes is was (positions s) (s .cells)) l
+        (list.changes-length is was (positions s) (s .cells) ∙ ap (λ m. 4 * m) (sym list-counts)) (d .room)
+
+    -- "the changes listed, laid over the old table, give the new one"
+    pub list-gives : follow (positions s) (take (4 * n) (mendList s u l)) u ≡ mendTable s u l
+    list-gives =
+        ap (λ z. follow (positions s) z u) (listed-are ∙ sym (list.changes-cong (reserved (positions s) (d .stands)) is was was (positions s) (s .cells) now-is (λ i k _ _. refl)))
+        ∙ rule.mended-follows (netOf s) u (d .stands) (d .mends)
+        ∙ sym (d .table)
+
+    -- a change at cell i and position k stands in the list, at its number
+    pub list-has : (i k : ℕ) → i < s .cells → k < positions s → changed (reserved (positions s) (mendTable s u l)) (reserved (positions s) u) i k ≡ true
+        → take 4 (drop (4 * list.place is was (positions s) i k) (take (4 * n) (mendList s u l))) ≡ entry (is i k) (was i k) i k
+    list-has i k h w c = ap (λ z. take 4 (drop (4 * list.place is was (positions s) i k) z)) listed-are ∙ list.changes-at is was (positions s) (s .cells) i k h w c
+
+    -- and each of its n entries is a change: "no entry says that nothing changed"
+    pub list-only : (m : ℕ) → m < n
+        → (i : ℕ) × (k : ℕ) × (i < s .cells) × (k < positions s) × (is i k ≡ not (was i k)) × (list.place is was (positions s) i k ≡ m)
+    list-only m h =
+        let r = list.changes-each is was (positions s) (s .cells) m (omega (arith, list-counts)) in
+        (r .0, r .1, r .2, r .3, list.differs (was (r .0) (r .1)) (is (r .0) (r .1)) (r .4), r .5)
+
+    -- "by cell, then position, strictly rising"
+    pub list-rises : (i k j q : ℕ) → k < positions s → q < positions s → list.place is was (positions s) i k < list.place is was (positions s) j q → Rising i j (k < q)
+    list-rises = list.changes-rise is was (positions s)
+
+    -- ---- "Least harm": a reservation of a cell is dropped only where an earlier clashing cell stands or the load is met
+
+    taken-same : (i k : ℕ) → i < s .cells → k < positions s → taken (netOf s) (reserved (positions s) (d .stands)) i k ≡ taken (netOf s) is i k
+    taken-same i k h w =
+        any-eq (λ j. netOf s .clash j i && reserved (positions s) (d .stands) j k) (λ j. netOf s .clash j i && is j k) i
+        (λ j m. ap (λ b. netOf s .clash j i && b) (now-is j k (omega arith) w))
+
+    pub dropped-why : (i k : ℕ) → i < s .cells → k < positions s
+        → reserved (positions s) u i k ≡ true → reserved (positions s) (mendTable s u l) i k ≡ false
+        → (taken (netOf s) (reserved (positions s) (mendTable s u l)) i k ≡ true)
+        ⊎ (loadAt s i ≤ count (λ q. reserved (positions s) u i q && reserved (positions s) (mendTable s u l) i q) k)
+    dropped-why i k h w o c =
+        ⊎-elim
+        (λ y. inl (sym (taken-same i k h w) ∙ y))
+        (λ y.
+        inr (omega (
+          arith,
+          y,
+          sum-eq (λ q. bit (was i q && reserved (positions s) (d .stands) i q)) (λ q. bit (was i q && is i q)) k (λ q m. ap (λ b. bit (was i q && b)) (now-is i q h (omega arith))),
+        )))
+        (rule.dropped-why (netOf s) u (d .stands) (d .mends) i k h w refl o (now-is i k h w ∙ c))
