@@ -7,7 +7,7 @@ use mathlib.Core.List.{List, [], _∷_, map}
 use lib.Dec.{eqb}
 use lib.ListN.{length, getD}
 use Rattle.laws.specs.Choice.{pick}
-use Rattle.theory.specs.Verdict.{LoadVerdict, holds, over, loadVerdict, ChainVerdict, chained, broken, chainVerdict}
+use Rattle.theory.specs.Verdict.{LoadVerdict, holds, over, loadVerdict, mostDemand, ChainVerdict, chained, broken, chainVerdict}
 use Rattle.site.specs.Record.{faultOf}
 use Rattle.site.specs.Reach.{netOf}
 use Rattle.site.specs.Given.{Given}
@@ -15,12 +15,14 @@ use Rattle.site.specs.declared.Site.{Site}
 use Rattle.site.specs.declared.Fault.the-variants.{Fine, Size, Load, Reach}
 use Rattle.site.proofs.Given.{faultFrom}
 use Rattle.site.proofs.PassedOn.{proper-call}
-use Rattle.judges.specs.Judges.{counted, loadOf, loadAnswer, chainOf, chainAnswer}
-use Rattle.judges.specs.Given.{loadGiven, loadProper, chainGiven, chainProper}
+use Rattle.judges.specs.Judges.{counted, loadOf, loadAnswer, chainOf, chainAnswer, leastOf, leastAnswer}
+use Rattle.judges.specs.Given.{loadGiven, loadProper, chainGiven, chainProper, leastGiven, leastProper}
 use Rattle.judges.specs.declared.LoadAnswer.{LoadAnswer}
 use Rattle.judges.specs.declared.LoadAnswer.the-variants as load
 use Rattle.judges.specs.declared.ChainAnswer.{ChainAnswer}
 use Rattle.judges.specs.declared.ChainAnswer.the-variants as chain
+use Rattle.judges.specs.declared.LeastAnswer.{LeastAnswer}
+use Rattle.judges.specs.declared.LeastAnswer.the-variants as least
 
 -- ---- the load test
 
@@ -89,3 +91,39 @@ chains a b c cell row = chain.Chained ∷ chain.Broken a b c ∷ chain.Refused S
 pub chain-numbers : (a b c cell row : ℕ)
     → (map (λ (a : ChainAnswer). chainGiven a .number) (chains a b c cell row) ≡ 0 ∷ 0 ∷ 1 ∷ 2 ∷ 3 ∷ []) × (map (λ (a : ChainAnswer). chainGiven a .values) (chains a b c cell row) ≡ [] ∷ (a ∷ b ∷ c ∷ []) ∷ [] ∷ (cell ∷ []) ∷ (row ∷ []) ∷ [])
 chain-numbers a b c cell row = (refl, refl)
+
+-- ---- the least number of channel-slots
+
+abbrev leastFrom : Given → LeastAnswer
+leastFrom g =
+    pick (eqb (g .number) 0) (pick (eqb (getD (g .values) 1 0) 0) (least.Least (getD (g .values) 0 0)) (least.Enough (getD (g .values) 0 0))) (least.Refused (faultFrom g))
+
+least-back : (a : LeastAnswer) → leastProper a ≡ true → leastFrom (leastGiven a) ≡ a
+least-back (least.Least n) p = refl
+least-back (least.Enough n) p = refl
+least-back (least.Refused Fine) p = absurd (false≢true p)
+least-back (least.Refused Size) p = refl
+least-back (least.Refused (Load k)) p = refl
+least-back (least.Refused (Reach k)) p = refl
+
+pub least-apart : (a b : LeastAnswer) → leastProper a ≡ true → leastProper b ≡ true → leastGiven a ≡ leastGiven b → a ≡ b
+least-apart a b p q e = sym (least-back a p) ∙ ap leastFrom e ∙ least-back b q
+
+-- no call answers a refusal with no fault
+least-verdict-proper : (v : ChainVerdict) (n : ℕ) → leastProper (leastOf v n) ≡ true
+least-verdict-proper chained n = refl
+least-verdict-proper (broken a b c) n = refl
+
+pub least-proper : (s : Site) → leastProper (leastAnswer s) ≡ true
+unfolding leastAnswer
+least-proper s =
+    proper-call leastProper least.Refused (λ g. refl) (faultOf s) _
+    (least-verdict-proper (chainVerdict (netOf s) (counted s)) (mostDemand (netOf s) (counted s)))
+
+-- the numbers and the values, in their order, of an answer of each kind
+abbrev leasts : (n cell row : ℕ) → List LeastAnswer
+leasts n cell row = least.Least n ∷ least.Enough n ∷ least.Refused Size ∷ least.Refused (Load cell) ∷ least.Refused (Reach row) ∷ []
+
+pub least-numbers : (n cell row : ℕ)
+    → (map (λ (a : LeastAnswer). leastGiven a .number) (leasts n cell row) ≡ 0 ∷ 0 ∷ 1 ∷ 2 ∷ 3 ∷ []) × (map (λ (a : LeastAnswer). leastGiven a .values) (leasts n cell row) ≡ (n ∷ 0 ∷ []) ∷ (n ∷ 1 ∷ []) ∷ [] ∷ (cell ∷ []) ∷ (row ∷ []) ∷ [])
+least-numbers n cell row = (refl, refl)

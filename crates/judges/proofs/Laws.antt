@@ -11,24 +11,27 @@ use lib.ListN.{getD}
 use Rattle.laws.specs.Bits.{bitAt, bitIn, wordOf}
 use Rattle.laws.specs.Choice.{pick}
 use Rattle.laws.specs.Search.{first}
+use Rattle.laws.specs.Most.{most}
 use Rattle.laws.proofs.Choice.{both}
+use Rattle.laws.proofs.Most.{most-same}
 use Rattle.laws.proofs.Search.{first-passes, first-same}
 use Rattle.laws.proofs.Sums.{sum-eq}
 use Rattle.laws.proofs.Words.{word-bit}
 use Rattle.theory.specs.Net.{Net, room, demand}
-use Rattle.theory.specs.Verdict.{overloaded, lowestOver, loadVerdict, gap, breaks, breakOf, firstBreak, chainVerdict}
+use Rattle.theory.specs.Verdict.{overloaded, lowestOver, loadVerdict, asks, mostDemand, gap, breaks, breakOf, firstBreak, chainVerdict}
 use Rattle.site.specs.Record.{faultOf}
 use Rattle.site.specs.Reach.{clashOf, netOf}
 use Rattle.site.specs.declared.Site.{Site}
 use Rattle.site.specs.declared.Fault.the-variants.{Fine}
 use Rattle.site.proofs.Faults.{fine-sized}
 use Rattle.site.proofs.Reach.{clash-sym}
-use Rattle.judges.specs.Judges.{counted, loadAnswer, chainAnswer}
+use Rattle.judges.specs.Judges.{counted, loadAnswer, chainAnswer, leastAnswer}
 use Rattle.chainwords.specs.Chain.{chainIn}
 use Rattle.chainwords.proofs.Laws.{break-least, break-inside, gap-same, break-same, first-break-same}
-use Rattle.judges.specs.Words.{demandIn, overIn}
+use Rattle.judges.specs.Words.{demandIn, overIn, askedIn}
 use Rattle.judges.specs.declared.LoadAnswer.the-variants as load
 use Rattle.judges.specs.declared.ChainAnswer.the-variants as chain
+use Rattle.judges.specs.declared.LeastAnswer.the-variants as least
 
 -- ---- the load test
 
@@ -99,3 +102,27 @@ module _ (s : Site) (fine : faultOf s ≡ Fine) (rows : List ℕ) (relation : bi
   pub chain-none : s .cells ≤ a → chainAnswer s ≡ chain.Chained
   unfolding chainAnswer chainVerdict
   chain-none h = simp (fine, sym first-is-named, le-ltb a (s .cells) h)
+
+-- ---- the least number of channel-slots
+
+-- what the call answers for a record with no fault: n is the greatest of what the rows ask, a the first cell that some cell breaks the chain with
+module _ (s : Site) (fine : faultOf s ≡ Fine) (rows : List ℕ) (relation : bitIn rows ≡ clashOf s) (who : ℕ) (word : who ≡ wordOf (counted s) 32)
+    (n : ℕ) (e : n ≡ most (λ i. askedIn (s .loads) (getD rows i 0) who i) (s .cells))
+    (a : ℕ) (d : a ≡ firstBreak (chainIn (s .cells) (bitIn rows)) (bitAt who)) where
+  most-is : n ≡ mostDemand (netOf s) (counted s)
+  unfolding mostDemand
+  most-is =
+      e
+      ∙ most-same (λ i. askedIn (s .loads) (getD rows i 0) who i) (asks (netOf s) (counted s)) (s .cells)
+      (λ i h. ap₂ (λ t x. pick t x 0) (counts-is s fine who word i h) (demand-is s rows relation i))
+
+  broken-here : a ≡ firstBreak (netOf s) (counted s)
+  broken-here = first-is-named s fine rows relation who word a d
+
+  pub least-enough : a < s .cells → leastAnswer s ≡ least.Enough n
+  unfolding leastAnswer chainVerdict
+  least-enough h = simp (fine, sym broken-here, lt-ltb a (s .cells) h, sym most-is)
+
+  pub least-chained : s .cells ≤ a → leastAnswer s ≡ least.Least n
+  unfolding leastAnswer chainVerdict
+  least-chained h = simp (fine, sym broken-here, le-ltb a (s .cells) h, sym most-is)

@@ -1,4 +1,5 @@
--- What the two calls say: Holds and Chained exactly where a record without fault has the property; where a cell or a triple is named, it is the first, by the theory's laws.
+-- What the calls say: Holds and Chained exactly where a record without fault has the property; where a cell or a triple is named, it is the first, by the theory's laws. And
+-- Least and Enough exactly on the chain and off it, with the greatest demand.
 -- Assumes nothing.
 use Prim.Native.Nat.{ℕ, _+_, _<_}
 use mathlib.Core.Logic.{_↔_}
@@ -9,7 +10,7 @@ use borrow.Author.Tests.{ltb-true, lt-ltb}
 use Rattle.laws.proofs.Choice.{went-first}
 use Rattle.theory.specs.Net.{Covers, LoadTest, Chained}
 use Rattle.theory.proofs.Exact.{covers-loaded}
-use Rattle.theory.specs.Verdict.{LoadVerdict, holds, over, loadVerdict, ChainVerdict, chained, broken, chainVerdict}
+use Rattle.theory.specs.Verdict.{LoadVerdict, holds, over, loadVerdict, mostDemand, ChainVerdict, chained, broken, chainVerdict}
 use Rattle.theory.specs.Named.{FirstOver, FirstBreaks}
 use Rattle.theory.proofs.LoadLaws.{load-holds, load-names}
 use Rattle.theory.proofs.ChainLaws.{chain-holds, chain-names}
@@ -20,11 +21,13 @@ use Rattle.site.specs.declared.Fault.{Fault}
 use Rattle.site.specs.declared.Fault.the-variants.{Fine}
 use Rattle.site.proofs.Faults.{fine-is}
 use Rattle.site.proofs.PassedOn.{passed-on}
-use Rattle.judges.specs.Judges.{counted, loadOf, loadAnswer, chainOf, chainAnswer}
+use Rattle.judges.specs.Judges.{counted, loadOf, loadAnswer, chainOf, chainAnswer, leastOf, leastAnswer}
 use Rattle.judges.specs.declared.LoadAnswer.{LoadAnswer}
 use Rattle.judges.specs.declared.LoadAnswer.the-variants as load
 use Rattle.judges.specs.declared.ChainAnswer.{ChainAnswer}
 use Rattle.judges.specs.declared.ChainAnswer.the-variants as chain
+use Rattle.judges.specs.declared.LeastAnswer.{LeastAnswer}
+use Rattle.judges.specs.declared.LeastAnswer.the-variants as least
 
 -- "cells with load above 0 only": who counts, said of the load itself
 pub counted-means : (s : Site) (i : ℕ) → counted s i ≡ true ↔ 0 < loadAt s i
@@ -128,3 +131,58 @@ broken-means s a b c e =
     let f = chain-accepted s (chain.Broken a b c) (λ q. let z : _≡_ {A = ℕ} 0 1 = cc in omega arith) e in
     let v = chain-is-broken (chainVerdict (netOf s) (counted s)) a b c (sym (chain-fine s f) ∙ e) in
     (f, (v .0, v .1, v .2, v .3, v .4, v .5, chain-names (netOf s) (counted s) (v .0) (v .1) (v .2) (v .6)))
+
+-- ---- the least number of channel-slots
+
+pub least-accepted : (s : Site) (a : LeastAnswer) → (least.Refused (faultOf s) ≡ a → ⊥) → leastAnswer s ≡ a → faultOf s ≡ Fine
+unfolding leastAnswer
+least-accepted s a n e = fine-is (faultOf s) (went-first (isFine (faultOf s)) _ _ n e)
+
+least-fine : (s : Site) → faultOf s ≡ Fine → leastAnswer s ≡ leastOf (chainVerdict (netOf s) (counted s)) (mostDemand (netOf s) (counted s))
+unfolding leastAnswer
+least-fine s fine = rw fine
+
+least-is : (v : ChainVerdict) (m n : ℕ) → leastOf v m ≡ least.Least n → (v ≡ chained) × (m ≡ n)
+least-is chained m n e = (refl, cc)
+least-is (broken a b c) m n e = let z : _≡_ {A = ℕ} 0 1 = cc in absurd (omega arith)
+
+enough-is : (v : ChainVerdict) (m n : ℕ) → leastOf v m ≡ least.Enough n → (v ≡ chained → ⊥) × (m ≡ n)
+enough-is chained m n e = let z : _≡_ {A = ℕ} 0 1 = cc in absurd (omega arith)
+enough-is (broken a b c) m n e = (λ q. let z : _≡_ {A = ℕ} 0 1 = cc in omega arith, cc)
+
+least-of : (v : ChainVerdict) (m : ℕ) → v ≡ chained → leastOf v m ≡ least.Least m
+least-of v m q = rw q
+
+-- Least exactly on a chained site, with the greatest demand
+pub least-means : (s : Site) (n : ℕ) → leastAnswer s ≡ least.Least n
+    ↔ ((faultOf s ≡ Fine) × (Chained (netOf s) (counted s)) × (mostDemand (netOf s) (counted s) ≡ n))
+least-means s n = (
+  λ e.
+      let f = least-accepted s (least.Least n) (λ q. let z : _≡_ {A = ℕ} 0 1 = cc in omega arith) e in
+      let w = least-is (chainVerdict (netOf s) (counted s)) (mostDemand (netOf s) (counted s)) n (sym (least-fine s f) ∙ e) in
+      (f, chain-holds (netOf s) (counted s) .0 (w .0), w .1),
+  λ h. least-fine s (h .0) ∙ least-of _ _ (chain-holds (netOf s) (counted s) .1 (h .1)) ∙ ap least.Least (h .2),
+)
+
+enough-of : (v : ChainVerdict) (m : ℕ) → (v ≡ chained → ⊥) → leastOf v m ≡ least.Enough m
+enough-of chained m q = absurd (q refl)
+enough-of (broken a b c) m q = refl
+
+-- Enough exactly on a site that is not chained, with the greatest demand
+pub enough-means : (s : Site) (n : ℕ) → leastAnswer s ≡ least.Enough n
+    ↔ ((faultOf s ≡ Fine) × (Chained (netOf s) (counted s) → ⊥) × (mostDemand (netOf s) (counted s) ≡ n))
+enough-means s n = (
+  λ e.
+      let f = least-accepted s (least.Enough n) (λ q. let z : _≡_ {A = ℕ} 0 1 = cc in omega arith) e in
+      let w = enough-is (chainVerdict (netOf s) (counted s)) (mostDemand (netOf s) (counted s)) n (sym (least-fine s f) ∙ e) in
+      (f, λ c. w .0 (chain-holds (netOf s) (counted s) .1 c), w .1),
+  λ h. least-fine s (h .0) ∙ enough-of _ _ (λ q. h .1 (chain-holds (netOf s) (counted s) .0 q)) ∙ ap least.Enough (h .2),
+)
+
+least-no-refusal : (v : ChainVerdict) (n : ℕ) (f : Fault) → leastOf v n ≡ least.Refused f → ⊥
+least-no-refusal chained n f e = let z : _≡_ {A = ℕ} 0 1 = cc in omega arith
+least-no-refusal (broken a b c) n f e = let z : _≡_ {A = ℕ} 0 1 = cc in omega arith
+
+pub least-refused : (s : Site) (f : Fault) → leastAnswer s ≡ least.Refused f ↔ ((f ≡ faultOf s) × (isFine f ≡ false))
+unfolding leastAnswer
+least-refused s = passed-on least.Refused (λ f g e. cc) (faultOf s) _ (least-no-refusal (chainVerdict (netOf s) (counted s)) (mostDemand (netOf s) (counted s)))

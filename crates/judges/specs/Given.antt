@@ -7,6 +7,8 @@ use Rattle.judges.specs.declared.LoadAnswer.{LoadAnswer}
 use Rattle.judges.specs.declared.LoadAnswer.the-variants as load
 use Rattle.judges.specs.declared.ChainAnswer.{ChainAnswer}
 use Rattle.judges.specs.declared.ChainAnswer.the-variants as chain
+use Rattle.judges.specs.declared.LeastAnswer.{LeastAnswer}
+use Rattle.judges.specs.declared.LeastAnswer.the-variants as least
 
 -- the load test holds: nothing; or the cell that is over, and by how much; the record's 1 to 3
 abbrev pub loadGiven : LoadAnswer → Given
@@ -20,6 +22,12 @@ chainGiven chain.Chained = record { number = 0; values = [] }
 chainGiven (chain.Broken a b c) = record { number = 0; values = a ∷ b ∷ c ∷ [] }
 chainGiven (chain.Refused f) = faultGiven f
 
+-- how many channel-slots do, and then 0 where fewer do not, 1 where fewer may; the record's 1 to 3
+abbrev pub leastGiven : LeastAnswer → Given
+leastGiven (least.Least n) = record { number = 0; values = n ∷ 0 ∷ [] }
+leastGiven (least.Enough n) = record { number = 0; values = n ∷ 1 ∷ [] }
+leastGiven (least.Refused f) = faultGiven f
+
 -- what a call can answer: it refuses a record only for a fault (proofs/Given.antt)
 abbrev pub loadProper : LoadAnswer → Bool
 loadProper load.Holds = true
@@ -30,3 +38,8 @@ abbrev pub chainProper : ChainAnswer → Bool
 chainProper chain.Chained = true
 chainProper (chain.Broken a b c) = true
 chainProper (chain.Refused f) = not (isFine f)
+
+abbrev pub leastProper : LeastAnswer → Bool
+leastProper (least.Least n) = true
+leastProper (least.Enough n) = true
+leastProper (least.Refused f) = not (isFine f)

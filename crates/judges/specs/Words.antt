@@ -1,4 +1,4 @@
--- What the loops of the two calls ask, of the loads, the clash row of a cell and the word of the cells that count. No answer is defined here.
+-- What the loops of the calls ask, of the loads, the clash row of a cell and the word of the cells that count. No answer is defined here.
 use Prim.Native.Nat.{ℕ, _+_}
 use mathlib.Core.Bool.{Bool, _&&_}
 use mathlib.Core.List.{List}
@@ -22,3 +22,7 @@ demandIn loads row i = getD loads i 0 + loadsBelow loads row i
 -- whether the cell counts, and its demand is above the room
 abbrev pub overIn : List ℕ → ℕ → ℕ → ℕ → ℕ → Bool
 overIn loads row who room i = bitAt who i && ltb room (demandIn loads row i)
+
+-- what the cell asks of the room: its demand where it counts, else 0
+abbrev pub askedIn : List ℕ → ℕ → ℕ → ℕ → ℕ
+askedIn loads row who i = pick (bitAt who i) (demandIn loads row i) 0

@@ -1,4 +1,4 @@
-// The verdicts on a site: the load test, and the judge of the chain. Both ask the clash rows and the word of the cells that count, those with load above 0, and go from one
+// The verdicts on a site: the load test, the judge of the chain, and the least number of channel-slots that do. All ask the clash rows and the word of the cells that count, those with load above 0, and go from one
 // cell of a word to the next without a look at those between.
 ghost use mathlib.Core.Path.{_≡_};
 ghost use Prim.Native.Nat.{_≤_, _<_};
@@ -6,9 +6,10 @@ ghost use lib.Dec.{ltb};
 ghost use lib.ListN.{getD};
 ghost use Rattle.laws.specs.Bits.{bitAt, wordOf};
 ghost use Rattle.laws.specs.Choice.{pick};
+ghost use Rattle.laws.specs.Most.{greater, most};
 ghost use Rattle.laws.specs.Search.{first};
-ghost use Rattle.judges.specs.Judges.{countedIn, loadAnswer, chainAnswer};
-ghost use Rattle.judges.specs.Words.{loadsIn, demandIn, overIn};
+ghost use Rattle.judges.specs.Judges.{countedIn, loadAnswer, chainAnswer, leastAnswer};
+ghost use Rattle.judges.specs.Words.{loadsIn, demandIn, overIn, askedIn};
 use chainwords::break_of;
 use chainwords::first_break;
 use chainwords::gap;
@@ -28,6 +29,13 @@ pub enum LoadAnswer {
 pub enum ChainAnswer {
     Chained,
     Broken(usize, usize, usize),
+    Refused(Fault),
+}
+
+// How many channel-slots do: the least number that does, on a chained site; on any other so many are enough, and fewer may be.
+pub enum LeastAnswer {
+    Least(usize),
+    Enough(usize),
     Refused(Fault),
 }
 
@@ -170,4 +178,58 @@ pub fn chain(site: Site) -> ChainAnswer
         return ChainAnswer::Broken(a + 1, b + 1, c + 1);
     }
     ChainAnswer::Chained
+}
+
+// What a cell asks of the room: its demand where it counts, else 0.
+fn asked(loads: &[u16; 32], row: u32, who: u32, i: usize) -> u32
+    requires { ⌜ i < 32 ⌝ }
+    ensures { λ r. ⌜ r ≡ askedIn (now (loads .entry)) row who i ⌝ }
+{
+    if has(who, i) {
+        return demand(loads, row, i);
+    }
+    0
+}
+
+// The greater of two numbers.
+fn greater(a: u32, b: u32) -> u32
+    ensures { λ r. ⌜ r ≡ greater a b ⌝ }
+{
+    if a < b {
+        return b;
+    }
+    a
+}
+
+// The greatest demand of the cells that count.
+fn most_demand(loads: &[u16; 32], clash: &[u32; 32], who: u32, cells: usize) -> u32
+    requires { ⌜ cells ≤ 32 ⌝ }
+    ensures { λ r. ⌜ r ≡ most (λ i. askedIn (now (loads .entry)) (getD (now (clash .entry)) i 0) who i) cells ⌝ }
+{
+    let mut greatest: u32 = 0;
+    let mut i = 0;
+    while i < cells {
+        greatest = greater(greatest, asked(loads, clash[i], who, i));
+        i += 1;
+    }
+    greatest
+}
+
+// How many channel-slots do for the site's cells, loads and reach, whatever slots and channels it has now.
+pub fn least(site: Site) -> LeastAnswer
+    ensures { λ r. ⌜ r ≡ leastAnswer site ⌝ }
+{
+    let f = site.fault_in();
+    let Fault::Fine = f else {
+        return LeastAnswer::Refused(f);
+    };
+    let cells = site.cells as usize;
+    let loads = site.loads;
+    let clash = site.clash_rows();
+    let who = counted(&loads);
+    let n = most_demand(&loads, &clash, who, cells) as usize;
+    if first_break(&clash, who, cells) < cells {
+        return LeastAnswer::Enough(n);
+    }
+    LeastAnswer::Least(n)
 }

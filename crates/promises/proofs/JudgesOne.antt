@@ -2,8 +2,9 @@
 -- Assumes nothing.
 use mathlib.Core.Path.{_≡_, sym, _∙_}
 use Rattle.judges.specs.declared.ChainAnswer.{ChainAnswer}
+use Rattle.judges.specs.declared.LeastAnswer.{LeastAnswer}
 use Rattle.judges.specs.declared.LoadAnswer.{LoadAnswer}
-use Rattle.promises.specs.JudgesSays.{Chain, LoadTest}
+use Rattle.promises.specs.JudgesSays.{Chain, Least, LoadTest}
 use Rattle.site.specs.declared.Site.{Site}
 
 -- judges::load_test
@@ -13,3 +14,7 @@ loadTest-one site r q says also = says .answer ∙ sym (also .answer)
 -- judges::chain
 pub chain-one : (site : Site) (r q : ChainAnswer) → Chain site r → Chain site q → (r ≡ q)
 chain-one site r q says also = says .answer ∙ sym (also .answer)
+
+-- judges::least
+pub least-one : (site : Site) (r q : LeastAnswer) → Least site r → Least site q → (r ≡ q)
+least-one site r q says also = says .answer ∙ sym (also .answer)

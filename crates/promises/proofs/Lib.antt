@@ -5,6 +5,7 @@ pub mod Demand1
 pub mod Demand2
 pub mod Names
 pub mod Demand3
+pub mod Least
 pub mod Files
 pub mod Sheets
 pub mod Admission
@@ -30,9 +31,13 @@ pub mod RecordsOne
 pub mod SitefileOne
 pub mod PlanfileOne
 pub mod TextOne
+pub mod SpeechOne
+pub mod RefusalsOne
 pub mod ListingOne
 pub mod LinesOne
 pub mod PutlinesOne
 pub mod SheetOne
+pub mod VerdictsOne
+pub mod WhyOne
 pub mod ToldOne
 pub mod CapiOne

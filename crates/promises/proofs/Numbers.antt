@@ -4,7 +4,6 @@ use mathlib.Core.Path.{_≡_, refl, ap}
 use mathlib.Core.List.{List, [], _∷_}
 use mathlib.Core.Logic.{_↔_}
 use Prim.Native.Nat.{ℕ}
-use native.Mathlib.Omega.{arith}
 use Rattle.theory.specs.Greedy.{Outcome, planned, noRoom}
 use Rattle.site.specs.Record.{faultOf}
 use Rattle.site.specs.Given.{faultGiven}
@@ -19,11 +18,12 @@ use Rattle.checker.specs.Check.{checkAnswer}
 use Rattle.checker.specs.Given.{checkGiven}
 use Rattle.checker.specs.declared.CheckAnswer.the-variants as checker
 use Rattle.checker.proofs.Given.{check-apart, check-proper}
-use Rattle.judges.specs.Judges.{loadAnswer, chainAnswer}
-use Rattle.judges.specs.Given.{loadGiven, chainGiven}
+use Rattle.judges.specs.Judges.{loadAnswer, chainAnswer, leastAnswer}
+use Rattle.judges.specs.Given.{loadGiven, chainGiven, leastGiven}
 use Rattle.judges.specs.declared.LoadAnswer.the-variants as load
 use Rattle.judges.specs.declared.ChainAnswer.the-variants as chain
-use Rattle.judges.proofs.Given.{load-apart, load-proper, chain-apart, chain-proper}
+use Rattle.judges.specs.declared.LeastAnswer.the-variants as least
+use Rattle.judges.proofs.Given.{load-apart, load-proper, chain-apart, chain-proper, least-apart, least-proper}
 use Rattle.promises.specs.Numbers.{done, doneWith, refused, runGiven}
 use Rattle.promises.specs.Demands.{Accepted}
 
@@ -62,3 +62,9 @@ chain-number s = (chain-apart (chainAnswer s) chain.Chained (chain-proper s) ref
 
 pub broken-number : (s : Site) (a b c : ℕ) → chainGiven (chainAnswer s) ≡ doneWith (a ∷ b ∷ c ∷ []) → chainAnswer s ≡ chain.Broken a b c
 broken-number s a b c = chain-apart (chainAnswer s) (chain.Broken a b c) (chain-proper s) refl
+
+pub least-number : (s : Site) (n : ℕ) → leastGiven (leastAnswer s) ≡ doneWith (n ∷ 0 ∷ []) ↔ leastAnswer s ≡ least.Least n
+least-number s n = (least-apart (leastAnswer s) (least.Least n) (least-proper s) refl, ap leastGiven)
+
+pub enough-number : (s : Site) (n : ℕ) → leastGiven (leastAnswer s) ≡ doneWith (n ∷ 1 ∷ []) ↔ leastAnswer s ≡ least.Enough n
+enough-number s n = (least-apart (leastAnswer s) (least.Enough n) (least-proper s) refl, ap leastGiven)

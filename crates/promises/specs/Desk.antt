@@ -8,8 +8,8 @@ use Rattle.site.specs.Given.{Given}
 use Rattle.site.specs.declared.Site.{Site}
 use Rattle.planner.specs.Plan.{planAnswer, planTable}
 use Rattle.planner.specs.Given.{planGiven}
-use Rattle.judges.specs.Judges.{loadAnswer, chainAnswer}
-use Rattle.judges.specs.Given.{loadGiven, chainGiven}
+use Rattle.judges.specs.Judges.{loadAnswer, chainAnswer, leastAnswer}
+use Rattle.judges.specs.Given.{loadGiven, chainGiven, leastGiven}
 use Rattle.checker.specs.Check.{checkAnswer}
 use Rattle.checker.specs.Given.{checkGiven}
 use Rattle.promises.specs.Numbers.{done, doneWith, refused}
@@ -72,6 +72,9 @@ loadCall s = gives (loadGiven (loadAnswer s))
 abbrev pub chainCall : Site → Reply
 chainCall s = gives (chainGiven (chainAnswer s))
 
+abbrev pub leastCall : Site → Reply
+leastCall s = gives (leastGiven (leastAnswer s))
+
 abbrev pub checkCall : Site → List ℕ → Reply
 checkCall s table = gives (checkGiven (checkAnswer s table))
 
@@ -131,4 +134,9 @@ deskTable =
     ∷ planCall (alone 0) ⇒ leaves done (0 ∷ 9 ∷ [])
     ∷ planCall (alone 1) ⇒ leaves done (1 ∷ 9 ∷ [])
     ∷ planCall (alone 2) ⇒ leaves (refused 5 (1 ∷ 1 ∷ [])) (allIdle (alone 2))
+    -- how many channel-slots do: P1 has 6 and needs them all, its spare cell asks nothing; P2 needs 7; 3 are enough for P3, which is not chained, and it is planned with 2
+    ∷ leastCall P1 ⇒ gives (doneWith (6 ∷ 0 ∷ []))
+    ∷ leastCall P1spare ⇒ gives (doneWith (6 ∷ 0 ∷ []))
+    ∷ leastCall P2 ⇒ gives (doneWith (7 ∷ 0 ∷ []))
+    ∷ leastCall P3 ⇒ gives (doneWith (3 ∷ 1 ∷ []))
     ∷ []

@@ -22,9 +22,13 @@ pub mod RecordsSays
 pub mod SitefileSays
 pub mod PlanfileSays
 pub mod TextSays
+pub mod SpeechSays
+pub mod RefusalsSays
 pub mod ListingSays
 pub mod LinesSays
 pub mod PutlinesSays
 pub mod SheetSays
+pub mod VerdictsSays
+pub mod WhySays
 pub mod ToldSays
 pub mod CapiSays

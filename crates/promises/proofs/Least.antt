@@ -1,0 +1,111 @@
+-- What the desk may sell: the least number of channel-slots that do, over what the calls say, in the document's numbers. The greatest demand depends on cells, loads and reach
+-- alone, so that it is that of every site with the same; and the load test, exact on the chain, holds where there are so many channel-slots. Assumes nothing.
+use mathlib.Core.Path.{_≡_, refl, _∙_}
+use mathlib.Core.List.{List, [], _∷_}
+use mathlib.Core.Logic.{_↔_}
+use Prim.Native.Nat.{ℕ, _*_, _≤_, _<_}
+use native.Mathlib.Omega.{arith}
+use native.Mathlib.Nat.{le-refl, mul-comm}
+use lib.ListN.{replicate, length-replicate}
+use Rattle.theory.specs.Net.{Chained}
+use Rattle.theory.specs.Verdict.{mostDemand}
+use Rattle.theory.proofs.LoadLaws.{most-demand-test}
+use Rattle.site.specs.Record.{positions, size}
+use Rattle.site.specs.Reach.{netOf}
+use Rattle.site.specs.declared.Site.{Site}
+use Rattle.site.proofs.Accepted.{net-open}
+use Rattle.site.proofs.Faults.{fine-sized}
+use Rattle.planner.specs.Plan.{planAnswer}
+use Rattle.planner.specs.Given.{planGiven}
+use Rattle.judges.specs.Judges.{counted, loadAnswer, chainAnswer, leastAnswer}
+use Rattle.judges.specs.Given.{loadGiven, chainGiven, leastGiven}
+use Rattle.judges.proofs.Meaning.{least-means, enough-means}
+use Rattle.why.specs.Words.{fewest}
+use Rattle.why.proofs.Sizes.{fewest-exact}
+use Rattle.checker.specs.Check.{checkAnswer}
+use Rattle.checker.specs.Given.{checkGiven}
+use Rattle.promises.specs.Numbers.{done, doneWith}
+use Rattle.promises.specs.Demands.{Accepted, LongEnough, Easier, Alike}
+use Rattle.promises.proofs.Numbers.{accepted-number, least-number, enough-number}
+use Rattle.promises.proofs.Demand2.{load-is-C1, judge-is-chained}
+use Rattle.promises.proofs.Demand3.{demand-three-calls, chained-exact, holds-plans}
+
+-- ---- sites with the same cells, loads and reach
+
+module _ (other site : Site) (alike : Alike other site) where
+  same-most : mostDemand (netOf other) (counted other) ≡ mostDemand (netOf site) (counted site)
+  unfolding mostDemand
+  same-most = rw (alike .same-cells, alike .same-loads, alike .same-reach)
+
+  same-chain : Chained (netOf site) (counted site) → Chained (netOf other) (counted other)
+  same-chain h = rw (alike .same-cells, alike .same-loads, alike .same-reach) h
+
+  -- the load test of the other holds exactly where it has as many channel-slots as the greatest demand
+  room-test : (n : ℕ) → mostDemand (netOf site) (counted site) ≡ n → Accepted other → n ≤ positions other ↔ loadGiven (loadAnswer other) ≡ done
+  room-test n e ok =
+      let t = most-demand-test (netOf other) (counted other) in
+      let is : mostDemand (netOf other) (counted other) ≡ n = same-most ∙ e in
+      let room = net-open other in (
+        λ h. load-is-C1 other .1 (ok, t .0 (omega arith)),
+        λ h. omega (arith, t .1 (load-is-C1 other .0 h .1)),
+      )
+
+-- ---- a chained site
+
+-- the least number is answered exactly on a chained site
+pub least-where : (s : Site) → chainGiven (chainAnswer s) ≡ done ↔ ((n : ℕ) × (leastGiven (leastAnswer s) ≡ doneWith (n ∷ 0 ∷ [])))
+least-where s = (
+  λ e.
+      let c = judge-is-chained s .0 e in
+      let n = mostDemand (netOf s) (counted s) in
+      (n, least-number s n .1 (least-means s n .1 (accepted-number s .0 (c .0), c .1, refl))),
+  λ w.
+      let m = least-means s (w .0) .0 (least-number s (w .0) .0 (w .1)) in
+      judge-is-chained s .1 (accepted-number s .1 (m .0), m .1),
+)
+
+module _ (site : Site) (n : ℕ) (e : leastGiven (leastAnswer site) ≡ doneWith (n ∷ 0 ∷ [])) (other : Site) (ok : Accepted other) (alike : Alike other site) where
+  chained-too : chainGiven (chainAnswer other) ≡ done
+  chained-too = judge-is-chained other .1 (ok, same-chain other site alike (least-means site n .0 (least-number site n .0 e) .1))
+
+  -- "on a chained site .. a site with the same cells, loads and reach is planned exactly when its channel-slots are at least that many"
+  pub least-exact : (lent : List ℕ) → LongEnough other lent → planGiven (planAnswer other lent) ≡ done ↔ n ≤ positions other
+  least-exact lent long =
+      let m = least-means site n .0 (least-number site n .0 e) in
+      let t = room-test other site alike n (m .2) ok in
+      let x = chained-exact other chained-too lent long in
+      (λ h. t .1 (x .1 h), λ h. x .0 (t .0 h))
+
+  -- "and so the least slots": with its channels, the slots that it takes
+  pub least-slots : (lent : List ℕ) → LongEnough other lent → planGiven (planAnswer other lent) ≡ done ↔ fewest n (other .channels) ≤ other .slots
+  least-slots lent long =
+      let z = fine-sized other (accepted-number other .0 ok) in
+      let f = fewest-exact n (other .channels) (other .slots) (z .channels-some) (z .slots-some) in
+      let x = least-exact lent long in
+      (λ h. f .0 (x .0 h), λ h. x .1 (f .1 h))
+
+  -- "and the least channels": with its slots, the channels that it takes
+  pub least-channels : (lent : List ℕ) → LongEnough other lent → planGiven (planAnswer other lent) ≡ done ↔ fewest n (other .slots) ≤ other .channels
+  least-channels lent long =
+      let z = fine-sized other (accepted-number other .0 ok) in
+      let f = fewest-exact n (other .slots) (other .channels) (z .slots-some) (z .channels-some) in
+      let x = least-exact lent long in
+      let turned : positions other ≡ other .channels * other .slots = mul-comm (other .slots) (other .channels) in
+      (λ h. f .0 (rw turned at (x .0 h)), λ h. x .1 (rw turned (f .1 h)))
+
+  -- with fewer no planner can do it: no table at all is valid
+  pub least-full : positions other < n → (any : List ℕ) → checkGiven (checkAnswer other any) ≡ done → ⊥
+  least-full few any v =
+      let same : Easier other other = record { same-cells = refl; as-many-channel-slots = le-refl _; no-greater-load = λ i _. le-refl _; no-new-clash = λ a c _ _ q. q } in
+      let lent : List ℕ = replicate (size other) 0 in
+      let long : LongEnough other lent = omega (arith, length-replicate {A = ℕ} (size other) 0) in
+      omega (arith, least-exact lent long .0 (demand-three-calls other other same chained-too any v lent long))
+
+-- ---- any site
+
+-- "so many are enough": on the chain and off it
+pub enough-plans : (site : Site) (n : ℕ) → leastGiven (leastAnswer site) ≡ doneWith (n ∷ 1 ∷ []) → (other : Site) → Accepted other → Alike other site → n ≤ positions other
+    → (lent : List ℕ) → LongEnough other lent → planGiven (planAnswer other lent) ≡ done
+enough-plans site n e other ok alike h lent long =
+    let m = enough-means site n .0 (enough-number site n .0 e) in
+    holds-plans other (room-test other site alike n (m .2) ok .0 h) lent long

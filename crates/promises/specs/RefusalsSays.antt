@@ -1,0 +1,13 @@
+-- The equalities that the contracts of crate `refusals` state: r is the answer, and x′ what a lent x holds afterwards. Made by tools/surface from the source.
+use mathlib.Core.Path.{_≡_}
+use mathlib.Core.List.{List}
+use Prim.Native.Nat.{_+_, ℕ}
+use Rattle.refusals.specs.Words.{refusedLine}
+use Rattle.refusals.specs.declared.Place.{Place}
+use lib.ListN.{length}
+use lib.Seq.{sets}
+
+-- refusals::refused
+pub record RefusalsRefused (out : List ℕ) (at : ℕ) (number : ℕ) (place : Place) (r : ℕ) (out′ : List ℕ) : Type 0 where
+  pub answer : r ≡ at + length (refusedLine number place)
+  pub out-after : out′ ≡ sets out at (refusedLine number place)

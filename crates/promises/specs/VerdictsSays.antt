@@ -1,0 +1,49 @@
+-- The equalities that the contracts of crate `verdicts` state: r is the answer, and x′ what a lent x holds afterwards. Made by tools/surface from the source.
+use mathlib.Core.Path.{_≡_}
+use mathlib.Core.List.{List}
+use Prim.Native.Nat.{_+_, ℕ}
+use Rattle.checker.specs.declared.CheckAnswer.{CheckAnswer}
+use Rattle.planner.specs.declared.PlanAnswer.{PlanAnswer}
+use Rattle.records.specs.declared.ReadAnswer.{ReadAnswer}
+use Rattle.shares.specs.declared.ShareAnswer.{ShareAnswer}
+use Rattle.sheet.specs.declared.SheetAnswer.{SheetAnswer}
+use Rattle.site.specs.declared.Fault.{Fault}
+use Rattle.site.specs.declared.Site.{Site}
+use Rattle.verdicts.specs.Words.{checkWords, faultWords, otherPlanLine, planWords, readWords, shareWords, sheetWords}
+use lib.ListN.{length}
+use lib.Seq.{sets}
+
+-- verdicts::other_plan_line
+pub record VerdictsOtherPlanLine (out : List ℕ) (at : ℕ) (cells : ℕ) (slots : ℕ) (channels : ℕ) (r : ℕ) (out′ : List ℕ) : Type 0 where
+  pub answer : r ≡ at + length (otherPlanLine cells slots channels)
+  pub out-after : out′ ≡ sets out at (otherPlanLine cells slots channels)
+
+-- verdicts::fault_words
+pub record VerdictsFaultWords (out : List ℕ) (at : ℕ) (reply : Fault) (r : ℕ) (out′ : List ℕ) : Type 0 where
+  pub answer : r ≡ at + length (faultWords reply)
+  pub out-after : out′ ≡ sets out at (faultWords reply)
+
+-- verdicts::read_words
+pub record VerdictsReadWords (out : List ℕ) (at : ℕ) (reply : ReadAnswer) (r : ℕ) (out′ : List ℕ) : Type 0 where
+  pub answer : r ≡ at + length (readWords reply)
+  pub out-after : out′ ≡ sets out at (readWords reply)
+
+-- verdicts::sheet_words
+pub record VerdictsSheetWords (out : List ℕ) (at : ℕ) (reply : SheetAnswer) (r : ℕ) (out′ : List ℕ) : Type 0 where
+  pub answer : r ≡ at + length (sheetWords reply)
+  pub out-after : out′ ≡ sets out at (sheetWords reply)
+
+-- verdicts::share_words
+pub record VerdictsShareWords (out : List ℕ) (at : ℕ) (reply : ShareAnswer) (r : ℕ) (out′ : List ℕ) : Type 0 where
+  pub answer : r ≡ at + length (shareWords reply)
+  pub out-after : out′ ≡ sets out at (shareWords reply)
+
+-- verdicts::plan_words
+pub record VerdictsPlanWords (out : List ℕ) (at : ℕ) (site : Site) (reply : PlanAnswer) (r : ℕ) (out′ : List ℕ) : Type 0 where
+  pub answer : r ≡ at + length (planWords site reply)
+  pub out-after : out′ ≡ sets out at (planWords site reply)
+
+-- verdicts::check_words
+pub record VerdictsCheckWords (out : List ℕ) (at : ℕ) (site : Site) (reply : CheckAnswer) (r : ℕ) (out′ : List ℕ) : Type 0 where
+  pub answer : r ≡ at + length (checkWords site reply)
+  pub out-after : out′ ≡ sets out at (checkWords site reply)

@@ -1,0 +1,2 @@
+-- The definitions of crate `speech`, module by module.
+pub mod Speech

@@ -1,0 +1,1 @@
+-- The laws of crate `verdicts`, module by module.

@@ -1,0 +1,2 @@
+-- The definitions of crate `verdicts`, module by module.
+pub mod Words

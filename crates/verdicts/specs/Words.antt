@@ -1,0 +1,96 @@
+-- The words of the answers that the desk asks for: a finished table's check, a plan, a share, a file or a sheet that was read.
+use Prim.Native.Nat.{ℕ, _+_, _-_, _/_, _%_}
+use mathlib.Core.Bool.{_&&_}
+use mathlib.Core.List.{List, []}
+use lib.Dec.{ltb}
+use lib.ListN.{getD}
+use Rattle.laws.specs.Choice.{pick}
+use Rattle.site.specs.declared.Site.{Site}
+use Rattle.site.specs.declared.Fault.{Fault}
+use Rattle.site.specs.declared.Fault.the-variants.{Fine, Size, Load, Reach}
+use Rattle.checker.specs.declared.CheckAnswer.{CheckAnswer}
+use Rattle.checker.specs.declared.CheckAnswer.the-variants as check
+use Rattle.planner.specs.declared.PlanAnswer.{PlanAnswer}
+use Rattle.planner.specs.declared.PlanAnswer.the-variants as plan
+use Rattle.shares.specs.declared.ShareAnswer.{ShareAnswer}
+use Rattle.shares.specs.declared.ShareAnswer.the-variants as share
+use Rattle.records.specs.declared.ReadAnswer.{ReadAnswer}
+use Rattle.records.specs.declared.ReadAnswer.the-variants as read
+use Rattle.sheet.specs.declared.SheetAnswer.{SheetAnswer}
+use Rattle.sheet.specs.declared.SheetAnswer.the-variants as sheet
+use Rattle.speech.specs.Speech.{said}
+use Rattle.refusals.specs.Words.{refusedLine}
+use Rattle.refusals.specs.declared.Place.the-variants.{Nowhere, Byte, Line, Cell}
+
+-- ---- the lines
+
+abbrev pub validLine : List ℕ
+validLine = said "valid\n" 0 0 0 0
+
+abbrev pub clashLine : (a c slot channel : ℕ) → List ℕ
+clashLine a c slot channel = said "refused 6: cells @1 and @2 disturb each other, and both send in slot @3, channel @4\n" a c slot channel
+
+abbrev pub countLine : (cell times load : ℕ) → List ℕ
+countLine cell times load = said "refused 7: cell @1 sends @2 times in a superframe, and its load is @3\n" cell times load 0
+
+abbrev pub plannedLine : (cells slots channels : ℕ) → List ℕ
+plannedLine cells slots channels = said "planned: @1 cells, @2 slots, @3 channels\n" cells slots channels 0
+
+abbrev pub noRoomLine : (cell short : ℕ) → List ℕ
+noRoomLine cell short = said "refused 5, cell @1: no room for @2 of its fragments; duggfrask why says whether the site is full\n" cell short 0 0
+
+abbrev pub shareLine : (share queue delay : ℕ) → List ℕ
+shareLine share queue delay = said "share @1 fragments in a superframe\nqueue at most @2 fragments\ndelay at most @3 slots\n" share queue delay 0
+
+abbrev pub otherPlanLine : (cells slots channels : ℕ) → List ℕ
+otherPlanLine cells slots channels = said "refused: the plan is for @1 cells, @2 slots and @3 channels, and the site is of another size\n" cells slots channels 0
+
+-- ---- the answers
+
+-- the load of a cell, by its number; 0 where a record holds none
+unfoldable pub loadOf : Site → ℕ → ℕ
+loadOf s cell = pick (ltb 0 cell && ltb cell 33) (getD (s .loads) (cell - 1) 0) 0
+
+-- a clash at position p, by slot and channel. A site has a channel and at most 2,048 positions; otherwise there is no place to name
+unfoldable pub clashWords : (channels p a c : ℕ) → List ℕ
+clashWords channels p a c = pick (ltb 0 channels && ltb p 65536) (clashLine a c (p / channels + 1) (p % channels + 1)) (refusedLine 6 Nowhere)
+
+-- what is wrong with a record: 1; 2 and 3 with the cell
+abbrev pub faultWords : Fault → List ℕ
+faultWords Fine = []
+faultWords Size = refusedLine 1 Nowhere
+faultWords (Load cell) = refusedLine 2 (Cell cell)
+faultWords (Reach cell) = refusedLine 3 (Cell cell)
+
+-- a file that was read: nothing to say; or the number and the offset
+abbrev pub readWords : ReadAnswer → List ℕ
+readWords read.Done = []
+readWords (read.Refused number at) = refusedLine number (Byte at)
+
+-- a sheet that was read: nothing to say; 17 and the line; or what is wrong with the site
+abbrev pub sheetWords : SheetAnswer → List ℕ
+sheetWords sheet.Done = []
+sheetWords (sheet.BadLine line) = refusedLine 17 (Line line)
+sheetWords (sheet.Refused f) = faultWords f
+
+-- "valid", or the first thing wrong, in words: which two cells, slot and channel; or which cell, how often it sends and how often it should
+abbrev pub checkWords : Site → CheckAnswer → List ℕ
+checkWords s check.Valid = validLine
+checkWords s check.TableShort = refusedLine 4 Nowhere
+checkWords s (check.Clash p a c) = clashWords (s .channels) p a c
+checkWords s (check.Count cell n) = countLine cell n (loadOf s cell)
+checkWords s (check.Refused f) = faultWords f
+
+-- "one line .. says what was planned"
+abbrev pub planWords : Site → PlanAnswer → List ℕ
+planWords s plan.Done = plannedLine (s .cells) (s .slots) (s .channels)
+planWords s plan.TableShort = refusedLine 4 Nowhere
+planWords s (plan.NoRoom cell short) = noRoomLine cell short
+planWords s (plan.Refused f) = faultWords f
+
+-- "share, queue bound, delay bound, each with its unit"
+abbrev pub shareWords : ShareAnswer → List ℕ
+shareWords (share.Done s q d) = shareLine (s .0) (q .0) (d .0)
+shareWords share.OutOfRange = refusedLine 1 Nowhere
+shareWords share.BadFlow = refusedLine 15 Nowhere
+shareWords share.BigShare = refusedLine 16 Nowhere

@@ -1,0 +1,281 @@
+// The words of the answers that the desk asks for, written into a lent buffer. Each function puts its words at `at` and answers where the next byte goes.
+use checker::CheckAnswer;
+use planner::PlanAnswer;
+use records::ReadAnswer;
+use refusals::Place;
+use shares::ShareAnswer;
+use sheet::SheetAnswer;
+use site::Fault;
+use site::Site;
+use speech::say;
+ghost use mathlib.Core.Path.{_≡_};
+ghost use Prim.Native.Nat.{_+_, _≤_, _<_, _-_, _/_, _%_};
+ghost use lib.ListN.{length, getD};
+ghost use lib.Seq.{sets};
+ghost use Rattle.verdicts.specs.Words.{validLine, clashLine, countLine, plannedLine, noRoomLine, shareLine, otherPlanLine, loadOf, clashWords, faultWords, readWords, sheetWords, checkWords, planWords, shareWords};
+
+// A valid table.
+fn valid_line(out: &mut [u8], at: usize) -> usize
+    requires { ⌜ at + 1000 ≤ length (now out) ⌝ }
+    ensures stored { λ r. ⌜ now (out .exit) ≡ sets (now (out .entry)) at validLine ⌝ }
+    ensures next { λ r. ⌜ r ≡ at + length validLine ⌝ }
+    ensures short { λ r. ⌜ r ≤ at + 1000 ⌝ }
+{
+    say(out, at, b"valid\n", 0, 0, 0, 0)
+}
+
+// Two cells that disturb each other send at the same position.
+fn clash_line(out: &mut [u8], at: usize, a: usize, c: usize, slot: usize, channel: usize) -> usize
+    requires { ⌜ at + 1000 ≤ length (now out) ⌝ }
+    ensures stored { λ r. ⌜ now (out .exit) ≡ sets (now (out .entry)) at (clashLine a c slot channel) ⌝ }
+    ensures next { λ r. ⌜ r ≡ at + length (clashLine a c slot channel) ⌝ }
+    ensures short { λ r. ⌜ r ≤ at + 1000 ⌝ }
+{
+    say(
+        out,
+        at,
+        b"refused 6: cells @1 and @2 disturb each other, and both send in slot @3, channel @4\n",
+        a,
+        c,
+        slot,
+        channel,
+    )
+}
+
+// A cell sends more or less often than its load says.
+fn count_line(out: &mut [u8], at: usize, cell: usize, times: usize, load: usize) -> usize
+    requires { ⌜ at + 1000 ≤ length (now out) ⌝ }
+    ensures stored { λ r. ⌜ now (out .exit) ≡ sets (now (out .entry)) at (countLine cell times load) ⌝ }
+    ensures next { λ r. ⌜ r ≡ at + length (countLine cell times load) ⌝ }
+    ensures short { λ r. ⌜ r ≤ at + 1000 ⌝ }
+{
+    say(
+        out,
+        at,
+        b"refused 7: cell @1 sends @2 times in a superframe, and its load is @3\n",
+        cell,
+        times,
+        load,
+        0,
+    )
+}
+
+// A plan.
+fn planned_line(out: &mut [u8], at: usize, cells: usize, slots: usize, channels: usize) -> usize
+    requires { ⌜ at + 1000 ≤ length (now out) ⌝ }
+    ensures stored { λ r. ⌜ now (out .exit) ≡ sets (now (out .entry)) at (plannedLine cells slots channels) ⌝ }
+    ensures next { λ r. ⌜ r ≡ at + length (plannedLine cells slots channels) ⌝ }
+    ensures short { λ r. ⌜ r ≤ at + 1000 ⌝ }
+{
+    say(
+        out,
+        at,
+        b"planned: @1 cells, @2 slots, @3 channels\n",
+        cells,
+        slots,
+        channels,
+        0,
+    )
+}
+
+// The planner finds no room for a cell.
+fn no_room_line(out: &mut [u8], at: usize, cell: usize, short: usize) -> usize
+    requires { ⌜ at + 1000 ≤ length (now out) ⌝ }
+    ensures stored { λ r. ⌜ now (out .exit) ≡ sets (now (out .entry)) at (noRoomLine cell short) ⌝ }
+    ensures next { λ r. ⌜ r ≡ at + length (noRoomLine cell short) ⌝ }
+    ensures short { λ r. ⌜ r ≤ at + 1000 ⌝ }
+{
+    say(
+        out,
+        at,
+        b"refused 5, cell @1: no room for @2 of its fragments; duggfrask why says whether the site is full\n",
+        cell,
+        short,
+        0,
+        0,
+    )
+}
+
+// The share of a flow, and its bounds.
+fn share_line(out: &mut [u8], at: usize, share: usize, queue: usize, delay: usize) -> usize
+    requires { ⌜ at + 1000 ≤ length (now out) ⌝ }
+    ensures stored { λ r. ⌜ now (out .exit) ≡ sets (now (out .entry)) at (shareLine share queue delay) ⌝ }
+    ensures next { λ r. ⌜ r ≡ at + length (shareLine share queue delay) ⌝ }
+    ensures short { λ r. ⌜ r ≤ at + 1000 ⌝ }
+{
+    say(
+        out,
+        at,
+        b"share @1 fragments in a superframe\nqueue at most @2 fragments\ndelay at most @3 slots\n",
+        share,
+        queue,
+        delay,
+        0,
+    )
+}
+
+// A plan that is of another size than the site.
+pub fn other_plan_line(
+    out: &mut [u8],
+    at: usize,
+    cells: usize,
+    slots: usize,
+    channels: usize,
+) -> usize
+    requires { ⌜ at + 1000 ≤ length (now out) ⌝ }
+    ensures stored { λ r. ⌜ now (out .exit) ≡ sets (now (out .entry)) at (otherPlanLine cells slots channels) ⌝ }
+    ensures next { λ r. ⌜ r ≡ at + length (otherPlanLine cells slots channels) ⌝ }
+    ensures short { λ r. ⌜ r ≤ at + 1000 ⌝ }
+{
+    say(
+        out,
+        at,
+        b"refused: the plan is for @1 cells, @2 slots and @3 channels, and the site is of another size\n",
+        cells,
+        slots,
+        channels,
+        0,
+    )
+}
+
+// A load as a number.
+fn wide(x: u16) -> usize
+    ensures { λ r. ⌜ r ≡ x ⌝ }
+{
+    x as usize
+}
+
+// The load of a cell, by its number.
+fn load_of(site: Site, cell: usize) -> usize
+    ensures { λ r. ⌜ r ≡ loadOf site cell ⌝ }
+{
+    if cell < 1 {
+        return 0;
+    }
+    if 32 < cell {
+        return 0;
+    }
+    let loads = site.loads;
+    wide(loads[cell - 1])
+}
+
+// Where a clash is, by slot and channel.
+fn clash_words(out: &mut [u8], at: usize, a: usize, c: usize, p: usize, channels: usize) -> usize
+    requires { ⌜ at + 2000 ≤ length (now out) ⌝ }
+    ensures stored { λ r. ⌜ now (out .exit) ≡ sets (now (out .entry)) at (clashWords channels p a c) ⌝ }
+    ensures next { λ r. ⌜ r ≡ at + length (clashWords channels p a c) ⌝ }
+    ensures short { λ r. ⌜ r ≤ at + 2000 ⌝ }
+{
+    if channels < 1 {
+        return refusals::refused(out, at, 6, Place::Nowhere);
+    }
+    if 65535 < p {
+        return refusals::refused(out, at, 6, Place::Nowhere);
+    }
+    clash_line(out, at, a, c, p / channels + 1, p % channels + 1)
+}
+
+// What is wrong with a record.
+pub fn fault_words(out: &mut [u8], at: usize, reply: Fault) -> usize
+    requires { ⌜ at + 2000 ≤ length (now out) ⌝ }
+    ensures stored { λ r. ⌜ now (out .exit) ≡ sets (now (out .entry)) at (faultWords reply) ⌝ }
+    ensures next { λ r. ⌜ r ≡ at + length (faultWords reply) ⌝ }
+    ensures short { λ r. ⌜ r ≤ at + 2000 ⌝ }
+{
+    match reply {
+        Fault::Fine => at,
+        Fault::Size => refusals::refused(out, at, 1, Place::Nowhere),
+        Fault::Load(cell) => refusals::refused(out, at, 2, Place::Cell(cell)),
+        Fault::Reach(cell) => refusals::refused(out, at, 3, Place::Cell(cell)),
+    }
+}
+
+// A file that was read, or its refusal.
+pub fn read_words(out: &mut [u8], at: usize, reply: ReadAnswer) -> usize
+    requires { ⌜ at + 2000 ≤ length (now out) ⌝ }
+    ensures stored { λ r. ⌜ now (out .exit) ≡ sets (now (out .entry)) at (readWords reply) ⌝ }
+    ensures next { λ r. ⌜ r ≡ at + length (readWords reply) ⌝ }
+    ensures short { λ r. ⌜ r ≤ at + 2000 ⌝ }
+{
+    match reply {
+        ReadAnswer::Done => at,
+        ReadAnswer::Refused(number, offset) => refusals::refused(
+            out,
+            at,
+            number as usize,
+            Place::Byte(offset),
+        ),
+    }
+}
+
+// A sheet that was read, or its refusal.
+pub fn sheet_words(out: &mut [u8], at: usize, reply: SheetAnswer) -> usize
+    requires { ⌜ at + 2000 ≤ length (now out) ⌝ }
+    ensures stored { λ r. ⌜ now (out .exit) ≡ sets (now (out .entry)) at (sheetWords reply) ⌝ }
+    ensures next { λ r. ⌜ r ≡ at + length (sheetWords reply) ⌝ }
+    ensures short { λ r. ⌜ r ≤ at + 2000 ⌝ }
+{
+    match reply {
+        SheetAnswer::Done => at,
+        SheetAnswer::BadLine(line) => refusals::refused(out, at, 17, Place::Line(line)),
+        SheetAnswer::Refused(f) => fault_words(out, at, f),
+    }
+}
+
+// A share with its bounds, or its refusal.
+pub fn share_words(out: &mut [u8], at: usize, reply: ShareAnswer) -> usize
+    requires { ⌜ at + 2000 ≤ length (now out) ⌝ }
+    ensures stored { λ r. ⌜ now (out .exit) ≡ sets (now (out .entry)) at (shareWords reply) ⌝ }
+    ensures next { λ r. ⌜ r ≡ at + length (shareWords reply) ⌝ }
+    ensures short { λ r. ⌜ r ≤ at + 2000 ⌝ }
+{
+    match reply {
+        ShareAnswer::Done(share, queue, delay) => share_line(
+            out,
+            at,
+            share.0 as usize,
+            queue.0 as usize,
+            delay.0 as usize,
+        ),
+        ShareAnswer::OutOfRange => refusals::refused(out, at, 1, Place::Nowhere),
+        ShareAnswer::BadFlow => refusals::refused(out, at, 15, Place::Nowhere),
+        ShareAnswer::BigShare => refusals::refused(out, at, 16, Place::Nowhere),
+    }
+}
+
+// What was planned, or why not.
+pub fn plan_words(out: &mut [u8], at: usize, site: Site, reply: PlanAnswer) -> usize
+    requires { ⌜ at + 2000 ≤ length (now out) ⌝ }
+    ensures stored { λ r. ⌜ now (out .exit) ≡ sets (now (out .entry)) at (planWords site reply) ⌝ }
+    ensures next { λ r. ⌜ r ≡ at + length (planWords site reply) ⌝ }
+    ensures short { λ r. ⌜ r ≤ at + 2000 ⌝ }
+{
+    match reply {
+        PlanAnswer::Done => planned_line(
+            out,
+            at,
+            site.cells as usize,
+            site.slots as usize,
+            site.channels as usize,
+        ),
+        PlanAnswer::TableShort => refusals::refused(out, at, 4, Place::Nowhere),
+        PlanAnswer::NoRoom(cell, short) => no_room_line(out, at, cell, short),
+        PlanAnswer::Refused(f) => fault_words(out, at, f),
+    }
+}
+
+// A table that is valid, or the first thing wrong with it.
+pub fn check_words(out: &mut [u8], at: usize, site: Site, reply: CheckAnswer) -> usize
+    requires { ⌜ at + 2000 ≤ length (now out) ⌝ }
+    ensures stored { λ r. ⌜ now (out .exit) ≡ sets (now (out .entry)) at (checkWords site reply) ⌝ }
+    ensures next { λ r. ⌜ r ≡ at + length (checkWords site reply) ⌝ }
+    ensures short { λ r. ⌜ r ≤ at + 2000 ⌝ }
+{
+    match reply {
+        CheckAnswer::Valid => valid_line(out, at),
+        CheckAnswer::TableShort => refusals::refused(out, at, 4, Place::Nowhere),
+        CheckAnswer::Clash(p, a, c) => clash_words(out, at, a, c, p, site.channels as usize),
+        CheckAnswer::Count(cell, times) => count_line(out, at, cell, times, load_of(site, cell)),
+        CheckAnswer::Refused(f) => fault_words(out, at, f),
+    }
+}
