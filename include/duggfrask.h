@@ -8,7 +8,7 @@
  *    3  a reach row or bit beyond the last cell, or of a cell to itself (value: lowest row); or an edit or a pair that
  *       names a cell that is not there, or one cell twice (in an edit the value is its "from")
  *    4  the lent table is too short, or too few words are lent
- *    5  the planner finds no room (values: cell, fragments short)
+ *    5  the planner, or the mender, finds no room (values: cell, fragments short)
  *    6  two clashing cells transmit at one position (values: position, first cell, second cell)
  *    7  a cell has the wrong number of reservations (values: cell, its count)
  *    8  the file ends inside a record, or before one that is due
@@ -16,7 +16,7 @@
  *   10  the record's length is not that of its kind
  *   11  reach pairs do not rise
  *   12  bytes after the last record
- *   13  the lent output is too short (value: bytes needed)
+ *   13  the lent output is too short (value: bytes needed), or the list of changes is (value: how many there are)
  *   14  a left-over bit of a plan is 1
  *   15  burst or period is 0, or repeats are not 1 to 4
  *   16  the share is above 65,535
