@@ -1,4 +1,5 @@
 -- What the mender answers, and what it leaves in the lent table and in the lent list, for any site, any table and any list.
+use mathlib.Core.Path.{_≡_}
 use mathlib.Core.Bool.{Bool}
 use mathlib.Core.List.{List}
 use Prim.Native.Nat.{ℕ, _+_, _*_}
@@ -14,6 +15,7 @@ use Rattle.site.specs.Reach.{netIn, netOf}
 use Rattle.site.specs.declared.Site.{Site}
 use Rattle.mending.specs.Mend.{mend, overlay}
 use Rattle.mending.specs.Changes.{changes, changeCount}
+use Rattle.mender.specs.Words.{Says}
 use Rattle.mender.specs.declared.Stood.{Stood}
 use Rattle.mender.specs.declared.Stood.the-variants.{All, Short}
 use Rattle.mender.specs.declared.MendAnswer.{MendAnswer}
@@ -57,6 +59,31 @@ module _ (s : Net) (u l : List ℕ) where
   abbrev pub listAfter : Outcome → List ℕ
   listAfter (planned t) = pick (tooShort t) l (sets l 0 (listed s u t))
   listAfter (noRoom c m) = l
+
+-- what a list with no room for so many changes leaves, and what one with room does
+abbrev pub ifRoom : {A : Type 0} → List ℕ → ℕ → (short done : A) → A
+ifRoom l number short done = pick (ltb (length l) (4 * number)) short done
+
+-- the same for a problem by its numbers: what stands, or the cell that finds no room; and the answer, the table and the list after it
+module _ (cells n : ℕ) (loads clash u : List ℕ) where
+  abbrev pub mendBy : Outcome
+  mendBy = mend (netBy cells n loads clash) u
+
+  abbrev pub stoodBy : Stood
+  stoodBy = stoodOf (netBy cells n loads clash) u mendBy
+
+  -- the words and counts say what stands, where every cell finds room
+  abbrev pub SaysBy : List ℕ → List ℕ → Type 0
+  SaysBy words counts = (t : List ℕ) → mendBy ≡ planned t → Says cells n t u words counts
+
+  abbrev pub answerBy : List ℕ → MendAnswer
+  answerBy l = answerOf (netBy cells n loads clash) u l mendBy
+
+  abbrev pub tableBy : List ℕ → List ℕ
+  tableBy l = tableAfter (netBy cells n loads clash) u l mendBy
+
+  abbrev pub listBy : List ℕ → List ℕ
+  listBy l = listAfter (netBy cells n loads clash) u l mendBy
 
 -- "Refusals: the record's faults, 4, then 5 .., then 13": a call, by what it comes to once record and table are good
 abbrev pub called : {A : Type 0} → Site → List ℕ → (refused short done : A) → A

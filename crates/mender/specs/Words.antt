@@ -2,17 +2,19 @@
 use mathlib.Core.Path.{_≡_}
 use mathlib.Core.Bool.{Bool}
 use mathlib.Core.List.{List}
-use Prim.Native.Nat.{ℕ, _^_, _<_}
+use Prim.Native.Nat.{ℕ, _+_, _^_, _<_}
 use lib.Bits.{bitAnd, bitOr}
 use lib.Dec.{eqb}
 use lib.ListN.{getD}
+use lib.Seq.{sets}
 use Rattle.laws.specs.Bits.{bitAt, bitIn}
 use Rattle.laws.specs.Choice.{pick}
+use Rattle.laws.specs.Part.{listOf}
 use Rattle.laws.specs.Sum.{count}
 use Rattle.theory.specs.Net.{Reserved}
-use Rattle.theory.specs.Greedy.{reserved}
-use Rattle.mending.specs.Keep.{standAt}
-use Rattle.mending.specs.Changes.{changed, changeCount}
+use Rattle.theory.specs.Greedy.{sends, reserved}
+use Rattle.mending.specs.Keep.{keepAt, standAt}
+use Rattle.mending.specs.Changes.{changed, changes, changeCount}
 
 -- no cell of a clash row stands at position k
 abbrev pub freeAt : List ℕ → ℕ → ℕ → Bool
@@ -21,6 +23,18 @@ freeAt words row k = eqb (bitAnd (getD words k 0) row) 0
 -- word k with a cell's bit joined, where the cell is to stand there
 abbrev pub wordWith : List ℕ → (ℕ → Bool) → ℕ → ℕ → ℕ
 wordWith words is bit k = bitOr (getD words k 0) (pick (is k) bit 0)
+
+-- the words of the first n positions with a cell's bit joined, where the cell is to stand
+abbrev pub joined : List ℕ → (ℕ → Bool) → ℕ → ℕ → List ℕ
+joined words is bit n = sets words 0 (listOf (wordWith words is bit) n)
+
+-- whether the row that begins at `from` has a reservation at position k
+abbrev pub oldAt : List ℕ → ℕ → ℕ → Bool
+oldAt table from k = sends (getD table (from + k) 0)
+
+-- which reservations of that row are kept, of n positions, by the words of the cells below
+abbrev pub keptIn : List ℕ → List ℕ → ℕ → ℕ → ℕ → ℕ → ℕ → Bool
+keptIn words table from n load row = keepAt (freeAt words row) (oldAt table from) load n
 
 -- what the words say: whether cell i stands at position k
 abbrev pub standsIn : List ℕ → Reserved
@@ -53,6 +67,10 @@ cellCount n i words u = count (changed (standsIn words) (reserved n u) i) n
 
 abbrev pub allCount : ℕ → ℕ → List ℕ → List ℕ → ℕ
 allCount cells n words u = changeCount (standsIn words) (reserved n u) n cells
+
+-- the changes of so many cells, by the words
+abbrev pub listedIn : ℕ → ℕ → List ℕ → List ℕ → List ℕ
+listedIn cells n words u = changes (standsIn words) (reserved n u) n cells
 
 -- the counts are these
 abbrev pub Counted : ℕ → ℕ → List ℕ → List ℕ → List ℕ → Type 0

@@ -7,22 +7,19 @@ use site::Fault;
 use site::Site;
 ghost use mathlib.Core.Path.{_≡_};
 ghost use mathlib.Core.Bool.{_&&_, not};
-ghost use mathlib.Core.List.{List, [], _∷_};
-ghost use Prim.Native.Nat.{ℕ, _+_, _-_, _*_, _^_, _≤_, _<_};
+ghost use mathlib.Core.List.{[], _∷_};
+ghost use Prim.Native.Nat.{_+_, _-_, _*_, _^_, _≤_, _<_};
 ghost use lib.Dec.{eqb, ltb};
 ghost use lib.ListN.{length, getD};
 ghost use lib.Seq.{sets};
-ghost use Rattle.laws.specs.Bits.{bitAt};
 ghost use Rattle.laws.specs.Choice.{pick};
 ghost use Rattle.laws.specs.Few.{firstFew};
-ghost use Rattle.laws.specs.Part.{listOf};
 ghost use Rattle.laws.specs.Sum.{bit, count};
-ghost use Rattle.theory.specs.Greedy.{sends, reserved, planned};
-ghost use Rattle.mending.specs.Keep.{keepAt};
+ghost use Rattle.theory.specs.Greedy.{sends, reserved};
 ghost use Rattle.mending.specs.Mend.{mend};
 ghost use Rattle.mending.specs.Changes.{differ, change, cellChanges, changes, follow};
-ghost use Rattle.mender.specs.Words.{freeAt, wordWith, standsIn, cellStands, cellCount, allCount, Below, Zeros, TwoWay, Says, Counted};
-ghost use Rattle.mender.specs.Mend.{netBy, stoodOf, answerOf, tableAfter, listAfter, mendAnswer, mendTable, mendList};
+ghost use Rattle.mender.specs.Words.{freeAt, joined, oldAt, keptIn, standsIn, cellStands, cellCount, allCount, listedIn, Below, Zeros, TwoWay, Counted};
+ghost use Rattle.mender.specs.Mend.{ifRoom, stoodBy, SaysBy, answerBy, tableBy, listBy, mendAnswer, mendTable, mendList};
 ghost use Rattle.mender.specs.declared.MendAnswer.the-variants.{Done, ListShort};
 
 // What the mender answers: done, with the number of changes; 4, the table is short; 5, a cell's number and how many of its fragments found no room; 13, the
@@ -82,9 +79,9 @@ fn keep_row(
     row: u32,
 ) -> Kept
     requires { ⌜ (n ≤ length (now words)) × (from + n ≤ length (now table)) ⌝ }
-    ensures words { λ _. ⌜ now (words .exit) ≡ sets (now (words .entry)) 0 (listOf (wordWith (now (words .entry)) (keepAt (freeAt (now (words .entry)) row) (λ k. sends (getD (now (table .entry)) (from + k) 0)) load n) bit) n) ⌝ }
-    ensures left { λ r. ⌜ r .left ≡ load - count (λ k. freeAt (now (words .entry)) row k && sends (getD (now (table .entry)) (from + k) 0)) n ⌝ }
-    ensures dropped { λ r. ⌜ r .dropped ≡ count (λ k. sends (getD (now (table .entry)) (from + k) 0) && not (keepAt (freeAt (now (words .entry)) row) (λ k. sends (getD (now (table .entry)) (from + k) 0)) load n k)) n ⌝ }
+    ensures words { λ _. ⌜ now (words .exit) ≡ joined (now (words .entry)) (keptIn (now (words .entry)) (now (table .entry)) from n load row) bit n ⌝ }
+    ensures left { λ r. ⌜ r .left ≡ load - count (λ k. freeAt (now (words .entry)) row k && oldAt (now (table .entry)) from k) n ⌝ }
+    ensures dropped { λ r. ⌜ r .dropped ≡ count (λ k. oldAt (now (table .entry)) from k && not (keptIn (now (words .entry)) (now (table .entry)) from n load row k)) n ⌝ }
 {
     let mut left = load;
     let mut gone: usize = 0;
@@ -105,7 +102,7 @@ fn keep_row(
 // Adds the first `load` positions that are free of the mask, in rising position: the bit is joined to their words. Answers how many fragments found no room.
 fn add_row(words: &mut [u32], n: usize, load: usize, bit: u32, mask: u32) -> usize
     requires { ⌜ n ≤ length (now words) ⌝ }
-    ensures words { λ _. ⌜ now (words .exit) ≡ sets (now (words .entry)) 0 (listOf (wordWith (now (words .entry)) (firstFew (freeAt (now (words .entry)) mask) load) bit) n) ⌝ }
+    ensures words { λ _. ⌜ now (words .exit) ≡ joined (now (words .entry)) (firstFew (freeAt (now (words .entry)) mask) load) bit n ⌝ }
     ensures left { λ r. ⌜ r ≡ load - count (freeAt (now (words .entry)) mask) n ⌝ }
 {
     let mut left = load;
@@ -134,7 +131,7 @@ struct Turn {
 fn stand_cell(words: &mut [u32], table: &[u8], n: usize, i: usize, load: usize, row: u32) -> Turn
     requires { ⌜ (i < 32) × (n ≤ 2048) × (n ≤ length (now words)) × (i * n + n ≤ length (now table)) ⌝ }
     requires { ⌜ Below n i (now words) ⌝ }
-    ensures words { λ _. ⌜ now (words .exit) ≡ sets (now (words .entry)) 0 (listOf (wordWith (now (words .entry)) (cellStands (now (words .entry)) (now (table .entry)) n i load row) (2 ^ i)) n) ⌝ }
+    ensures words { λ _. ⌜ now (words .exit) ≡ joined (now (words .entry)) (cellStands (now (words .entry)) (now (table .entry)) n i load row) (2 ^ i) n ⌝ }
     ensures short { λ r. ⌜ r .short ≡ load - count (cellStands (now (words .entry)) (now (table .entry)) n i load row) n ⌝ }
     ensures changes { λ r. ⌜ r .changes ≡ count (λ k. differ (cellStands (now (words .entry)) (now (table .entry)) n i load row k) (reserved n (now (table .entry)) i k)) n ⌝ }
 {
@@ -168,8 +165,8 @@ fn stand_all(
 ) -> Stood
     requires { ⌜ (cells ≤ 32) × (n ≤ 2048) × (n ≤ length (now words)) × (cells ≤ length (now counts)) × (cells * n ≤ length (now table)) ⌝ }
     requires { ⌜ Zeros n (now words) × TwoWay (now clash) ⌝ }
-    ensures answer { λ r. ⌜ r ≡ stoodOf (netBy cells n (now (loads .entry)) (now (clash .entry))) (now (table .entry)) (mend (netBy cells n (now (loads .entry)) (now (clash .entry))) (now (table .entry))) ⌝ }
-    ensures says { λ _. ⌜ ((t : List ℕ) → mend (netBy cells n (now (loads .entry)) (now (clash .entry))) (now (table .entry)) ≡ planned t → Says cells n t (now (table .entry)) (now (words .exit)) (now (counts .exit))) ⌝ }
+    ensures answer { λ r. ⌜ r ≡ stoodBy cells n (now (loads .entry)) (now (clash .entry)) (now (table .entry)) ⌝ }
+    ensures says { λ _. ⌜ SaysBy cells n (now (loads .entry)) (now (clash .entry)) (now (table .entry)) (now (words .exit)) (now (counts .exit)) ⌝ }
 {
     let mut number: usize = 0;
     for i in 0..cells {
@@ -271,8 +268,8 @@ fn list_all(
 )
     requires { ⌜ (cells ≤ 32) × (n ≤ 2048) × (n ≤ length (now words)) × (cells ≤ length (now counts)) × (cells * n ≤ length (now table)) ⌝ }
     requires { ⌜ Counted cells n (now words) (now table) (now counts) × (4 * allCount cells n (now words) (now table) ≤ length (now list)) ⌝ }
-    ensures table { λ _. ⌜ now (table .exit) ≡ follow n (changes (standsIn (now (words .entry))) (reserved n (now (table .entry))) n cells) (now (table .entry)) ⌝ }
-    ensures list { λ _. ⌜ now (list .exit) ≡ sets (now (list .entry)) 0 (changes (standsIn (now (words .entry))) (reserved n (now (table .entry))) n cells) ⌝ }
+    ensures table { λ _. ⌜ now (table .exit) ≡ follow n (listedIn cells n (now (words .entry)) (now (table .entry))) (now (table .entry)) ⌝ }
+    ensures list { λ _. ⌜ now (list .exit) ≡ sets (now (list .entry)) 0 (listedIn cells n (now (words .entry)) (now (table .entry))) ⌝ }
 {
     let mut at: usize = 0;
     for i in 0..cells {
@@ -292,9 +289,9 @@ fn finish(
 ) -> MendAnswer
     requires { ⌜ (cells ≤ 32) × (n ≤ 2048) × (n ≤ length (now words)) × (cells ≤ length (now counts)) × (cells * n ≤ length (now table)) ⌝ }
     requires { ⌜ Counted cells n (now words) (now table) (now counts) × (number ≡ allCount cells n (now words) (now table)) ⌝ }
-    ensures answer { λ r. ⌜ r ≡ pick (ltb (length (now (list .entry))) (4 * number)) (ListShort number) (Done number) ⌝ }
-    ensures table { λ _. ⌜ now (table .exit) ≡ pick (ltb (length (now (list .entry))) (4 * number)) (now (table .entry)) (follow n (changes (standsIn (now (words .entry))) (reserved n (now (table .entry))) n cells) (now (table .entry))) ⌝ }
-    ensures list { λ _. ⌜ now (list .exit) ≡ pick (ltb (length (now (list .entry))) (4 * number)) (now (list .entry)) (sets (now (list .entry)) 0 (changes (standsIn (now (words .entry))) (reserved n (now (table .entry))) n cells)) ⌝ }
+    ensures answer { λ r. ⌜ r ≡ ifRoom (now (list .entry)) number (ListShort number) (Done number) ⌝ }
+    ensures table { λ _. ⌜ now (table .exit) ≡ ifRoom (now (list .entry)) number (now (table .entry)) (follow n (listedIn cells n (now (words .entry)) (now (table .entry))) (now (table .entry))) ⌝ }
+    ensures list { λ _. ⌜ now (list .exit) ≡ ifRoom (now (list .entry)) number (now (list .entry)) (sets (now (list .entry)) 0 (listedIn cells n (now (words .entry)) (now (table .entry)))) ⌝ }
 {
     if list.len() / 4 < number {
         return MendAnswer::ListShort(number);
@@ -313,9 +310,9 @@ fn mend_table(
     clash: &[u32; 32],
 ) -> MendAnswer
     requires { ⌜ (cells ≤ 32) × (n ≤ 2048) × (cells * n ≤ length (now table)) × TwoWay (now clash) ⌝ }
-    ensures answer { λ r. ⌜ r ≡ answerOf (netBy cells n (now (loads .entry)) (now (clash .entry))) (now (table .entry)) (now (list .entry)) (mend (netBy cells n (now (loads .entry)) (now (clash .entry))) (now (table .entry))) ⌝ }
-    ensures table { λ _. ⌜ now (table .exit) ≡ tableAfter (netBy cells n (now (loads .entry)) (now (clash .entry))) (now (table .entry)) (now (list .entry)) (mend (netBy cells n (now (loads .entry)) (now (clash .entry))) (now (table .entry))) ⌝ }
-    ensures list { λ _. ⌜ now (list .exit) ≡ listAfter (netBy cells n (now (loads .entry)) (now (clash .entry))) (now (table .entry)) (now (list .entry)) (mend (netBy cells n (now (loads .entry)) (now (clash .entry))) (now (table .entry))) ⌝ }
+    ensures answer { λ r. ⌜ r ≡ answerBy cells n (now (loads .entry)) (now (clash .entry)) (now (table .entry)) (now (list .entry)) ⌝ }
+    ensures table { λ _. ⌜ now (table .exit) ≡ tableBy cells n (now (loads .entry)) (now (clash .entry)) (now (table .entry)) (now (list .entry)) ⌝ }
+    ensures list { λ _. ⌜ now (list .exit) ≡ listBy cells n (now (loads .entry)) (now (clash .entry)) (now (table .entry)) (now (list .entry)) ⌝ }
 {
     let mut words = [0u32; 2048];
     let mut counts = [0usize; 32];
