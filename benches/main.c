@@ -11,9 +11,10 @@ enum { SITES = 5 };
 static const int sites[SITES] = {P1, MIDDLE_TUNNEL, MIDDLE_ALL, TUNNEL, ALL_CLASH};
 
 #define MAKER(name, P)                                                                                                \
-    {name,           P##plan,        P##check,      P##load_test,  P##chain,       P##read_site,                      \
-     P##write_site,  P##read_plan,   P##write_plan, P##read_sheet, P##write_sheet, P##share_repeated,                 \
-     P##admit,       P##plan_words,  P##check_words, P##to_words,  P##to_bytes,    P##mend}
+    {name,              P##plan,       P##check,      P##load_test,   P##chain,      P##least,                        \
+     P##read_site,      P##write_site, P##read_plan,  P##write_plan,  P##read_sheet, P##write_sheet,                  \
+     P##share_repeated, P##admit,      P##plan_words, P##check_words, P##to_words,   P##to_bytes,                     \
+     P##mend}
 
 const maker makers[MAKERS] = {
     [LIBRARY] = MAKER("library", dugg_),
@@ -24,12 +25,12 @@ const maker makers[MAKERS] = {
 };
 
 enum {
-    PLAN, CHECK, LOAD_TEST, CHAIN, READ_SITE, WRITE_SITE, READ_PLAN, WRITE_PLAN, READ_SHEET, WRITE_SHEET, SHARE,
+    PLAN, CHECK, LOAD_TEST, CHAIN, LEAST, READ_SITE, WRITE_SITE, READ_PLAN, WRITE_PLAN, READ_SHEET, WRITE_SHEET, SHARE,
     OPERATIONS
 };
 
 static const char *const operations[OPERATIONS] = {
-    "plan", "check", "load test", "chain", "read site", "write site", "read plan", "write plan",
+    "plan", "check", "load test", "chain", "least", "read site", "write site", "read plan", "write plan",
     "read sheet", "write sheet", "share with repeats",
 };
 
@@ -57,6 +58,7 @@ static bool has(const maker *m, int operation)
     case CHECK: return m->check != NULL;
     case LOAD_TEST: return m->load_test != NULL;
     case CHAIN: return m->chain != NULL;
+    case LEAST: return m->least != NULL;
     case READ_SITE: return m->read_site != NULL;
     case WRITE_SITE: return m->write_site != NULL;
     case READ_PLAN: return m->read_plan != NULL;
@@ -80,6 +82,7 @@ static void run(const maker *m, int operation, const work *w, left *l)
     case CHECK: l->answer = m->check(w->site, w->table, w->table_len); break;
     case LOAD_TEST: l->answer = m->load_test(w->site); break;
     case CHAIN: l->answer = m->chain(w->site); break;
+    case LEAST: l->answer = m->least(w->site); break;
     case READ_SITE: keep(l, m->read_site(w->site_file, w->site_len)); break;
     case WRITE_SITE: l->answer = m->write_site(w->site, l->bytes, sizeof l->bytes); break;
     case READ_PLAN: {
@@ -155,9 +158,9 @@ static int agree(const work *w)
     return fine;
 }
 
-/* The same inputs made wrong in a few ways: a load one more or one less, a table too short, files cut, a table of 1
- * throughout, a table whose last forbidden position is reserved; repeats of 0 and of 5, a period of 0, too large a
- * share. */
+/* The same inputs made wrong in a few ways: a load one more or one less, a chain that is broken, a table too short, files
+ * cut, a table of 1 throughout, a table whose last forbidden position is reserved; repeats of 0 and of 5, a period of 0,
+ * too large a share. */
 static int agree_when_wrong(const work *w)
 {
     static work wrong;
@@ -167,6 +170,10 @@ static int agree_when_wrong(const work *w)
     int fine = agree(&wrong);
     wrong.site.loads[w->site.cells - 1] -= 2;
     wrong.repeats = 5;
+    fine &= agree(&wrong);
+    wrong = *w;
+    wrong.site.reach[0] = 1u << (w->site.cells - 1);
+    wrong.site.reach[1] &= ~1u;
     fine &= agree(&wrong);
     wrong = *w;
     wrong.table_len--, wrong.site_len--, wrong.plan_len--, wrong.sheet_len--;
@@ -208,7 +215,8 @@ static void print_size(int operation, const work *w)
     case PLAN:
     case CHECK: printf("table of %zu bytes", w->table_len); break;
     case LOAD_TEST:
-    case CHAIN: printf("%u cells", w->site.cells); break;
+    case CHAIN:
+    case LEAST: printf("%u cells", w->site.cells); break;
     case READ_SITE:
     case WRITE_SITE: printf("file of %zu bytes", w->site_len); break;
     case READ_SHEET:

@@ -58,7 +58,7 @@ dugg_edited NAME(clear_reach)(dugg_site site, uint16_t from, uint16_t to)
     return (dugg_edited){site, f};
 }
 
-/* ---- load test and chain, about the cells with load above 0 ---- */
+/* ---- load test, chain and how many channel-slots do, about the cells with load above 0 ---- */
 
 static uint32_t loaded_cells(const dugg_site *s)
 {
@@ -66,6 +66,15 @@ static uint32_t loaded_cells(const dugg_site *s)
     for (unsigned i = 0; i < CELLS; i++)
         cells |= (uint32_t)(s->loads[i] != 0) << i;
     return cells;
+}
+
+/* The load of a cell, and the loads of its lower-numbered clashing cells. */
+static uint32_t sum_at(const dugg_site *s, const uint32_t mask[CELLS], unsigned i)
+{
+    uint32_t sum = s->loads[i];
+    for (uint32_t lower = mask[i] & first_cells(i); lower != 0; lower &= lower - 1)
+        sum += s->loads[__builtin_ctz(lower)];
+    return sum;
 }
 
 dugg_answer NAME(load_test)(dugg_site site)
@@ -77,25 +86,18 @@ dugg_answer NAME(load_test)(dugg_site site)
     clash_masks(&site, mask);
     uint32_t room = positions_of(&site);
     for (unsigned i = 0; i < site.cells; i++) {
-        uint32_t sum = site.loads[i];
-        if (sum == 0)
+        if (site.loads[i] == 0)
             continue;
-        for (uint32_t lower = mask[i] & first_cells(i); lower != 0; lower &= lower - 1)
-            sum += site.loads[__builtin_ctz(lower)];
+        uint32_t sum = sum_at(&site, mask, i);
         if (sum > room)
             return answer(0, i + 1, sum - room, 0);
     }
     return answer(0, 0, 0, 0);
 }
 
-dugg_answer NAME(chain)(dugg_site site)
+/* The first a, b, c that break the chain, or three zeros. */
+static dugg_answer first_gap(const uint32_t mask[CELLS], uint32_t loaded)
 {
-    dugg_answer f = fault(&site);
-    if (f.number != 0)
-        return f;
-    uint32_t mask[CELLS];
-    clash_masks(&site, mask);
-    uint32_t loaded = loaded_cells(&site);
     for (uint32_t left = loaded; left != 0; left &= left - 1) {
         /* The lowest later loaded cell that does not clash with a, and the lowest clashing one after that. */
         unsigned a = __builtin_ctz(left);
@@ -108,6 +110,31 @@ dugg_answer NAME(chain)(dugg_site site)
             return answer(0, a + 1, b + 1, __builtin_ctz(beyond) + 1);
     }
     return answer(0, 0, 0, 0);
+}
+
+dugg_answer NAME(chain)(dugg_site site)
+{
+    dugg_answer f = fault(&site);
+    if (f.number != 0)
+        return f;
+    uint32_t mask[CELLS];
+    clash_masks(&site, mask);
+    return first_gap(mask, loaded_cells(&site));
+}
+
+dugg_answer NAME(least)(dugg_site site)
+{
+    dugg_answer f = fault(&site);
+    if (f.number != 0)
+        return f;
+    uint32_t mask[CELLS];
+    clash_masks(&site, mask);
+    uint32_t loaded = loaded_cells(&site), most = 0;
+    for (uint32_t left = loaded; left != 0; left &= left - 1) {
+        uint32_t sum = sum_at(&site, mask, __builtin_ctz(left));
+        most = sum > most ? sum : most;
+    }
+    return answer(0, most, first_gap(mask, loaded).value[0] != 0, 0);
 }
 
 /* ---- planner and checker ---- */

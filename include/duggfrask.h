@@ -81,6 +81,11 @@ dugg_answer dugg_load_test(dugg_site site);
  * above 0 are asked, as a, as c and between. Done: 0, 0, 0 if so; otherwise the first a, b, c where b does not. */
 dugg_answer dugg_chain(dugg_site site);
 
+/* How many channel-slots, slots times channels, do for the cells, loads and reach of the site, whatever slots and
+ * channels it has? Done: value[0] is how many: with so many or more the site is planned. It can be above 2,048, the most
+ * that a site has. value[1] is 0 on a chained site: fewer never do, whoever plans; otherwise it is 1: fewer may. */
+dugg_answer dugg_least(dugg_site site);
+
 /* Plans the site into the table, one byte per cell and position, cell after cell: 0 idle, 1 reserved, 2 forbidden.
  * The table needs cells * slots * channels bytes (refusal 4); bytes past those are not written. Refusal 5 gives the
  * first cell without room and how many fragments are short, and leaves those bytes 0. */

@@ -95,6 +95,11 @@ pub extern "C" fn second_chain(site: Site) -> Answer {
     })
 }
 
+#[no_mangle]
+pub extern "C" fn second_least(site: Site) -> Answer {
+    answer(judge::least(&site), |least| [least.channel_slots, least.fewer_may_do as u64])
+}
+
 /// # Safety
 /// `table` has `len` bytes.
 #[no_mangle]

@@ -1,5 +1,5 @@
-//! "Load test and chain": the two verdicts on a sound site. Both are about the cells with load above 0 only; a cell with
-//! load 0 is a spare.
+//! "Load test and chain": the two verdicts on a sound site, and how many channel-slots do. All are about the cells with
+//! load above 0 only; a cell with load 0 is a spare.
 
 use crate::answer::Outcome;
 use crate::site::Site;
@@ -14,6 +14,17 @@ pub fn load_test(site: &Site) -> Outcome<Option<(usize, u64)>> {
     Ok(first_over(site, &loads(site)))
 }
 
+/// What a cell asks of the channel-slots: its load, and the loads of the lower-numbered cells that clash with it.
+fn sum_at(site: &Site, loads: &[u64], cell: usize) -> u64 {
+    let mut sum = loads[cell - 1];
+    for lower in 1..cell {
+        if site.clash(lower, cell) {
+            sum += loads[lower - 1];
+        }
+    }
+    sum
+}
+
 /// The load test with these loads in place of the site's own, the first for cell 1. Spares are skipped.
 pub fn first_over(site: &Site, loads: &[u64]) -> Option<(usize, u64)> {
     let room = site.positions() as u64;
@@ -21,17 +32,30 @@ pub fn first_over(site: &Site, loads: &[u64]) -> Option<(usize, u64)> {
         if loads[cell - 1] == 0 {
             continue;
         }
-        let mut sum = loads[cell - 1];
-        for lower in 1..cell {
-            if site.clash(lower, cell) {
-                sum += loads[lower - 1];
-            }
-        }
+        let sum = sum_at(site, loads, cell);
         if sum > room {
             return Some((cell, sum - room));
         }
     }
     None
+}
+
+/// How many channel-slots do for the site's cells, loads and reach.
+#[derive(Clone, Copy, Debug, PartialEq, Eq)]
+pub struct Least {
+    pub channel_slots: u64,
+    /// Off the chain fewer may do; on a chained site fewer never do.
+    pub fewer_may_do: bool,
+}
+
+/// The most that a loaded cell asks of the channel-slots; 0 if no cell is loaded. The site's own slots and channels play
+/// no part.
+pub fn least(site: &Site) -> Outcome<Least> {
+    let fewer_may_do = chain(site)?.is_some();
+    let loads = loads(site);
+    let loaded = (1..=site.count()).filter(|&cell| loads[cell - 1] > 0);
+    let most = loaded.map(|cell| sum_at(site, &loads, cell)).max();
+    Ok(Least { channel_slots: most.unwrap_or(0), fewer_may_do })
 }
 
 /// `None` if the site is chained; otherwise the first a, b, c that break the chain. None of the three is a spare.

@@ -12,8 +12,8 @@ ghost use Rattle.site.specs.Record.{faultOf};
 ghost use Rattle.site.specs.Reach.{clashAnswer};
 ghost use Rattle.site.specs.Edit.{setLoadOf, setReachOf, clearReachOf};
 ghost use Rattle.site.specs.Given.{faultGiven, clashGiven};
-ghost use Rattle.judges.specs.Judges.{loadAnswer, chainAnswer};
-ghost use Rattle.judges.specs.Given.{loadGiven, chainGiven};
+ghost use Rattle.judges.specs.Judges.{loadAnswer, chainAnswer, leastAnswer};
+ghost use Rattle.judges.specs.Given.{loadGiven, chainGiven, leastGiven};
 ghost use Rattle.planner.specs.Plan.{planAnswer, planTable};
 ghost use Rattle.planner.specs.Given.{planGiven};
 ghost use Rattle.checker.specs.Check.{checkAnswer};
@@ -87,6 +87,13 @@ pub extern "C" fn dugg_chain(site: Site) -> Answer
     ensures { λ r. ⌜ r ≡ told (chainGiven (chainAnswer site)) ⌝ }
 {
     told::chain_answer(judges::chain(site))
+}
+
+#[no_mangle]
+pub extern "C" fn dugg_least(site: Site) -> Answer
+    ensures { λ r. ⌜ r ≡ told (leastGiven (leastAnswer site)) ⌝ }
+{
+    told::least_answer(judges::least(site))
 }
 
 #[no_mangle]

@@ -1,28 +1,46 @@
 -- In C a value that the document does not name is 0. So a good verdict is 0, 0, 0, and this is told apart from every other answer: cells are numbered from 1.
+-- The least number of channel-slots always has its two values, so they are read back whatever they are, 0 and 0 too: no call refuses with the fault that is none.
 -- Assumes nothing.
 use mathlib.Core.Path.{_≡_, refl, ap}
 use mathlib.Core.Logic.{_↔_}
+use mathlib.Core.Bool.{true, false≢true}
+use mathlib.Core.List.{[], _∷_}
 use Prim.Native.Nat.{ℕ}
 use native.Mathlib.Omega.{arith}
 use lib.ListN.{getD}
 use Rattle.site.specs.declared.Site.{Site}
 use Rattle.site.specs.declared.Fault.the-variants.{Fine, Size, Load, Reach}
-use Rattle.judges.specs.Judges.{loadAnswer, chainAnswer}
-use Rattle.judges.specs.Given.{loadGiven, chainGiven}
+use Rattle.judges.specs.Judges.{loadAnswer, chainAnswer, leastAnswer}
+use Rattle.judges.specs.Given.{loadGiven, chainGiven, leastGiven, leastProper}
 use Rattle.judges.specs.declared.LoadAnswer.{LoadAnswer}
 use Rattle.judges.specs.declared.LoadAnswer.the-variants as load
 use Rattle.judges.specs.declared.ChainAnswer.{ChainAnswer}
 use Rattle.judges.specs.declared.ChainAnswer.the-variants as chain
+use Rattle.judges.specs.declared.LeastAnswer.{LeastAnswer}
+use Rattle.judges.specs.declared.LeastAnswer.the-variants as least
+use Rattle.judges.proofs.Given.{least-proper}
 use Rattle.judges.proofs.Meaning.{over-means, broken-means}
 use Rattle.told.specs.Told.{numbered, told}
 use Rattle.told.specs.declared.Answer.{Answer}
-use Rattle.promises.specs.Numbers.{done}
+use Rattle.promises.specs.Numbers.{done, doneWith}
 
 numberIn : Answer → ℕ
 numberIn a = a .number
 
 valueIn : Answer → ℕ
 valueIn a = getD (a .value) 0 0
+
+flagIn : Answer → ℕ
+flagIn a = getD (a .value) 1 0
+
+least-told : (a : LeastAnswer) (n k : ℕ) → leastProper a ≡ true → told (leastGiven a) ≡ numbered 0 n k 0 → leastGiven a ≡ doneWith (n ∷ k ∷ [])
+unfolding told numberIn valueIn flagIn
+least-told (least.Least m) n k p e = let z : m ≡ n = ap valueIn e in let y : 0 ≡ k = ap flagIn e in cc
+least-told (least.Enough m) n k p e = let z : m ≡ n = ap valueIn e in let y : 1 ≡ k = ap flagIn e in cc
+least-told (least.Refused Fine) n k p e = absurd (false≢true p)
+least-told (least.Refused Size) n k p e = let z : _≡_ {A = ℕ} 1 0 = ap numberIn e in absurd (omega arith)
+least-told (least.Refused (Load i)) n k p e = let z : _≡_ {A = ℕ} 2 0 = ap numberIn e in absurd (omega arith)
+least-told (least.Refused (Reach i)) n k p e = let z : _≡_ {A = ℕ} 3 0 = ap numberIn e in absurd (omega arith)
 
 module _ (s : Site) where
   load-in-c : (a : LoadAnswer) → loadAnswer s ≡ a → told (loadGiven a) ≡ numbered 0 0 0 0 → loadGiven a ≡ done
@@ -52,3 +70,8 @@ module _ (s : Site) where
   pub chained-in-c : told (chainGiven (chainAnswer s)) ≡ numbered 0 0 0 0 ↔ chainGiven (chainAnswer s) ≡ done
   unfolding told
   chained-in-c = (chain-in-c (chainAnswer s) refl, ap told)
+
+  -- `dugg_least` gives 0 and n, k, 0 exactly where the answer is n and k: how many channel-slots do, and 0 (fewer never do) or 1 (fewer may)
+  pub least-in-c : (n k : ℕ) → told (leastGiven (leastAnswer s)) ≡ numbered 0 n k 0 ↔ leastGiven (leastAnswer s) ≡ doneWith (n ∷ k ∷ [])
+  unfolding told
+  least-in-c n k = (least-told (leastAnswer s) n k (least-proper s), ap told)

@@ -7,8 +7,8 @@ use Rattle.admission.specs.Given.{admitGiven}
 use Rattle.checker.specs.Check.{checkAnswer}
 use Rattle.checker.specs.Given.{checkGiven}
 use Rattle.flowlist.specs.declared.Flow.{Flow}
-use Rattle.judges.specs.Given.{chainGiven, loadGiven}
-use Rattle.judges.specs.Judges.{chainAnswer, loadAnswer}
+use Rattle.judges.specs.Given.{chainGiven, leastGiven, loadGiven}
+use Rattle.judges.specs.Judges.{chainAnswer, leastAnswer, loadAnswer}
 use Rattle.mender.specs.Given.{mendGiven}
 use Rattle.mender.specs.Mend.{mendAnswer, mendList, mendTable}
 use Rattle.planfile.specs.Given.{planWrittenGiven}
@@ -65,6 +65,10 @@ pub record DuggLoadTest (site : Site) (r : Answer) : Type 0 where
 -- capi::dugg_chain
 pub record DuggChain (site : Site) (r : Answer) : Type 0 where
   pub answer : r ≡ told (chainGiven (chainAnswer site))
+
+-- capi::dugg_least
+pub record DuggLeast (site : Site) (r : Answer) : Type 0 where
+  pub answer : r ≡ told (leastGiven (leastAnswer site))
 
 -- capi::dugg_plan
 pub record DuggPlan (site : Site) (table : List ℕ) (r : Answer) (table′ : List ℕ) : Type 0 where

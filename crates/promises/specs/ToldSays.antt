@@ -4,8 +4,9 @@ use Rattle.admission.specs.Given.{admitGiven}
 use Rattle.admission.specs.declared.AdmitAnswer.{AdmitAnswer}
 use Rattle.checker.specs.Given.{checkGiven}
 use Rattle.checker.specs.declared.CheckAnswer.{CheckAnswer}
-use Rattle.judges.specs.Given.{chainGiven, loadGiven}
+use Rattle.judges.specs.Given.{chainGiven, leastGiven, loadGiven}
 use Rattle.judges.specs.declared.ChainAnswer.{ChainAnswer}
+use Rattle.judges.specs.declared.LeastAnswer.{LeastAnswer}
 use Rattle.judges.specs.declared.LoadAnswer.{LoadAnswer}
 use Rattle.mender.specs.Given.{mendGiven}
 use Rattle.mender.specs.declared.MendAnswer.{MendAnswer}
@@ -51,6 +52,10 @@ pub record ToldLoadAnswer (said : LoadAnswer) (r : Answer) : Type 0 where
 -- told::chain_answer
 pub record ToldChainAnswer (said : ChainAnswer) (r : Answer) : Type 0 where
   pub answer : r ≡ told (chainGiven said)
+
+-- told::least_answer
+pub record ToldLeastAnswer (said : LeastAnswer) (r : Answer) : Type 0 where
+  pub answer : r ≡ told (leastGiven said)
 
 -- told::plan_answer
 pub record ToldPlanAnswer (said : PlanAnswer) (r : Answer) : Type 0 where

@@ -2,6 +2,7 @@
 use admission::AdmitAnswer;
 use checker::CheckAnswer;
 use judges::ChainAnswer;
+use judges::LeastAnswer;
 use judges::LoadAnswer;
 use mender::MendAnswer;
 use planfile::PlanRead;
@@ -21,7 +22,7 @@ use sitefile::SiteWritten;
 use wordtable::FormAnswer;
 ghost use mathlib.Core.Path.{_≡_};
 ghost use Rattle.site.specs.Given.{faultGiven, clashGiven};
-ghost use Rattle.judges.specs.Given.{loadGiven, chainGiven};
+ghost use Rattle.judges.specs.Given.{loadGiven, chainGiven, leastGiven};
 ghost use Rattle.planner.specs.Given.{planGiven};
 ghost use Rattle.checker.specs.Given.{checkGiven};
 ghost use Rattle.wordtable.specs.Given.{formGiven};
@@ -106,6 +107,16 @@ pub fn chain_answer(said: ChainAnswer) -> Answer
         ChainAnswer::Chained => give(0, 0, 0, 0),
         ChainAnswer::Broken(a, b, c) => give(0, a as u64, b as u64, c as u64),
         ChainAnswer::Refused(f) => fault_answer(f),
+    }
+}
+
+pub fn least_answer(said: LeastAnswer) -> Answer
+    ensures { λ r. ⌜ r ≡ told (leastGiven said) ⌝ }
+{
+    match said {
+        LeastAnswer::Least(n) => give(0, n as u64, 0, 0),
+        LeastAnswer::Enough(n) => give(0, n as u64, 1, 0),
+        LeastAnswer::Refused(f) => fault_answer(f),
     }
 }
 

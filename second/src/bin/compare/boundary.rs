@@ -21,6 +21,7 @@ pub fn compare(run: &mut Run) {
             }
         }
     }
+    largest_sums(run);
     for period in [4, 5] {
         shares(run, 3, 3, period);
     }
@@ -54,9 +55,20 @@ pub fn tunnel(cells: u16, slots: u16, channels: u16) -> Site {
     site
 }
 
+/// All cells clash and have the greatest load, so that sums of loads go far above 65,535.
+fn largest_sums(run: &mut Run) {
+    let mut site = Site { loads: [65_535; 32], ..Site::sized(32, 128, 16) };
+    for i in 0..32 {
+        site.reach[i] = !(1 << i);
+    }
+    for call in [Call::LoadTest, Call::Chain, Call::Least] {
+        run.compare(&Case::of(call, site));
+    }
+}
+
 fn every_call(run: &mut Run, cells: u16, slots: u16, channels: u16) {
     let site = tunnel(cells, slots, channels);
-    for call in [Call::Fault, Call::LoadTest, Call::Chain] {
+    for call in [Call::Fault, Call::LoadTest, Call::Chain, Call::Least] {
         run.compare(&Case::of(call, site));
     }
     for call in [Call::Clash, Call::SetLoad, Call::SetReach, Call::ClearReach] {

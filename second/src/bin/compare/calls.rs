@@ -14,6 +14,7 @@ extern "C" {
     fn dugg_clear_reach(site: Site, from: u16, to: u16) -> Edited;
     fn dugg_load_test(site: Site) -> Answer;
     fn dugg_chain(site: Site) -> Answer;
+    fn dugg_least(site: Site) -> Answer;
     fn dugg_plan(site: Site, table: *mut u8, len: usize) -> Answer;
     fn dugg_check(site: Site, table: *const u8, len: usize) -> Answer;
     fn dugg_share(slots: u16, burst: u16, period: u16) -> Answer;
@@ -40,6 +41,7 @@ pub struct Calls {
     pub clear_reach: unsafe extern "C" fn(Site, u16, u16) -> Edited,
     pub load_test: unsafe extern "C" fn(Site) -> Answer,
     pub chain: unsafe extern "C" fn(Site) -> Answer,
+    pub least: unsafe extern "C" fn(Site) -> Answer,
     pub plan: unsafe extern "C" fn(Site, *mut u8, usize) -> Answer,
     pub check: unsafe extern "C" fn(Site, *const u8, usize) -> Answer,
     pub share: unsafe extern "C" fn(u16, u16, u16) -> Answer,
@@ -66,6 +68,7 @@ pub const LIBRARY: Calls = Calls {
     clear_reach: dugg_clear_reach,
     load_test: dugg_load_test,
     chain: dugg_chain,
+    least: dugg_least,
     plan: dugg_plan,
     check: dugg_check,
     share: dugg_share,
@@ -92,6 +95,7 @@ pub const SECOND: Calls = Calls {
     clear_reach: second_clear_reach,
     load_test: second_load_test,
     chain: second_chain,
+    least: second_least,
     plan: second_plan,
     check: second_check,
     share: second_share,

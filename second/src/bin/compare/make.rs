@@ -22,6 +22,7 @@ const CALLS: &[Call] = &[
     Call::ClearReach,
     Call::LoadTest,
     Call::Chain,
+    Call::Least,
     Call::Plan,
     Call::Plan,
     Call::Check,

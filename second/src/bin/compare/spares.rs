@@ -1,4 +1,4 @@
-//! Spare cells, those with load 0, before the two verdicts: every site of four cells and two positions with loads 0 to 2,
+//! Spare cells, those with load 0, before the verdicts: every site of four cells and two positions with loads 0 to 2,
 //! whatever clashes, so that a spare stands as a, as b and as c and all cells are spare too; and tunnels of 32 cells with
 //! few spares and with many.
 
@@ -25,7 +25,7 @@ pub fn compare(run: &mut Run) {
 }
 
 fn verdicts(run: &mut Run, site: Site) {
-    for call in [Call::LoadTest, Call::Chain] {
+    for call in [Call::LoadTest, Call::Chain, Call::Least] {
         run.compare(&Case::of(call, site));
     }
 }
