@@ -5,7 +5,7 @@ use mathlib.Core.List.{List}
 use Prim.Native.Nat.{ℕ}
 use Rattle.checker.specs.declared.CheckAnswer.{CheckAnswer}
 use Rattle.planner.specs.declared.PlanAnswer.{PlanAnswer}
-use Rattle.promises.specs.VerdictsSays.{VerdictsCheckWords, VerdictsFaultWords, VerdictsOtherPlanLine, VerdictsPlanWords, VerdictsReadWords, VerdictsShareWords, VerdictsSheetWords}
+use Rattle.promises.specs.VerdictsSays.{VerdictsCheckWords, VerdictsFaultWords, VerdictsOtherPlanLine, VerdictsPlanReadWords, VerdictsPlanWords, VerdictsReadWords, VerdictsShareWords, VerdictsSheetWords}
 use Rattle.records.specs.declared.ReadAnswer.{ReadAnswer}
 use Rattle.shares.specs.declared.ShareAnswer.{ShareAnswer}
 use Rattle.sheet.specs.declared.SheetAnswer.{SheetAnswer}
@@ -23,6 +23,10 @@ verdictsFaultWords-one out at reply r q out′ out″ says also = (says .answer 
 -- verdicts::read_words
 pub verdictsReadWords-one : (out : List ℕ) (at : ℕ) (reply : ReadAnswer) (r q : ℕ) (out′ out″ : List ℕ) → VerdictsReadWords out at reply r out′ → VerdictsReadWords out at reply q out″ → (r ≡ q) × (out′ ≡ out″)
 verdictsReadWords-one out at reply r q out′ out″ says also = (says .answer ∙ sym (also .answer), says .out-after ∙ sym (also .out-after))
+
+-- verdicts::plan_read_words
+pub verdictsPlanReadWords-one : (out : List ℕ) (at : ℕ) (reply : ReadAnswer) (r q : ℕ) (out′ out″ : List ℕ) → VerdictsPlanReadWords out at reply r out′ → VerdictsPlanReadWords out at reply q out″ → (r ≡ q) × (out′ ≡ out″)
+verdictsPlanReadWords-one out at reply r q out′ out″ says also = (says .answer ∙ sym (also .answer), says .out-after ∙ sym (also .out-after))
 
 -- verdicts::sheet_words
 pub verdictsSheetWords-one : (out : List ℕ) (at : ℕ) (reply : SheetAnswer) (r q : ℕ) (out′ out″ : List ℕ) → VerdictsSheetWords out at reply r out′ → VerdictsSheetWords out at reply q out″ → (r ≡ q) × (out′ ≡ out″)

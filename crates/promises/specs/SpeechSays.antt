@@ -2,11 +2,11 @@
 use mathlib.Core.Path.{_≡_}
 use mathlib.Core.List.{List}
 use Prim.Native.Nat.{_+_, ℕ}
-use Rattle.speech.specs.Speech.{spoken, valueOf}
+use Rattle.speech.specs.Speech.{markWords, spoken}
 use lib.ListN.{length}
 use lib.Seq.{sets}
 
 -- speech::say
 pub record SpeechSay (out : List ℕ) (at : ℕ) (text : List ℕ) (a : ℕ) (b : ℕ) (c : ℕ) (d : ℕ) (r : ℕ) (out′ : List ℕ) : Type 0 where
-  pub answer : r ≡ at + length (spoken (valueOf a b c d) text)
-  pub out-after : out′ ≡ sets out at (spoken (valueOf a b c d) text)
+  pub answer : r ≡ at + length (spoken (markWords a b c d) text)
+  pub out-after : out′ ≡ sets out at (spoken (markWords a b c d) text)

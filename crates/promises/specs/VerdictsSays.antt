@@ -9,7 +9,7 @@ use Rattle.shares.specs.declared.ShareAnswer.{ShareAnswer}
 use Rattle.sheet.specs.declared.SheetAnswer.{SheetAnswer}
 use Rattle.site.specs.declared.Fault.{Fault}
 use Rattle.site.specs.declared.Site.{Site}
-use Rattle.verdicts.specs.Words.{checkWords, faultWords, otherPlanLine, planWords, readWords, shareWords, sheetWords}
+use Rattle.verdicts.specs.Words.{checkWords, faultWords, otherPlanLine, planReadWords, planWords, readWords, shareWords, sheetWords}
 use lib.ListN.{length}
 use lib.Seq.{sets}
 
@@ -27,6 +27,11 @@ pub record VerdictsFaultWords (out : List ℕ) (at : ℕ) (reply : Fault) (r : �
 pub record VerdictsReadWords (out : List ℕ) (at : ℕ) (reply : ReadAnswer) (r : ℕ) (out′ : List ℕ) : Type 0 where
   pub answer : r ≡ at + length (readWords reply)
   pub out-after : out′ ≡ sets out at (readWords reply)
+
+-- verdicts::plan_read_words
+pub record VerdictsPlanReadWords (out : List ℕ) (at : ℕ) (reply : ReadAnswer) (r : ℕ) (out′ : List ℕ) : Type 0 where
+  pub answer : r ≡ at + length (planReadWords reply)
+  pub out-after : out′ ≡ sets out at (planReadWords reply)
 
 -- verdicts::sheet_words
 pub record VerdictsSheetWords (out : List ℕ) (at : ℕ) (reply : SheetAnswer) (r : ℕ) (out′ : List ℕ) : Type 0 where

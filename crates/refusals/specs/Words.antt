@@ -5,7 +5,7 @@ use lib.Dec.{eqb}
 use Rattle.laws.specs.Choice.{pick}
 use Rattle.speech.specs.Speech.{said}
 use Rattle.refusals.specs.declared.Place.{Place}
-use Rattle.refusals.specs.declared.Place.the-variants.{Nowhere, Byte, Line, Cell, Flow}
+use Rattle.refusals.specs.declared.Place.the-variants.{Nowhere, Byte, PlanByte, Line, Cell, Flow}
 
 -- ---- what each number means
 
@@ -13,19 +13,19 @@ abbrev pub wrongSize : List ℕ
 wrongSize = said "the size is out of range: a site has 1 to 32 cells, 1 to 128 slots and 1 to 16 channels\n" 0 0 0 0
 
 abbrev pub noSuchCell : List ℕ
-noSuchCell = said "a load or a flow names a cell that the site does not have\n" 0 0 0 0
+noSuchCell = said "a load or a flow is for a cell that the site does not have\n" 0 0 0 0
 
 abbrev pub wrongReach : List ℕ
-wrongReach = said "the reach of a cell names the cell itself, or a cell that the site does not have\n" 0 0 0 0
+wrongReach = said "the reach has a cell that reaches itself, or a cell that the site does not have\n" 0 0 0 0
 
 abbrev pub shortTable : List ℕ
 shortTable = said "the table is too short\n" 0 0 0 0
 
 abbrev pub endsEarly : List ℕ
-endsEarly = said "the file ends too early, inside a record or before one that has to be there\n" 0 0 0 0
+endsEarly = said "the file ends too early: inside a record, or before one that has to be there\n" 0 0 0 0
 
 abbrev pub otherRecord : List ℕ
-otherRecord = said "another record stands where this one has to be\n" 0 0 0 0
+otherRecord = said "a record of another kind has to stand there\n" 0 0 0 0
 
 abbrev pub wrongLength : List ℕ
 wrongLength = said "the length of a record is not the one that belongs to it\n" 0 0 0 0
@@ -46,16 +46,16 @@ abbrev pub badFlow : List ℕ
 badFlow = said "the burst or the period of a flow is 0, or its repeats are not 1 to 4\n" 0 0 0 0
 
 abbrev pub bigShare : List ℕ
-bigShare = said "the flow needs a share above 65535 fragments in a superframe\n" 0 0 0 0
+bigShare = said "the flow needs a share above 65,535 fragments in a superframe, its repeats counted\n" 0 0 0 0
 
 abbrev pub badSheet : List ℕ
 badSheet = said "the sheet is malformed: a line is not as the format asks, or is missing, or is one too many\n" 0 0 0 0
 
 abbrev pub manyFlows : List ℕ
-manyFlows = said "there are more than 16 flows\n" 0 0 0 0
+manyFlows = said "more than 16 flows ask to be admitted\n" 0 0 0 0
 
 abbrev pub notChained : List ℕ
-notChained = said "the site is not chained\n" 0 0 0 0
+notChained = said "the site is not chained when all its cells count, the spare ones too\n" 0 0 0 0
 
 abbrev pub noNumber : List ℕ
 noNumber = said "the call was refused\n" 0 0 0 0
@@ -86,7 +86,10 @@ abbrev pub headAlone : (number : ℕ) → List ℕ
 headAlone number = said "refused @1: " number 0 0 0
 
 abbrev pub headByte : (number place : ℕ) → List ℕ
-headByte number place = said "refused @1, byte @2: " number place 0 0
+headByte number place = said "refused @1, byte @2 of the site file: " number place 0 0
+
+abbrev pub headPlanByte : (number place : ℕ) → List ℕ
+headPlanByte number place = said "refused @1, byte @2 of the plan file: " number place 0 0
 
 abbrev pub headLine : (number place : ℕ) → List ℕ
 headLine number place = said "refused @1, line @2: " number place 0 0
@@ -100,6 +103,7 @@ headFlow number place = said "refused @1, flow @2: " number place 0 0
 abbrev pub head : ℕ → Place → List ℕ
 head number Nowhere = headAlone number
 head number (Byte offset) = headByte number offset
+head number (PlanByte offset) = headPlanByte number offset
 head number (Line line) = headLine number line
 head number (Cell cell) = headCell number cell
 head number (Flow flow) = headFlow number flow

@@ -4,12 +4,13 @@ ghost use mathlib.Core.Path.{_≡_};
 ghost use Prim.Native.Nat.{_+_, _≤_};
 ghost use lib.ListN.{length};
 ghost use lib.Seq.{sets};
-ghost use Rattle.refusals.specs.Words.{wrongSize, noSuchCell, wrongReach, shortTable, endsEarly, otherRecord, wrongLength, pairsUnsorted, goesOn, shortOutput, bitPastEnd, badFlow, bigShare, badSheet, manyFlows, notChained, noNumber, headAlone, headByte, headLine, headCell, headFlow, meaning, head, refusedLine};
+ghost use Rattle.refusals.specs.Words.{wrongSize, noSuchCell, wrongReach, shortTable, endsEarly, otherRecord, wrongLength, pairsUnsorted, goesOn, shortOutput, bitPastEnd, badFlow, bigShare, badSheet, manyFlows, notChained, noNumber, headAlone, headByte, headPlanByte, headLine, headCell, headFlow, meaning, head, refusedLine};
 
-// Where something is wrong: at a byte of a file, counted from 0; in a line of a sheet, at a cell or at a flow, counted from 1.
+// Where something is wrong: at a byte of the site file or of the plan file, counted from 0; in a line of a sheet, at a cell or at a flow, counted from 1.
 pub enum Place {
     Nowhere,
     Byte(usize),
+    PlanByte(usize),
     Line(usize),
     Cell(usize),
     Flow(usize),
@@ -43,7 +44,7 @@ fn no_such_cell(out: &mut [u8], at: usize) -> usize
     say(
         out,
         at,
-        b"a load or a flow names a cell that the site does not have\n",
+        b"a load or a flow is for a cell that the site does not have\n",
         0,
         0,
         0,
@@ -61,7 +62,7 @@ fn wrong_reach(out: &mut [u8], at: usize) -> usize
     say(
         out,
         at,
-        b"the reach of a cell names the cell itself, or a cell that the site does not have\n",
+        b"the reach has a cell that reaches itself, or a cell that the site does not have\n",
         0,
         0,
         0,
@@ -89,7 +90,7 @@ fn ends_early(out: &mut [u8], at: usize) -> usize
     say(
         out,
         at,
-        b"the file ends too early, inside a record or before one that has to be there\n",
+        b"the file ends too early: inside a record, or before one that has to be there\n",
         0,
         0,
         0,
@@ -107,7 +108,7 @@ fn other_record(out: &mut [u8], at: usize) -> usize
     say(
         out,
         at,
-        b"another record stands where this one has to be\n",
+        b"a record of another kind has to stand there\n",
         0,
         0,
         0,
@@ -225,7 +226,7 @@ fn big_share(out: &mut [u8], at: usize) -> usize
     say(
         out,
         at,
-        b"the flow needs a share above 65535 fragments in a superframe\n",
+        b"the flow needs a share above 65,535 fragments in a superframe, its repeats counted\n",
         0,
         0,
         0,
@@ -258,7 +259,15 @@ fn many_flows(out: &mut [u8], at: usize) -> usize
     ensures next { λ r. ⌜ r ≡ at + length manyFlows ⌝ }
     ensures short { λ r. ⌜ r ≤ at + 1000 ⌝ }
 {
-    say(out, at, b"there are more than 16 flows\n", 0, 0, 0, 0)
+    say(
+        out,
+        at,
+        b"more than 16 flows ask to be admitted\n",
+        0,
+        0,
+        0,
+        0,
+    )
 }
 
 // Number 19.
@@ -268,7 +277,15 @@ fn not_chained(out: &mut [u8], at: usize) -> usize
     ensures next { λ r. ⌜ r ≡ at + length notChained ⌝ }
     ensures short { λ r. ⌜ r ≤ at + 1000 ⌝ }
 {
-    say(out, at, b"the site is not chained\n", 0, 0, 0, 0)
+    say(
+        out,
+        at,
+        b"the site is not chained when all its cells count, the spare ones too\n",
+        0,
+        0,
+        0,
+        0,
+    )
 }
 
 // Any other number.
@@ -291,14 +308,40 @@ fn head_alone(out: &mut [u8], at: usize, number: usize) -> usize
     say(out, at, b"refused @1: ", number, 0, 0, 0)
 }
 
-// A refusal with its byte.
+// A refusal with its byte of the site file.
 fn head_byte(out: &mut [u8], at: usize, number: usize, place: usize) -> usize
     requires { ⌜ at + 1000 ≤ length (now out) ⌝ }
     ensures stored { λ r. ⌜ now (out .exit) ≡ sets (now (out .entry)) at (headByte number place) ⌝ }
     ensures next { λ r. ⌜ r ≡ at + length (headByte number place) ⌝ }
     ensures short { λ r. ⌜ r ≤ at + 1000 ⌝ }
 {
-    say(out, at, b"refused @1, byte @2: ", number, place, 0, 0)
+    say(
+        out,
+        at,
+        b"refused @1, byte @2 of the site file: ",
+        number,
+        place,
+        0,
+        0,
+    )
+}
+
+// A refusal with its byte of the plan file.
+fn head_plan_byte(out: &mut [u8], at: usize, number: usize, place: usize) -> usize
+    requires { ⌜ at + 1000 ≤ length (now out) ⌝ }
+    ensures stored { λ r. ⌜ now (out .exit) ≡ sets (now (out .entry)) at (headPlanByte number place) ⌝ }
+    ensures next { λ r. ⌜ r ≡ at + length (headPlanByte number place) ⌝ }
+    ensures short { λ r. ⌜ r ≤ at + 1000 ⌝ }
+{
+    say(
+        out,
+        at,
+        b"refused @1, byte @2 of the plan file: ",
+        number,
+        place,
+        0,
+        0,
+    )
 }
 
 // A refusal with its line.
@@ -369,6 +412,7 @@ fn head(out: &mut [u8], at: usize, number: usize, place: Place) -> usize
     match place {
         Place::Nowhere => head_alone(out, at, number),
         Place::Byte(offset) => head_byte(out, at, number, offset),
+        Place::PlanByte(offset) => head_plan_byte(out, at, number, offset),
         Place::Line(line) => head_line(out, at, number, line),
         Place::Cell(cell) => head_cell(out, at, number, cell),
         Place::Flow(flow) => head_flow(out, at, number, flow),

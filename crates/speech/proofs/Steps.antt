@@ -10,14 +10,13 @@ use borrow.Author.Tests.{ltb-true, ltb-false}
 use lib.ListN.{length, drop, getD}
 use Rattle.laws.specs.Choice.{pick}
 use Rattle.laws.proofs.Choice.{cases}
-use Rattle.text.specs.Decimal.{decimal}
 use Rattle.text.proofs.Left.{next-left, none-left}
 use Rattle.speech.specs.Speech.{spoken, markAt}
 
-module _ (value : ℕ → ℕ) (text : List ℕ) (i : ℕ) where
+module _ (words : ℕ → List ℕ) (text : List ℕ) (i : ℕ) where
   -- a place mark, and what comes after it
   pub mark-next : i + 1 < length text → eqb (getD text i 0) 64 ≡ true
-      → spoken value (drop i text) ≡ decimal (value (getD text (i + 1) 0)) ++ spoken value (drop (i + 2) text)
+      → spoken words (drop i text) ≡ words (getD text (i + 1) 0) ++ spoken words (drop (i + 2) text)
   unfolding spoken
   mark-next h e =
       let one = next-left text i (omega arith) in
@@ -27,7 +26,7 @@ module _ (value : ℕ → ℕ) (text : List ℕ) (i : ℕ) where
 
   -- a byte that is no @, and what comes after it
   other-next : i + 1 < length text → eqb (getD text i 0) 64 ≡ false
-      → spoken value (drop i text) ≡ getD text i 0 ∷ spoken value (drop (i + 1) text)
+      → spoken words (drop i text) ≡ getD text i 0 ∷ spoken words (drop (i + 1) text)
   unfolding spoken
   other-next h e =
       let one = next-left text i (omega arith) in
@@ -35,12 +34,12 @@ module _ (value : ℕ → ℕ) (text : List ℕ) (i : ℕ) where
       rw (one, two, e)
 
   -- the last byte
-  last-next : i < length text → length text ≤ i + 1 → spoken value (drop i text) ≡ getD text i 0 ∷ spoken value (drop (i + 1) text)
+  last-next : i < length text → length text ≤ i + 1 → spoken words (drop i text) ≡ getD text i 0 ∷ spoken words (drop (i + 1) text)
   unfolding spoken
   last-next h l = rw (next-left text i h, none-left text (i + 1) l)
 
   -- a byte that begins no place mark
-  pub byte-next : i < length text → markAt text i ≡ false → spoken value (drop i text) ≡ getD text i 0 ∷ spoken value (drop (i + 1) text)
+  pub byte-next : i < length text → markAt text i ≡ false → spoken words (drop i text) ≡ getD text i 0 ∷ spoken words (drop (i + 1) text)
   byte-next h e =
       ⊎-elim (λ t. other-next (ltb-true (i + 1) (length text) t) (rw t at e)) (λ t. last-next h (ltb-false (i + 1) (length text) t))
       (cases (ltb (i + 1) (length text)))
@@ -55,6 +54,6 @@ module _ (value : ℕ → ℕ) (text : List ℕ) (i : ℕ) where
       let m = marked (ltb (i + 1) (length text)) (eqb (getD text i 0) 64) e in
       (ltb-true (i + 1) (length text) (m .0), m .1)
 
-  pub all-said : length text ≤ i → spoken value (drop i text) ≡ []
+  pub all-said : length text ≤ i → spoken words (drop i text) ≡ []
   unfolding spoken
   all-said h = rw (none-left text i h)

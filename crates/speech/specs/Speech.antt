@@ -1,5 +1,6 @@
--- A sentence with numbers in it. Its text has place marks, an @ (64) and a digit: @1, @2, @3 and @4 stand for the first to the fourth value, in decimal.
-use Prim.Native.Nat.{ℕ, _+_}
+-- A sentence with numbers in it. Its text has place marks, an @ (64) and one byte more. With a digit, @1, @2, @3 and @4 stand for the first to the fourth value, in decimal. With a
+-- letter, @a, @b, @c and @d stand for an s where the first to the fourth value is not 1, and for nothing where it is 1: "@1 slot@a" is "1 slot" and "2 slots".
+use Prim.Native.Nat.{ℕ, _+_, _-_}
 use Prim.Native.Char.{code}
 use Prim.Native.String.{String, [] as none, _∷_ as _then_}
 use mathlib.Core.Bool.{Bool, false}
@@ -18,11 +19,19 @@ bytes (c then s) = code c ∷ bytes s
 abbrev pub valueOf : (a b c d : ℕ) → ℕ → ℕ
 valueOf a b c d digit = pick (eqb digit 49) a (pick (eqb digit 50) b (pick (eqb digit 51) c d))
 
--- the text with each place mark replaced by the decimal of its value. An @ at the very end is no mark
-unfoldable pub spoken : (ℕ → ℕ) → List ℕ → List ℕ
-spoken value [] = []
-spoken value (b ∷ []) = b ∷ []
-spoken value (b ∷ digit ∷ text) = pick (eqb b 64) (decimal (value digit) ++ spoken value text) (b ∷ spoken value (digit ∷ text))
+-- the s (115) of a plural: nothing for 1, an s for any other number
+abbrev pub plural : ℕ → List ℕ
+plural x = pick (eqb x 1) [] (115 ∷ [])
+
+-- what a mark stands for: a digit (49 is 1) for the value's decimal, a letter (97 is a) for the plural of the value
+abbrev pub markWords : (a b c d : ℕ) → ℕ → List ℕ
+markWords a b c d mark = pick (ltb mark 97) (decimal (valueOf a b c d mark)) (plural (valueOf a b c d (mark - 48)))
+
+-- the text with each place mark replaced by its words. An @ at the very end is no mark
+unfoldable pub spoken : (ℕ → List ℕ) → List ℕ → List ℕ
+spoken words [] = []
+spoken words (b ∷ []) = b ∷ []
+spoken words (b ∷ mark ∷ text) = pick (eqb b 64) (words mark ++ spoken words text) (b ∷ spoken words (mark ∷ text))
 
 -- whether a place mark begins at i, as the loop asks
 abbrev pub markAt : List ℕ → ℕ → Bool
@@ -30,4 +39,4 @@ markAt text i = pick (ltb (i + 1) (length text)) (eqb (getD text i 0) 64) false
 
 -- a sentence, its text in letters
 abbrev pub said : String → (a b c d : ℕ) → List ℕ
-said text a b c d = spoken (valueOf a b c d) (bytes text)
+said text a b c d = spoken (markWords a b c d) (bytes text)

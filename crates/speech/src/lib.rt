@@ -4,7 +4,7 @@ ghost use mathlib.Core.Path.{_≡_};
 ghost use Prim.Native.Nat.{_+_, _*_, _≤_, _<_};
 ghost use lib.ListN.{length};
 ghost use lib.Seq.{sets};
-ghost use Rattle.speech.specs.Speech.{valueOf, spoken, markAt};
+ghost use Rattle.speech.specs.Speech.{valueOf, plural, markWords, spoken, markAt};
 
 // Whether a place mark begins at i.
 fn is_mark(text: &[u8], i: usize) -> bool
@@ -33,18 +33,43 @@ fn value(a: usize, b: usize, c: usize, d: usize, digit: u8) -> usize
     d
 }
 
-// Puts the text at `at`, with each place mark replaced by its value, and answers where the next byte goes.
+// Puts the s of a plural: nothing for 1, an s for any other number.
+fn put_plural(out: &mut [u8], at: usize, x: usize) -> usize
+    requires { ⌜ at + length (plural x) ≤ length (now out) ⌝ }
+    ensures stored { λ r. ⌜ now (out .exit) ≡ sets (now (out .entry)) at (plural x) ⌝ }
+    ensures next { λ r. ⌜ r ≡ at + length (plural x) ⌝ }
+{
+    if x == 1 {
+        return at;
+    }
+    out[at] = b's';
+    at + 1
+}
+
+// Puts what a mark stands for: a digit for the value, a letter for the plural of the value.
+fn put_mark(out: &mut [u8], at: usize, a: usize, b: usize, c: usize, d: usize, mark: u8) -> usize
+    requires { ⌜ at + length (markWords a b c d mark) ≤ length (now out) ⌝ }
+    ensures stored { λ r. ⌜ now (out .exit) ≡ sets (now (out .entry)) at (markWords a b c d mark) ⌝ }
+    ensures next { λ r. ⌜ r ≡ at + length (markWords a b c d mark) ⌝ }
+{
+    if mark < b'a' {
+        return put_number(out, at, value(a, b, c, d, mark));
+    }
+    put_plural(out, at, value(a, b, c, d, mark - 48))
+}
+
+// Puts the text at `at`, with each place mark replaced by its words, and answers where the next byte goes.
 pub fn say(out: &mut [u8], at: usize, text: &[u8], a: usize, b: usize, c: usize, d: usize) -> usize
     requires { ⌜ at + 10 * length (now text) ≤ length (now out) ⌝ }
-    ensures stored { λ r. ⌜ now (out .exit) ≡ sets (now (out .entry)) at (spoken (valueOf a b c d) (now (text .entry))) ⌝ }
-    ensures next { λ r. ⌜ r ≡ at + length (spoken (valueOf a b c d) (now (text .entry))) ⌝ }
+    ensures stored { λ r. ⌜ now (out .exit) ≡ sets (now (out .entry)) at (spoken (markWords a b c d) (now (text .entry))) ⌝ }
+    ensures next { λ r. ⌜ r ≡ at + length (spoken (markWords a b c d) (now (text .entry))) ⌝ }
     ensures short { λ r. ⌜ r ≤ at + 10 * length (now (text .entry)) ⌝ }
 {
     let mut next = at;
     let mut i = 0;
     while i < text.len() {
         if is_mark(text, i) {
-            next = put_number(out, next, value(a, b, c, d, text[i + 1]));
+            next = put_mark(out, next, a, b, c, d, text[i + 1]);
             i += 2;
             continue;
         }

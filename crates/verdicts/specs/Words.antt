@@ -20,7 +20,7 @@ use Rattle.sheet.specs.declared.SheetAnswer.{SheetAnswer}
 use Rattle.sheet.specs.declared.SheetAnswer.the-variants as sheet
 use Rattle.speech.specs.Speech.{said}
 use Rattle.refusals.specs.Words.{refusedLine}
-use Rattle.refusals.specs.declared.Place.the-variants.{Nowhere, Byte, Line, Cell}
+use Rattle.refusals.specs.declared.Place.the-variants.{Nowhere, Byte, PlanByte, Line, Cell}
 
 -- ---- the lines
 
@@ -31,19 +31,19 @@ abbrev pub clashLine : (a c slot channel : ℕ) → List ℕ
 clashLine a c slot channel = said "refused 6: cells @1 and @2 disturb each other, and both send in slot @3, channel @4\n" a c slot channel
 
 abbrev pub countLine : (cell times load : ℕ) → List ℕ
-countLine cell times load = said "refused 7: cell @1 sends @2 times in a superframe, and its load is @3\n" cell times load 0
+countLine cell times load = said "refused 7: cell @1 sends @2 time@b in a superframe, and its load is @3\n" cell times load 0
 
 abbrev pub plannedLine : (cells slots channels : ℕ) → List ℕ
-plannedLine cells slots channels = said "planned: @1 cells, @2 slots, @3 channels\n" cells slots channels 0
+plannedLine cells slots channels = said "planned: @1 cell@a, @2 slot@b, @3 channel@c\n" cells slots channels 0
 
 abbrev pub noRoomLine : (cell short : ℕ) → List ℕ
 noRoomLine cell short = said "refused 5, cell @1: no room for @2 of its fragments; duggfrask why says whether the site is full\n" cell short 0 0
 
 abbrev pub shareLine : (share queue delay : ℕ) → List ℕ
-shareLine share queue delay = said "share @1 fragments in a superframe\nqueue at most @2 fragments\ndelay at most @3 slots\n" share queue delay 0
+shareLine share queue delay = said "share @1 fragment@a in a superframe\nqueue at most @2 fragment@b\ndelay at most @3 slot@c\n" share queue delay 0
 
 abbrev pub otherPlanLine : (cells slots channels : ℕ) → List ℕ
-otherPlanLine cells slots channels = said "refused: the plan is for @1 cells, @2 slots and @3 channels, and the site is of another size\n" cells slots channels 0
+otherPlanLine cells slots channels = said "refused: the plan is for @1 cell@a, @2 slot@b and @3 channel@c, and the site is of another size\n" cells slots channels 0
 
 -- ---- the answers
 
@@ -62,10 +62,15 @@ faultWords Size = refusedLine 1 Nowhere
 faultWords (Load cell) = refusedLine 2 (Cell cell)
 faultWords (Reach cell) = refusedLine 3 (Cell cell)
 
--- a file that was read: nothing to say; or the number and the offset
+-- a site file that was read: nothing to say; or the number and the offset
 abbrev pub readWords : ReadAnswer → List ℕ
 readWords read.Done = []
 readWords (read.Refused number at) = refusedLine number (Byte at)
+
+-- a plan file that was read: the same, with the plan file named
+abbrev pub planReadWords : ReadAnswer → List ℕ
+planReadWords read.Done = []
+planReadWords (read.Refused number at) = refusedLine number (PlanByte at)
 
 -- a sheet that was read: nothing to say; 17 and the line; or what is wrong with the site
 abbrev pub sheetWords : SheetAnswer → List ℕ

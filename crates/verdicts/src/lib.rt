@@ -12,7 +12,7 @@ ghost use mathlib.Core.Path.{_≡_};
 ghost use Prim.Native.Nat.{_+_, _≤_, _<_, _-_, _/_, _%_};
 ghost use lib.ListN.{length, getD};
 ghost use lib.Seq.{sets};
-ghost use Rattle.verdicts.specs.Words.{validLine, clashLine, countLine, plannedLine, noRoomLine, shareLine, otherPlanLine, loadOf, clashWords, faultWords, readWords, sheetWords, checkWords, planWords, shareWords};
+ghost use Rattle.verdicts.specs.Words.{validLine, clashLine, countLine, plannedLine, noRoomLine, shareLine, otherPlanLine, loadOf, clashWords, faultWords, readWords, planReadWords, sheetWords, checkWords, planWords, shareWords};
 
 // A valid table.
 fn valid_line(out: &mut [u8], at: usize) -> usize
@@ -52,7 +52,7 @@ fn count_line(out: &mut [u8], at: usize, cell: usize, times: usize, load: usize)
     say(
         out,
         at,
-        b"refused 7: cell @1 sends @2 times in a superframe, and its load is @3\n",
+        b"refused 7: cell @1 sends @2 time@b in a superframe, and its load is @3\n",
         cell,
         times,
         load,
@@ -70,7 +70,7 @@ fn planned_line(out: &mut [u8], at: usize, cells: usize, slots: usize, channels:
     say(
         out,
         at,
-        b"planned: @1 cells, @2 slots, @3 channels\n",
+        b"planned: @1 cell@a, @2 slot@b, @3 channel@c\n",
         cells,
         slots,
         channels,
@@ -106,7 +106,7 @@ fn share_line(out: &mut [u8], at: usize, share: usize, queue: usize, delay: usiz
     say(
         out,
         at,
-        b"share @1 fragments in a superframe\nqueue at most @2 fragments\ndelay at most @3 slots\n",
+        b"share @1 fragment@a in a superframe\nqueue at most @2 fragment@b\ndelay at most @3 slot@c\n",
         share,
         queue,
         delay,
@@ -130,7 +130,7 @@ pub fn other_plan_line(
     say(
         out,
         at,
-        b"refused: the plan is for @1 cells, @2 slots and @3 channels, and the site is of another size\n",
+        b"refused: the plan is for @1 cell@a, @2 slot@b and @3 channel@c, and the site is of another size\n",
         cells,
         slots,
         channels,
@@ -190,7 +190,7 @@ pub fn fault_words(out: &mut [u8], at: usize, reply: Fault) -> usize
     }
 }
 
-// A file that was read, or its refusal.
+// A site file that was read, or its refusal.
 pub fn read_words(out: &mut [u8], at: usize, reply: ReadAnswer) -> usize
     requires { ⌜ at + 2000 ≤ length (now out) ⌝ }
     ensures stored { λ r. ⌜ now (out .exit) ≡ sets (now (out .entry)) at (readWords reply) ⌝ }
@@ -204,6 +204,24 @@ pub fn read_words(out: &mut [u8], at: usize, reply: ReadAnswer) -> usize
             at,
             number as usize,
             Place::Byte(offset),
+        ),
+    }
+}
+
+// A plan file that was read, or its refusal.
+pub fn plan_read_words(out: &mut [u8], at: usize, reply: ReadAnswer) -> usize
+    requires { ⌜ at + 2000 ≤ length (now out) ⌝ }
+    ensures stored { λ r. ⌜ now (out .exit) ≡ sets (now (out .entry)) at (planReadWords reply) ⌝ }
+    ensures next { λ r. ⌜ r ≡ at + length (planReadWords reply) ⌝ }
+    ensures short { λ r. ⌜ r ≤ at + 2000 ⌝ }
+{
+    match reply {
+        ReadAnswer::Done => at,
+        ReadAnswer::Refused(number, offset) => refusals::refused(
+            out,
+            at,
+            number as usize,
+            Place::PlanByte(offset),
         ),
     }
 }

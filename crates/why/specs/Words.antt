@@ -33,7 +33,7 @@ abbrev pub holdsLine : List ℕ
 holdsLine = said "the load test holds\n" 0 0 0 0
 
 abbrev pub overLine : (cell excess : ℕ) → List ℕ
-overLine cell excess = said "the load test fails: cell @1 is over by @2 fragments, and these cells share the air there:\n" cell excess 0 0
+overLine cell excess = said "the load test fails: cell @1 is over by @2 fragment@b, and these cells share the air there:\n" cell excess 0 0
 
 abbrev pub airLine : (cell load : ℕ) → List ℕ
 airLine cell load = said "  cell @1, load @2\n" cell load 0 0
@@ -42,28 +42,28 @@ abbrev pub plannedLine : List ℕ
 plannedLine = said "planned\n" 0 0 0 0
 
 abbrev pub fullLine : (cell short : ℕ) → List ℕ
-fullLine cell short = said "not planned: cell @1 is @2 fragments short. The site is full: it is chained, and so no planner can do better\n" cell short 0 0
+fullLine cell short = said "not planned: cell @1 is @2 fragment@b short. The site is full: it is chained, and so no planner can do better\n" cell short 0 0
 
 abbrev pub gaveUpLine : (cell short : ℕ) → List ℕ
-gaveUpLine cell short = said "not planned: cell @1 is @2 fragments short. This order found no room; the site is not chained, and another order may\n" cell short 0 0
+gaveUpLine cell short = said "not planned: cell @1 is @2 fragment@b short. This order found no room; the site is not chained, and another order may find room\n" cell short 0 0
 
 abbrev pub leastLine : (n positions : ℕ) → List ℕ
-leastLine n positions = said "@1 channel-slots do, and fewer never do; the site has @2\n" n positions 0 0
+leastLine n positions = said "@1 channel-slot@a will do, and fewer never will; the site has @2\n" n positions 0 0
 
 abbrev pub enoughLine : (n positions : ℕ) → List ℕ
-enoughLine n positions = said "@1 channel-slots do, and fewer may; the site has @2\n" n positions 0 0
+enoughLine n positions = said "@1 channel-slot@a will do, and fewer may; the site has @2\n" n positions 0 0
 
 abbrev pub slotsLine : (channels slots : ℕ) → List ℕ
-slotsLine channels slots = said "with @1 channels: @2 slots\n" channels slots 0 0
+slotsLine channels slots = said "with @1 channel@a: @2 slot@b\n" channels slots 0 0
 
 abbrev pub manySlotsLine : (channels : ℕ) → List ℕ
-manySlotsLine channels = said "with @1 channels: more than 128 slots, which no site has\n" channels 0 0 0
+manySlotsLine channels = said "with @1 channel@a: more than 128 slots, which no site has\n" channels 0 0 0
 
 abbrev pub channelsLine : (slots channels : ℕ) → List ℕ
-channelsLine slots channels = said "with @1 slots: @2 channels\n" slots channels 0 0
+channelsLine slots channels = said "with @1 slot@a: @2 channel@b\n" slots channels 0 0
 
 abbrev pub manyChannelsLine : (slots : ℕ) → List ℕ
-manyChannelsLine slots = said "with @1 slots: more than 16 channels, which no site has\n" slots 0 0 0
+manyChannelsLine slots = said "with @1 slot@a: more than 16 channels, which no site has\n" slots 0 0 0
 
 -- ---- the verdicts. A refused record has no words here: its fault has them
 

@@ -66,7 +66,7 @@ fn over_line(out: &mut [u8], at: usize, cell: usize, excess: usize) -> usize
     say(
         out,
         at,
-        b"the load test fails: cell @1 is over by @2 fragments, and these cells share the air there:\n",
+        b"the load test fails: cell @1 is over by @2 fragment@b, and these cells share the air there:\n",
         cell,
         excess,
         0,
@@ -104,7 +104,7 @@ fn full_line(out: &mut [u8], at: usize, cell: usize, short: usize) -> usize
     say(
         out,
         at,
-        b"not planned: cell @1 is @2 fragments short. The site is full: it is chained, and so no planner can do better\n",
+        b"not planned: cell @1 is @2 fragment@b short. The site is full: it is chained, and so no planner can do better\n",
         cell,
         short,
         0,
@@ -122,7 +122,7 @@ fn gave_up_line(out: &mut [u8], at: usize, cell: usize, short: usize) -> usize
     say(
         out,
         at,
-        b"not planned: cell @1 is @2 fragments short. This order found no room; the site is not chained, and another order may\n",
+        b"not planned: cell @1 is @2 fragment@b short. This order found no room; the site is not chained, and another order may find room\n",
         cell,
         short,
         0,
@@ -140,7 +140,7 @@ fn least_line(out: &mut [u8], at: usize, n: usize, positions: usize) -> usize
     say(
         out,
         at,
-        b"@1 channel-slots do, and fewer never do; the site has @2\n",
+        b"@1 channel-slot@a will do, and fewer never will; the site has @2\n",
         n,
         positions,
         0,
@@ -158,7 +158,7 @@ fn enough_line(out: &mut [u8], at: usize, n: usize, positions: usize) -> usize
     say(
         out,
         at,
-        b"@1 channel-slots do, and fewer may; the site has @2\n",
+        b"@1 channel-slot@a will do, and fewer may; the site has @2\n",
         n,
         positions,
         0,
@@ -176,7 +176,7 @@ fn slots_line(out: &mut [u8], at: usize, channels: usize, slots: usize) -> usize
     say(
         out,
         at,
-        b"with @1 channels: @2 slots\n",
+        b"with @1 channel@a: @2 slot@b\n",
         channels,
         slots,
         0,
@@ -194,7 +194,7 @@ fn many_slots_line(out: &mut [u8], at: usize, channels: usize) -> usize
     say(
         out,
         at,
-        b"with @1 channels: more than 128 slots, which no site has\n",
+        b"with @1 channel@a: more than 128 slots, which no site has\n",
         channels,
         0,
         0,
@@ -212,7 +212,7 @@ fn channels_line(out: &mut [u8], at: usize, slots: usize, channels: usize) -> us
     say(
         out,
         at,
-        b"with @1 slots: @2 channels\n",
+        b"with @1 slot@a: @2 channel@b\n",
         slots,
         channels,
         0,
@@ -230,7 +230,7 @@ fn many_channels_line(out: &mut [u8], at: usize, slots: usize) -> usize
     say(
         out,
         at,
-        b"with @1 slots: more than 16 channels, which no site has\n",
+        b"with @1 slot@a: more than 16 channels, which no site has\n",
         slots,
         0,
         0,

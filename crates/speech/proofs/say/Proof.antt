@@ -4,35 +4,33 @@ use Prim.Native.Nat.{ℕ, _+_, _*_, _-_, _≤_, _<_}
 use mathlib.Core.Bool.{true}
 use lib.Dec.{eqb}
 use mathlib.Core.Path.{_≡_, refl, sym, _∙_}
-use mathlib.Core.List.{[], _∷_, _++_}
+use mathlib.Core.List.{List, [], _∷_, _++_}
 use native.Mathlib.Omega.{arith}
 use lib.ListN.{length, drop, getD}
-use Rattle.text.specs.Decimal.{decimal}
 use Rattle.text.proofs.Writing.{Writing, begun, said, room, stored, ended}
-use Rattle.speech.specs.Speech.{valueOf, spoken}
+use Rattle.speech.specs.Speech.{markWords, spoken}
 use Rattle.speech.proofs.Steps.{mark-next, byte-next, mark-means, all-said}
-use Rattle.speech.proofs.Long.{values-wide, spoken-long}
-use borrow.Author.Needs.{needs}
+use Rattle.speech.proofs.Long.{marks-brief, spoken-long}
 use Rattle.speech.proofs.say.Statement.{statement}
 use Rattle.speech.proofs.say.Tie as tie
 
 abbrev Inv-loop : tie.InvT-loop
 Inv-loop out₀ at text a b c d next₀ i₀ out next i =
-    (i ≤ length text) × Writing out₀ at (spoken (valueOf a b c d) text) out next (spoken (valueOf a b c d) (drop i text))
+    (i ≤ length text) × Writing out₀ at (spoken (markWords a b c d) text) out next (spoken (markWords a b c d) (drop i text))
 
 abbrev μ-loop : tie.MeasureT-loop
 μ-loop out₀ at text a b c d next₀ i₀ out next i = length text - i
 
--- the values of the sentence
-abbrev values : tie.Start Inv-loop μ-loop → ℕ → ℕ
-values s = valueOf (s .args .a) (s .args .b) (s .args .c) (s .args .d)
+-- what the marks of the sentence stand for
+abbrev words : tie.Start Inv-loop μ-loop → ℕ → List ℕ
+words s = markWords (s .args .a) (s .args .b) (s .args .c) (s .args .d)
 
 -- how long it is
-long : (s : tie.Start Inv-loop μ-loop) → length (spoken (values s) (s .args .text .now)) ≤ 10 * length (s .args .text .now)
-long s = spoken-long (values s) (values-wide (s .args .a) (s .args .b) (s .args .c) (s .args .d) (omega arith) (omega arith) (omega arith) (omega arith)) (s .args .text .now)
+long : (s : tie.Start Inv-loop μ-loop) → length (spoken (words s) (s .args .text .now)) ≤ 10 * length (s .args .text .now)
+long s = spoken-long (words s) (marks-brief (s .args .a) (s .args .b) (s .args .c) (s .args .d) (omega arith) (omega arith) (omega arith) (omega arith)) (s .args .text .now)
 
 -- there is room for it
-fits : (s : tie.Start Inv-loop μ-loop) → s .args .at + length (spoken (values s) (s .args .text .now)) ≤ length (s .args .out .now)
+fits : (s : tie.Start Inv-loop μ-loop) → s .args .at + length (spoken (words s) (s .args .text .now)) ≤ length (s .args .out .now)
 fits s = omega (arith, long s, s .pre)
 
 loop-holds : tie.Need-loop-holds Inv-loop μ-loop
@@ -47,58 +45,54 @@ marked : (c : tie.Then1 Inv-loop μ-loop) → let l = c .before .before .before 
 marked c =
     let l = c .before .before .before .loop in
     let s = c .before .before .before .before .before .before in
-    mark-means (values s) (s .args .text .now) (l .i) (sym (c .before .is-mark .ensures) ∙ c .if1 .taken)
+    mark-means (words s) (s .args .text .now) (l .i) (sym (c .before .is-mark .ensures) ∙ c .if1 .taken)
 
 -- and what is left there
 at-mark : (c : tie.Then1 Inv-loop μ-loop) → let l = c .before .before .before .loop in let s = c .before .before .before .before .before .before in
-    Writing (s .args .out .now) (s .args .at) (spoken (values s) (s .args .text .now)) (l .out) (l .next)
-    (decimal (values s (getD (s .args .text .now) (l .i + 1) 0)) ++ spoken (values s) (drop (l .i + 2) (s .args .text .now)))
+    Writing (s .args .out .now) (s .args .at) (spoken (words s) (s .args .text .now)) (l .out) (l .next)
+    (words s (getD (s .args .text .now) (l .i + 1) 0) ++ spoken (words s) (drop (l .i + 2) (s .args .text .now)))
 at-mark c =
     let l = c .before .before .before .loop in
     let s = c .before .before .before .before .before .before in
-    said (mark-next (values s) (s .args .text .now) (l .i) (marked c .0) (marked c .1)) (l .inv .1)
+    said (mark-next (words s) (s .args .text .now) (l .i) (marked c .0) (marked c .1)) (l .inv .1)
 
-add-value : tie.Need-add-value Inv-loop μ-loop
-add-value c = omega (arith, marked (c .before) .0)
+add-put-mark : tie.Need-add-put-mark Inv-loop μ-loop
+add-put-mark c = omega (arith, marked (c .before) .0)
 
-shared-slice-read-value : tie.Need-shared-slice-read-value Inv-loop μ-loop
-shared-slice-read-value c = omega (arith, marked (c .before .before) .0)
+shared-slice-read-put-mark : tie.Need-shared-slice-read-put-mark Inv-loop μ-loop
+shared-slice-read-put-mark c = omega (arith, marked (c .before .before) .0)
 
-value-requires : tie.Need-value-requires Inv-loop μ-loop
-value-requires c κs = search needs
-
-put-number-requires : tie.Need-put-number-requires Inv-loop μ-loop
-put-number-requires c κs =
-    let t = c .before .before .before in
+put-mark-requires : tie.Need-put-mark-requires Inv-loop μ-loop
+put-mark-requires c κs =
+    let t = c .before .before in
     let s = t .before .before .before .before .before .before in
     let l = t .before .before .before .loop in
     let text = s .args .text .now in
-    rw (c .value .ensures) (room (decimal (values s (getD text (l .i + 1) 0))) (spoken (values s) (drop (l .i + 2) text)) (at-mark t) (fits s))
+    room (words s (getD text (l .i + 1) 0)) (spoken (words s) (drop (l .i + 2) text)) (at-mark t) (fits s)
 
 add-i : tie.Need-add-i Inv-loop μ-loop
-add-i c = omega (arith, marked (c .before .before .before .before .before .before) .0)
+add-i c = omega (arith, marked (c .before .before .before .before .before) .0)
 
 loop-less : tie.Need-loop-less Inv-loop μ-loop
-loop-less c = omega (arith, marked (c .before .before .before .before .before .before) .0)
+loop-less c = omega (arith, marked (c .before .before .before .before .before) .0)
 
 loop-again : tie.Need-loop-again Inv-loop μ-loop
 loop-again c =
-    let t = c .before .before .before .before .before .before in
-    let put = c .before .before .put-number .ensures in
-    let is = c .before .before .before .value .ensures in
+    let t = c .before .before .before .before .before in
+    let put = c .before .before .put-mark .ensures in
     let l = t .before .before .before .loop in
     let s = t .before .before .before .before .before .before in
     let text = s .args .text .now in
-    (omega (arith, marked t .0), stored (decimal (values s (getD text (l .i + 1) 0))) (spoken (values s) (drop (l .i + 2) text)) (at-mark t) (rw is at (put .0)) (rw is at (put .1)))
+    (omega (arith, marked t .0), stored (words s (getD text (l .i + 1) 0)) (spoken (words s) (drop (l .i + 2) text)) (at-mark t) (put .0) (put .1))
 
 -- at any other byte: what is left
 at-byte : (c : tie.Else1 Inv-loop μ-loop) → let l = c .before .before .before .loop in let s = c .before .before .before .before .before .before in
-    Writing (s .args .out .now) (s .args .at) (spoken (values s) (s .args .text .now)) (l .out) (l .next)
-    ((getD (s .args .text .now) (l .i) 0 ∷ []) ++ spoken (values s) (drop (l .i + 1) (s .args .text .now)))
+    Writing (s .args .out .now) (s .args .at) (spoken (words s) (s .args .text .now)) (l .out) (l .next)
+    ((getD (s .args .text .now) (l .i) 0 ∷ []) ++ spoken (words s) (drop (l .i + 1) (s .args .text .now)))
 at-byte c =
     let l = c .before .before .before .loop in
     let s = c .before .before .before .before .before .before in
-    said (byte-next (values s) (s .args .text .now) (l .i) (omega arith) (sym (c .before .is-mark .ensures) ∙ c .if1 .left)) (l .inv .1)
+    said (byte-next (words s) (s .args .text .now) (l .i) (omega arith) (sym (c .before .is-mark .ensures) ∙ c .if1 .left)) (l .inv .1)
 
 space : (c : tie.Else1 Inv-loop μ-loop) → c .before .before .before .loop .next + 1 ≤ length (c .before .before .before .loop .out)
 space c = room (_ ∷ []) _ (at-byte c) (fits (c .before .before .before .before .before .before))
@@ -128,7 +122,7 @@ returns : tie.Need-returns Inv-loop μ-loop
 returns c =
     let l = c .before .loop in
     let s = c .before .before .before .before in
-    let w = ended (said (all-said (values s) (s .args .text .now) (l .i) (omega arith)) (l .inv .1)) in
+    let w = ended (said (all-said (words s) (s .args .text .now) (l .i) (omega arith)) (l .inv .1)) in
     (w .0, (w .1, omega (arith, long s, w .1)))
 
 pub say-spec : {M : Type 1} → statement M
@@ -139,10 +133,9 @@ say-spec =
     μ-loop
     loop-holds
     is-mark-requires
-    add-value
-    shared-slice-read-value
-    value-requires
-    put-number-requires
+    add-put-mark
+    shared-slice-read-put-mark
+    put-mark-requires
     add-i
     loop-less
     loop-again
