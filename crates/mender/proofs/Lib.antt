@@ -6,3 +6,4 @@ pub mod Standing
 pub mod Ends
 pub mod Given
 pub mod Meaning
+pub mod Room

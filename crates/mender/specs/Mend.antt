@@ -1,10 +1,10 @@
 -- What the mender answers, and what it leaves in the lent table and in the lent list, for any site, any table and any list.
 use mathlib.Core.Path.{_≡_}
-use mathlib.Core.Bool.{Bool}
+use mathlib.Core.Bool.{Bool, true}
 use mathlib.Core.List.{List}
-use Prim.Native.Nat.{ℕ, _+_, _*_}
+use Prim.Native.Nat.{ℕ, _+_, _*_, _≤_}
 use lib.Dec.{ltb}
-use lib.ListN.{length}
+use lib.ListN.{length, replicate}
 use lib.Seq.{sets}
 use Rattle.laws.specs.Choice.{pick}
 use Rattle.laws.specs.Bits.{bitIn}
@@ -64,6 +64,14 @@ module _ (s : Net) (u l : List ℕ) where
 abbrev pub ifRoom : {A : Type 0} → List ℕ → ℕ → (short done : A) → A
 ifRoom l number short done = pick (ltb (length l) (4 * number)) short done
 
+-- the list that a call goes by: the one that is lent, or, where nothing is to be listed, one with room for every change
+abbrev pub goesBy : Bool → ℕ → ℕ → List ℕ → List ℕ
+goesBy only cells n l = pick only (replicate (4 * (cells * n)) 0) l
+
+-- the one that is lent then has room for the changes of a row
+abbrev pub Workable : Bool → ℕ → List ℕ → Type 0
+Workable only n l = only ≡ true → 4 * n ≤ length l
+
 -- the same for a problem by its numbers: what stands, or the cell that finds no room; and the answer, the table and the list after it
 module _ (cells n : ℕ) (loads clash u : List ℕ) where
   abbrev pub mendBy : Outcome
@@ -97,3 +105,7 @@ mendTable s u l = called s u u u (tableAfter (netOf s) u l (mend (netOf s) u))
 
 unfoldable pub mendList : Site → List ℕ → List ℕ → List ℕ
 mendList s u l = called s u l l (listAfter (netOf s) u l (mend (netOf s) u))
+
+-- a list with room for a change at every byte of the site's table: four numbers each
+abbrev pub roomFor : Site → List ℕ
+roomFor s = replicate (4 * size s) 0

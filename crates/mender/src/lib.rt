@@ -2,11 +2,12 @@
 //
 // What it costs, for I cells and N positions: each row is read once to keep what may be kept of it, and the words once more, up to the last position that is
 // added, where something is lacking (at most 2 I N steps, without a branch but for the end). A cell that has changes is read once more, to write them. Nothing
-// lent is written before the outcome is known. The local room is a word for each position, 8 kilobytes, and a number for each cell: no second table.
+// lent is written before the outcome is known. The local room is a word for each position, 8 kilobytes, and a number for each cell: no second table. Without a
+// list there are 16 kilobytes more, for the changes of one row.
 use site::Fault;
 use site::Site;
 ghost use mathlib.Core.Path.{_≡_};
-ghost use mathlib.Core.Bool.{_&&_, not};
+ghost use mathlib.Core.Bool.{true, false, _&&_, not};
 ghost use mathlib.Core.List.{[], _∷_};
 ghost use Prim.Native.Nat.{_+_, _-_, _*_, _^_, _≤_, _<_};
 ghost use lib.Dec.{eqb, ltb};
@@ -19,7 +20,7 @@ ghost use Rattle.theory.specs.Greedy.{sends, reserved};
 ghost use Rattle.mending.specs.Mend.{mend};
 ghost use Rattle.mending.specs.Changes.{differ, change, cellChanges, changes, follow};
 ghost use Rattle.mender.specs.Words.{freeAt, joined, oldAt, keptIn, standsIn, cellStands, cellCount, allCount, listedIn, Below, Zeros, TwoWay, Counted};
-ghost use Rattle.mender.specs.Mend.{ifRoom, stoodBy, SaysBy, answerBy, tableBy, listBy, mendAnswer, mendTable, mendList};
+ghost use Rattle.mender.specs.Mend.{ifRoom, goesBy, Workable, stoodBy, SaysBy, answerBy, tableBy, listBy, roomFor, mendAnswer, mendTable, mendList};
 ghost use Rattle.mender.specs.declared.MendAnswer.the-variants.{Done, ListShort};
 
 // What the mender answers: done, with the number of changes; 4, the table is short; 5, a cell's number and how many of its fragments found no room; 13, the
@@ -277,7 +278,25 @@ fn list_all(
     }
 }
 
-// Whether the list has room for so many changes, and then writes: nothing lent is written before.
+// Stores the changes of every cell, and lists none of them: the list is room to work in, and holds a row's changes at a time.
+fn store_all(
+    table: &mut [u8],
+    list: &mut [u16],
+    words: &[u32],
+    counts: &[usize],
+    n: usize,
+    cells: usize,
+)
+    requires { ⌜ (cells ≤ 32) × (n ≤ 2048) × (n ≤ length (now words)) × (cells ≤ length (now counts)) × (cells * n ≤ length (now table)) ⌝ }
+    requires { ⌜ Counted cells n (now words) (now table) (now counts) × (4 * n ≤ length (now list)) ⌝ }
+    ensures { λ _. ⌜ now (table .exit) ≡ follow n (listedIn cells n (now (words .entry)) (now (table .entry))) (now (table .entry)) ⌝ }
+{
+    for j in 0..cells {
+        list_cell(table, list, words, n, j, counts[j], 0);
+    }
+}
+
+// Whether the list has room for so many changes, and then writes: nothing lent is written before. With `only` nothing is listed, and any number of changes has room.
 fn finish(
     table: &mut [u8],
     list: &mut [u16],
@@ -286,13 +305,18 @@ fn finish(
     n: usize,
     cells: usize,
     number: usize,
+    only: bool,
 ) -> MendAnswer
     requires { ⌜ (cells ≤ 32) × (n ≤ 2048) × (n ≤ length (now words)) × (cells ≤ length (now counts)) × (cells * n ≤ length (now table)) ⌝ }
-    requires { ⌜ Counted cells n (now words) (now table) (now counts) × (number ≡ allCount cells n (now words) (now table)) ⌝ }
-    ensures answer { λ r. ⌜ r ≡ ifRoom (now (list .entry)) number (ListShort number) (Done number) ⌝ }
-    ensures table { λ _. ⌜ now (table .exit) ≡ ifRoom (now (list .entry)) number (now (table .entry)) (follow n (listedIn cells n (now (words .entry)) (now (table .entry))) (now (table .entry))) ⌝ }
-    ensures list { λ _. ⌜ now (list .exit) ≡ ifRoom (now (list .entry)) number (now (list .entry)) (sets (now (list .entry)) 0 (listedIn cells n (now (words .entry)) (now (table .entry)))) ⌝ }
+    requires { ⌜ Counted cells n (now words) (now table) (now counts) × (number ≡ allCount cells n (now words) (now table)) × Workable only n (now list) ⌝ }
+    ensures answer { λ r. ⌜ r ≡ ifRoom (goesBy only cells n (now (list .entry))) number (ListShort number) (Done number) ⌝ }
+    ensures table { λ _. ⌜ now (table .exit) ≡ ifRoom (goesBy only cells n (now (list .entry))) number (now (table .entry)) (follow n (listedIn cells n (now (words .entry)) (now (table .entry))) (now (table .entry))) ⌝ }
+    ensures list { λ _. ⌜ (only ≡ false → now (list .exit) ≡ ifRoom (now (list .entry)) number (now (list .entry)) (sets (now (list .entry)) 0 (listedIn cells n (now (words .entry)) (now (table .entry))))) ⌝ }
 {
+    if only {
+        store_all(table, list, words, counts, n, cells);
+        return MendAnswer::Done(number);
+    }
     if list.len() / 4 < number {
         return MendAnswer::ListShort(number);
     }
@@ -308,27 +332,28 @@ fn mend_table(
     cells: usize,
     loads: &[u16; 32],
     clash: &[u32; 32],
+    only: bool,
 ) -> MendAnswer
-    requires { ⌜ (cells ≤ 32) × (n ≤ 2048) × (cells * n ≤ length (now table)) × TwoWay (now clash) ⌝ }
-    ensures answer { λ r. ⌜ r ≡ answerBy cells n (now (loads .entry)) (now (clash .entry)) (now (table .entry)) (now (list .entry)) ⌝ }
-    ensures table { λ _. ⌜ now (table .exit) ≡ tableBy cells n (now (loads .entry)) (now (clash .entry)) (now (table .entry)) (now (list .entry)) ⌝ }
-    ensures list { λ _. ⌜ now (list .exit) ≡ listBy cells n (now (loads .entry)) (now (clash .entry)) (now (table .entry)) (now (list .entry)) ⌝ }
+    requires { ⌜ (cells ≤ 32) × (n ≤ 2048) × (cells * n ≤ length (now table)) × TwoWay (now clash) × Workable only n (now list) ⌝ }
+    ensures answer { λ r. ⌜ r ≡ answerBy cells n (now (loads .entry)) (now (clash .entry)) (now (table .entry)) (goesBy only cells n (now (list .entry))) ⌝ }
+    ensures table { λ _. ⌜ now (table .exit) ≡ tableBy cells n (now (loads .entry)) (now (clash .entry)) (now (table .entry)) (goesBy only cells n (now (list .entry))) ⌝ }
+    ensures list { λ _. ⌜ (only ≡ false → now (list .exit) ≡ listBy cells n (now (loads .entry)) (now (clash .entry)) (now (table .entry)) (now (list .entry))) ⌝ }
 {
     let mut words = [0u32; 2048];
     let mut counts = [0usize; 32];
     let stood = stand_all(&mut words, &mut counts, table, n, cells, loads, clash);
     match stood {
         Stood::Short(cell, short) => MendAnswer::NoRoom(cell, short),
-        Stood::All(number) => finish(table, list, &words, &counts, n, cells, number),
+        Stood::All(number) => finish(table, list, &words, &counts, n, cells, number, only),
     }
 }
 
-// Mends the table for the site, and lists the changes, four numbers each: cell, position, was, is. A refusal leaves table and list as they were: the record's
-// faults, then a table that is too short, then a cell that finds no room, then a list that is too short.
-pub fn mend(site: Site, table: &mut [u8], changes: &mut [u16]) -> MendAnswer
-    ensures answer { λ r. ⌜ r ≡ mendAnswer site (now (table .entry)) (now (changes .entry)) ⌝ }
-    ensures table { λ _. ⌜ now (table .exit) ≡ mendTable site (now (table .entry)) (now (changes .entry)) ⌝ }
-    ensures changes { λ _. ⌜ now (changes .exit) ≡ mendList site (now (table .entry)) (now (changes .entry)) ⌝ }
+// Mends the table for the site. With `only` nothing is listed: the list is room to work in.
+fn mend_by(site: Site, table: &mut [u8], list: &mut [u16], only: bool) -> MendAnswer
+    requires { ⌜ (only ≡ true → 8192 ≤ length (now list)) ⌝ }
+    ensures answer { λ r. ⌜ r ≡ mendAnswer site (now (table .entry)) (pick only (roomFor site) (now (list .entry))) ⌝ }
+    ensures table { λ _. ⌜ now (table .exit) ≡ mendTable site (now (table .entry)) (pick only (roomFor site) (now (list .entry))) ⌝ }
+    ensures list { λ _. ⌜ (only ≡ false → now (list .exit) ≡ mendList site (now (table .entry)) (now (list .entry))) ⌝ }
 {
     let fault = site.fault_in();
     let Fault::Fine = fault else {
@@ -341,5 +366,24 @@ pub fn mend(site: Site, table: &mut [u8], changes: &mut [u16]) -> MendAnswer
     }
     let loads = site.loads;
     let clash = site.clash_rows();
-    mend_table(table, changes, n, cells, &loads, &clash)
+    mend_table(table, list, n, cells, &loads, &clash, only)
+}
+
+// Mends the table for the site, and lists the changes, four numbers each: cell, position, was, is. A refusal leaves table and list as they were: the record's
+// faults, then a table that is too short, then a cell that finds no room, then a list that is too short.
+pub fn mend(site: Site, table: &mut [u8], changes: &mut [u16]) -> MendAnswer
+    ensures answer { λ r. ⌜ r ≡ mendAnswer site (now (table .entry)) (now (changes .entry)) ⌝ }
+    ensures table { λ _. ⌜ now (table .exit) ≡ mendTable site (now (table .entry)) (now (changes .entry)) ⌝ }
+    ensures changes { λ _. ⌜ now (changes .exit) ≡ mendList site (now (table .entry)) (now (changes .entry)) ⌝ }
+{
+    mend_by(site, table, changes, false)
+}
+
+// Mends the table as `mend` does where the list has room for every change, and lists nothing.
+pub fn mend_only(site: Site, table: &mut [u8]) -> MendAnswer
+    ensures answer { λ r. ⌜ r ≡ mendAnswer site (now (table .entry)) (roomFor site) ⌝ }
+    ensures table { λ _. ⌜ now (table .exit) ≡ mendTable site (now (table .entry)) (roomFor site) ⌝ }
+{
+    let mut row = [0u16; 8192];
+    mend_by(site, table, &mut row, true)
 }

@@ -33,6 +33,7 @@ pub mod PlanfileOne
 pub mod TextOne
 pub mod SpeechOne
 pub mod RefusalsOne
+pub mod ChangewordsOne
 pub mod ListingOne
 pub mod LinesOne
 pub mod PutlinesOne

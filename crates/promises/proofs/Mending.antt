@@ -30,11 +30,14 @@ use Rattle.mending.specs.Changes.{changed, entry, changes, changeCount, follow}
 use Rattle.mending.proofs.Changes as list
 use Rattle.mending.proofs.Overlay.{overlay-length, overlay-reserved}
 use Rattle.mending.proofs.Mended as rule
-use Rattle.mender.specs.Mend.{mendAnswer, mendTable, mendList}
+use Rattle.mender.specs.Mend.{mendAnswer, mendTable, mendList, roomFor}
 use Rattle.mender.specs.Given.{mendGiven}
 use Rattle.mender.specs.declared.MendAnswer.the-variants.{Done, NoRoom, ListShort}
 use Rattle.mender.proofs.Given.{mend-apart, mend-proper}
 use Rattle.mender.proofs.Meaning as means
+use Rattle.mender.proofs.Room.{any-room}
+use Rattle.changewords.specs.Words.{changeWords, allWords}
+use Rattle.changewords.proofs.Words.{said-all}
 use Rattle.promises.specs.Numbers.{done, doneWith, refused}
 use Rattle.promises.specs.Demands.{LongEnough}
 use Rattle.promises.proofs.Numbers.{accepted-number, chain-number}
@@ -169,6 +172,10 @@ module _ (s : Site) (u l : List ℕ) where
     pub list-rises : (i k j q : ℕ) → k < positions s → q < positions s → list.place is was (positions s) i k < list.place is was (positions s) j q → Rising i j (k < q)
     list-rises = list.changes-rise is was (positions s)
 
+    -- "each change in words": the words of the old table and the new one, slot by slot, are those of the list
+    pub list-said : allWords u (mendTable s u l) (s .slots) (s .channels) (s .cells) ≡ changeWords (s .channels) (take (4 * n) (mendList s u l))
+    list-said = said-all u (mendTable s u l) (s .slots) (s .channels) (s .cells) ∙ sym (ap (changeWords (s .channels)) listed-are)
+
     -- ---- "Least harm": a reservation of a cell is dropped only where an earlier clashing cell stands or the load is met
 
     taken-same : (i k : ℕ) → i < s .cells → k < positions s → taken (netOf s) (reserved (positions s) (d .stands)) i k ≡ taken (netOf s) is i k
@@ -190,3 +197,10 @@ module _ (s : Site) (u l : List ℕ) where
           sum-eq (λ q. bit (was i q && reserved (positions s) (d .stands) i q)) (λ q. bit (was i q && is i q)) k (λ q m. ap (λ b. bit (was i q && b)) (now-is i q h (omega arith))),
         )))
         (rule.dropped-why (netOf s) u (d .stands) (d .mends) i k h w refl o (now-is i k h w ∙ c))
+
+-- mended without a list, the words are those of the list that `mend` writes where it is lent one with room for every change
+pub only-said : (s : Site) (u : List ℕ) (n : ℕ) → MendedBy s u (roomFor s) n → (l : List ℕ) → 4 * size s ≤ length l
+    → allWords u (mendTable s u (roomFor s)) (s .slots) (s .channels) (s .cells) ≡ changeWords (s .channels) (take (4 * n) (mendList s u l))
+only-said s u n e l room =
+    let same = any-room s u l room in
+    ap (λ t. allWords u t (s .slots) (s .channels) (s .cells)) (same .1) ∙ list-said s u l n (ap mendGiven (sym (same .0)) ∙ e)

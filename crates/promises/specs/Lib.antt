@@ -24,6 +24,7 @@ pub mod PlanfileSays
 pub mod TextSays
 pub mod SpeechSays
 pub mod RefusalsSays
+pub mod ChangewordsSays
 pub mod ListingSays
 pub mod LinesSays
 pub mod PutlinesSays

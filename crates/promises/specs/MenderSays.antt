@@ -2,7 +2,7 @@
 use mathlib.Core.Path.{_≡_}
 use mathlib.Core.List.{List}
 use Prim.Native.Nat.{ℕ}
-use Rattle.mender.specs.Mend.{mendAnswer, mendList, mendTable}
+use Rattle.mender.specs.Mend.{mendAnswer, mendList, mendTable, roomFor}
 use Rattle.mender.specs.declared.MendAnswer.{MendAnswer}
 use Rattle.mending.specs.Changes.{changes}
 use Rattle.site.specs.declared.Site.{Site}
@@ -12,3 +12,8 @@ pub record Mend (site : Site) (table : List ℕ) (changes : List ℕ) (r : MendA
   pub answer : r ≡ mendAnswer site table changes
   pub table-after : table′ ≡ mendTable site table changes
   pub changes-after : changes′ ≡ mendList site table changes
+
+-- mender::mend_only
+pub record MendOnly (site : Site) (table : List ℕ) (r : MendAnswer) (table′ : List ℕ) : Type 0 where
+  pub answer : r ≡ mendAnswer site table (roomFor site)
+  pub table-after : table′ ≡ mendTable site table (roomFor site)

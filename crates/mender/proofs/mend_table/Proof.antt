@@ -2,7 +2,7 @@
 use mathlib.Core.Path.{sym, _∙_}
 use native.Mathlib.Omega.{arith}
 use lib.ListN.{getD-replicate}
-use Rattle.mender.specs.Mend.{netBy}
+use Rattle.mender.specs.Mend.{netBy, goesBy}
 use Rattle.mender.proofs.Ends.{whole, lacking, no-room, no-table, no-list, end-counted, end-number, end-answer, end-table, end-list}
 use borrow.Author.Needs.{needs}
 use Rattle.mender.proofs.mend_table.Statement.{statement}
@@ -43,6 +43,7 @@ finish-requires c κs =
       (
         end-counted net (a .table .now) (a .list .now) (f .last .0) (f .last .1 .0) _ all says,
         end-number net (a .table .now) (a .list .now) (f .last .0) (f .last .1 .0) _ all says,
+        s .pre .4,
       ),
     )
 
@@ -54,7 +55,8 @@ returns c =
     let a = c .before .before .before .before .before .before .before .before .before .before .before .args in
     let net = netBy (a .cells) (a .n) (a .loads .now) (a .clash .now) in
     let lack = lacking net (a .table .now) _ _ (sym (c .before .stood .given .1) ∙ c .before .before .before .before .before .stand-all .ensures .0) in
-    (no-room net (a .table .now) (a .list .now) _ _ lack, (no-table net (a .table .now) (a .list .now) _ _ lack, no-list net (a .table .now) (a .list .now) _ _ lack))
+    let list = goesBy (a .only) (a .cells) (a .n) (a .list .now) in
+    (no-room net (a .table .now) list _ _ lack, (no-table net (a .table .now) list _ _ lack, λ _. no-list net (a .table .now) (a .list .now) _ _ lack))
 
 same-length-2 : tie.Need-same-length-2
 same-length-2 c = search needs
@@ -69,11 +71,12 @@ returns-2 c =
     let g = c .before .before .before .before .finish in
     let net = netBy (a .cells) (a .n) (a .loads .now) (a .clash .now) in
     let all = whole net (a .table .now) _ (sym (c .before .before .before .before .before .before .before .before .before .before .stood2 .given .1) ∙ f .ensures .0) in
-    let says = f .ensures .1 (all .table) (all .mends) in (
-      g .ensures .0 ∙ end-answer net (a .table .now) (a .list .now) (f .last .0) (f .last .1 .0) _ all says,
+    let says = f .ensures .1 (all .table) (all .mends) in
+    let list = goesBy (a .only) (a .cells) (a .n) (a .list .now) in (
+      g .ensures .0 ∙ end-answer net (a .table .now) list (f .last .0) (f .last .1 .0) _ all says,
       (
-        g .ensures .1 .0 ∙ end-table net (a .table .now) (a .list .now) (f .last .0) (f .last .1 .0) _ all says,
-        g .ensures .1 .1 ∙ end-list net (a .table .now) (a .list .now) (f .last .0) (f .last .1 .0) _ all says,
+        g .ensures .1 .0 ∙ end-table net (a .table .now) list (f .last .0) (f .last .1 .0) _ all says,
+        λ o. g .ensures .1 .1 o ∙ end-list net (a .table .now) (a .list .now) (f .last .0) (f .last .1 .0) _ all says,
       ),
     )
 

@@ -1,0 +1,96 @@
+-- The words of two tables are those of the mender's own list of changes: going through the cells in order, and in each cell through its slots, gives the changes in the order of
+-- the list. A position t * F + f is channel f of slot t.
+--     slot-more        a channel more, as the loop counts
+--     said-one         a change, and nothing where there is none
+--     said-slot, said-row, said-all      a slot, a row, a table
+-- Assumes nothing.
+use Prim.Native.Nat.{ℕ, zero, suc, _+_, _-_, _*_, _/_, _%_, _≤_}
+use mathlib.Core.Path.{_≡_, refl, sym, ap, ap₂, _∙_}
+use mathlib.Core.Bool.{Bool, true, false}
+use mathlib.Core.List.{List, [], _∷_, _++_, append-assoc, append-nil}
+use native.Mathlib.Numerals.{add-one}
+use native.Mathlib.Nat.{add-zero, add-suc, zero-mul, suc-mul}
+use native.Mathlib.Omega.{arith}
+use lib.Arith.{digits-div, digits-mod}
+use lib.ListN.{length, getD}
+use Rattle.laws.specs.Sum.{count}
+use Rattle.theory.specs.Net.{Reserved}
+use Rattle.theory.specs.Greedy.{sends, reserved}
+use Rattle.mending.specs.Changes.{change, changed, cellChanges, changes, changeCount}
+use Rattle.mending.proofs.Changes.{cell-length, changes-length}
+use Rattle.changewords.specs.Words.{addedLine, droppedLine, changeLine, changeWords, wordsOf, slotWords, rowWords, allWords}
+
+-- ---- a channel more, as the loop counts
+
+pub slot-more : (old new : List ℕ) (from cell slot f : ℕ)
+    → slotWords old new from cell slot (f + 1) ≡ slotWords old new from cell slot f ++ wordsOf (sends (getD new (from + f) 0)) (sends (getD old (from + f) 0)) cell slot (f + 1)
+unfolding slotWords
+slot-more old new from cell slot f = ap (slotWords old new from cell slot) (add-one f)
+
+-- ---- the words of a list
+
+module _ (F : ℕ) where
+  -- one list of changes after another
+  said-append : (m : ℕ) (a b : List ℕ) → length a ≡ 4 * m → changeWords F (a ++ b) ≡ changeWords F a ++ changeWords F b
+  unfolding changeWords
+  said-append m [] b e = refl
+  said-append m (c ∷ []) b e = absurd (omega arith)
+  said-append m (c ∷ k ∷ []) b e = absurd (omega arith)
+  said-append m (c ∷ k ∷ w ∷ []) b e = absurd (omega arith)
+  said-append m (c ∷ k ∷ w ∷ x ∷ a) b e =
+      ap (λ y. changeLine F c k x ++ y) (said-append (m - 1) a b (omega arith)) ∙ sym (append-assoc (changeLine F c k x) (changeWords F a) (changeWords F b))
+
+  -- a change, and nothing where there is none
+  pub said-one : (is was : Bool) (i k : ℕ) → changeWords F (change is was i k) ≡ wordsOf is was (i + 1) (k / F + 1) (k % F + 1)
+  unfolding changeWords
+  said-one true true i k = refl
+  said-one true false i k = append-nil (addedLine (i + 1) (k / F + 1) (k % F + 1))
+  said-one false true i k = append-nil (droppedLine (i + 1) (k / F + 1) (k % F + 1))
+  said-one false false i k = refl
+
+-- ---- two tables of rows of n
+
+module _ (old new : List ℕ) (F n : ℕ) where
+  abbrev is : Reserved
+  is = reserved n new
+
+  abbrev was : Reserved
+  was = reserved n old
+
+  -- the first f channels of slot t
+  said-slot : (i t f : ℕ) → f ≤ F
+      → changeWords F (cellChanges is was i (t * F + f)) ≡ changeWords F (cellChanges is was i (t * F)) ++ slotWords old new (i * n + t * F) (i + 1) (t + 1) f
+  unfolding cellChanges slotWords
+  said-slot i t zero h = ap (λ k. changeWords F (cellChanges is was i k)) (add-zero (t * F)) ∙ sym (append-nil (changeWords F (cellChanges is was i (t * F))))
+  said-slot i t (suc f) h =
+      let k = t * F + f in
+      let before = changeWords F (cellChanges is was i (t * F)) in
+      let here = wordsOf (is i k) (was i k) (i + 1) (t + 1) (f + 1) in
+      let place : i * n + k ≡ i * n + t * F + f = omega arith in
+      ap (λ x. changeWords F (cellChanges is was i x)) (add-suc (t * F) f)
+      ∙ said-append F (count (changed is was i) k) (cellChanges is was i k) (change (is i k) (was i k) i k) (cell-length is was i k)
+      ∙ ap₂ (λ (a b : List ℕ). a ++ b) (said-slot i t f (omega arith))
+      (said-one F (is i k) (was i k) i k ∙ ap₂ (λ (s c : ℕ). wordsOf (is i k) (was i k) (i + 1) (s + 1) (c + 1)) (digits-div t h) (digits-mod t h))
+      ∙ append-assoc before (slotWords old new (i * n + t * F) (i + 1) (t + 1) f) here
+      ∙ ap (λ (x : ℕ). before ++ (slotWords old new (i * n + t * F) (i + 1) (t + 1) f ++ wordsOf (sends (getD new x 0)) (sends (getD old x 0)) (i + 1) (t + 1) (f + 1))) place
+
+  -- the first t slots of a row
+  said-row : (i t : ℕ) → changeWords F (cellChanges is was i (t * F)) ≡ rowWords old new F (i * n) (i + 1) t
+  unfolding cellChanges changeWords rowWords
+  said-row i zero = ap (λ k. changeWords F (cellChanges is was i k)) (zero-mul F)
+  said-row i (suc t) =
+      ap (λ k. changeWords F (cellChanges is was i k)) (suc-mul t F)
+      ∙ said-slot i t F (omega arith)
+      ∙ ap (λ (a : List ℕ). a ++ slotWords old new (i * n + t * F) (i + 1) (t + 1) F) (said-row i t)
+
+-- every cell: the words that are written are those of the list of changes
+pub said-all : (old new : List ℕ) (T F c : ℕ)
+    → allWords old new T F c ≡ changeWords F (changes (reserved (T * F) new) (reserved (T * F) old) (T * F) c)
+unfolding allWords changes changeWords
+said-all old new T F zero = refl
+said-all old new T F (suc i) =
+    let n = T * F in
+    let is = reserved n new in
+    let was = reserved n old in
+    ap₂ (λ (a b : List ℕ). a ++ b) (said-all old new T F i) (sym (said-row old new F n i T))
+    ∙ sym (said-append F (changeCount is was n i) (changes is was n i) (cellChanges is was i n) (changes-length is was n i))

@@ -1,0 +1,2 @@
+-- The definitions of crate `changewords`, module by module.
+pub mod Words

@@ -1,0 +1,52 @@
+-- A list with room for every change: there are at most as many changes as bytes, so that no call is refused for such a list, and each gives the same.
+--     enough-room                one for a problem by its numbers
+--     never-short, any-room      one for a site
+-- Assumes nothing.
+use mathlib.Core.Path.{_≡_, refl, ap}
+use mathlib.Core.Bool.{false}
+use mathlib.Core.List.{List}
+use Prim.Native.Nat.{ℕ, _*_, _≤_}
+use native.Mathlib.Omega.{arith}
+use borrow.Author.Tests.{le-ltb}
+use lib.Dec.{ltb}
+use lib.ListN.{length, replicate, length-replicate}
+use Rattle.theory.specs.Greedy.{reserved, Outcome, planned, noRoom}
+use Rattle.site.specs.Record.{positions, size, faultOf}
+use Rattle.site.specs.Reach.{netOf}
+use Rattle.site.specs.declared.Site.{Site}
+use Rattle.mending.specs.Mend.{mend}
+use Rattle.mending.proofs.Changes.{few-changes}
+use Rattle.mender.specs.Mend.{numberOf, answerOf, tableAfter, called, mendAnswer, mendTable, roomFor}
+use Rattle.mender.specs.declared.MendAnswer.{MendAnswer}
+use Rattle.mender.specs.declared.MendAnswer.the-variants.{TableShort, ListShort, Refused}
+use Rattle.mender.proofs.Meaning.{list-means}
+
+pub enough-room : (cells n number : ℕ) → number ≤ cells * n → ltb (length (replicate {A = ℕ} (4 * (cells * n)) 0)) (4 * number) ≡ false
+enough-room cells n number h =
+    le-ltb (length (replicate {A = ℕ} (4 * (cells * n)) 0)) (4 * number) (omega (arith, length-replicate {A = ℕ} (4 * (cells * n)) 0))
+
+module _ (s : Site) (u : List ℕ) where
+  -- four numbers for each byte
+  room-long : length (roomFor s) ≡ 4 * size s
+  room-long = length-replicate _ 0
+
+  room-for : (t : List ℕ) → 4 * numberOf (netOf s) u t ≤ length (roomFor s)
+  room-for t = omega (arith, room-long, few-changes (reserved (positions s) t) (reserved (positions s) u) (positions s) (s .cells))
+
+  -- no call is refused for such a list
+  pub never-short : (n : ℕ) → mendAnswer s u (roomFor s) ≡ ListShort n → ⊥
+  never-short n e = let w = list-means s u (roomFor s) n e .2 in omega (arith, room-for (w .0), w .1 .1, w .1 .2)
+
+  -- and any list with as much room gives the same
+  any-by : (l : List ℕ) → 4 * size s ≤ length l → (o : Outcome)
+      → (answerOf (netOf s) u (roomFor s) o ≡ answerOf (netOf s) u l o) × (tableAfter (netOf s) u (roomFor s) o ≡ tableAfter (netOf s) u l o)
+  any-by l h (planned t) =
+      let number = numberOf (netOf s) u t in
+      rw (le-ltb (length (roomFor s)) (4 * number) (room-for t), le-ltb (length l) (4 * number) (omega (arith, room-for t, room-long))) (refl, refl)
+  any-by l h (noRoom c m) = (refl, refl)
+
+  pub any-room : (l : List ℕ) → 4 * size s ≤ length l → (mendAnswer s u (roomFor s) ≡ mendAnswer s u l) × (mendTable s u (roomFor s) ≡ mendTable s u l)
+  unfolding mendAnswer mendTable
+  any-room l h =
+      let same = any-by l h (mend (netOf s) u) in
+      (ap (λ (a : MendAnswer). called s u (Refused (faultOf s)) TableShort a) (same .0), ap (λ (t : List ℕ). called s u u u t) (same .1))
