@@ -147,8 +147,8 @@ fn chained(clash: &[u32; 32], cells: usize) -> bool
     cells <= first_break(clash, 4294967295, cells)
 }
 
-// The answer for a list of so many flows, of which the first 16 are here.
-fn decide(site: Site, l: FlowList, count: usize) -> AdmitAnswer
+// The answer for a list of so many flows, of which the first 16 are here: for callers that have the flows by value.
+pub fn decide(site: Site, l: FlowList, count: usize) -> AdmitAnswer
     ensures { λ r. ⌜ r ≡ answerIn site (λ k. getD (l .list) k none) count ⌝ }
 {
     let f = site.fault_in();

@@ -21,7 +21,7 @@ pub struct FlowList {
 }
 
 // No flows yet.
-fn empty() -> FlowList
+pub fn empty() -> FlowList
     ensures { λ r. ⌜ r ≡ noFlows ⌝ }
 {
     let none = Flow {
@@ -36,7 +36,7 @@ fn empty() -> FlowList
 }
 
 // One flow more.
-fn push(l: FlowList, f: Flow) -> FlowList
+pub fn push(l: FlowList, f: Flow) -> FlowList
     requires { ⌜ l .count < 16 ⌝ }
     ensures { λ r. ⌜ r ≡ withFlow l f ⌝ }
 {

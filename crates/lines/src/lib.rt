@@ -19,7 +19,7 @@ pub struct Line {
 }
 
 // The byte b.
-fn eat(s: &[u8], at: usize, b: u8) -> usize
+pub fn eat(s: &[u8], at: usize, b: u8) -> usize
     ensures { λ r. ⌜ r ≡ eaten (now (s .entry)) at (b ∷ []) ⌝ }
 {
     if s.len() <= at {
@@ -95,7 +95,7 @@ pub fn read_number(s: &[u8], at: usize, most: usize) -> Number
 }
 
 // A text as it is.
-fn eat_text(s: &[u8], at: usize, text: &[u8]) -> usize
+pub fn eat_text(s: &[u8], at: usize, text: &[u8]) -> usize
     ensures { λ r. ⌜ r ≡ eaten (now (s .entry)) at (now (text .entry)) ⌝ }
 {
     let mut p = at;

@@ -2,10 +2,16 @@
 -- Assumes nothing.
 use mathlib.Core.Path.{_≡_, sym, _∙_}
 use mathlib.Core.List.{List}
+use Prim.Native.Nat.{ℕ}
 use Rattle.admission.specs.declared.AdmitAnswer.{AdmitAnswer}
 use Rattle.flowlist.specs.declared.Flow.{Flow}
-use Rattle.promises.specs.AdmissionSays.{Admit}
+use Rattle.flowlist.specs.declared.FlowList.{FlowList}
+use Rattle.promises.specs.AdmissionSays.{Admit, Decide}
 use Rattle.site.specs.declared.Site.{Site}
+
+-- admission::decide
+pub decide-one : (site : Site) (l : FlowList) (count : ℕ) (r q : AdmitAnswer) → Decide site l count r → Decide site l count q → (r ≡ q)
+decide-one site l count r q says also = says .answer ∙ sym (also .answer)
 
 -- admission::admit
 pub admit-one : (site : Site) (flows : List Flow) (r q : AdmitAnswer) → Admit site flows r → Admit site flows q → (r ≡ q)

@@ -4,7 +4,15 @@ use mathlib.Core.Path.{_≡_, sym, _∙_}
 use mathlib.Core.List.{List}
 use Rattle.flowlist.specs.declared.Flow.{Flow}
 use Rattle.flowlist.specs.declared.FlowList.{FlowList}
-use Rattle.promises.specs.FlowlistSays.{FlowlistGather}
+use Rattle.promises.specs.FlowlistSays.{FlowlistEmpty, FlowlistGather, FlowlistPush}
+
+-- flowlist::empty
+pub flowlistEmpty-one : (r q : FlowList) → FlowlistEmpty r → FlowlistEmpty q → (r ≡ q)
+flowlistEmpty-one r q says also = says .answer ∙ sym (also .answer)
+
+-- flowlist::push
+pub flowlistPush-one : (l : FlowList) (f : Flow) (r q : FlowList) → FlowlistPush l f r → FlowlistPush l f q → (r ≡ q)
+flowlistPush-one l f r q says also = says .answer ∙ sym (also .answer)
 
 -- flowlist::gather
 pub flowlistGather-one : (flows : List Flow) (r q : FlowList) → FlowlistGather flows r → FlowlistGather flows q → (r ≡ q)

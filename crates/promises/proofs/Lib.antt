@@ -38,7 +38,9 @@ pub mod ListingOne
 pub mod LinesOne
 pub mod PutlinesOne
 pub mod SheetOne
+pub mod FlowsheetOne
 pub mod VerdictsOne
+pub mod FlowwordsOne
 pub mod WhyOne
 pub mod ToldOne
 pub mod CapiOne

@@ -6,11 +6,19 @@ use Prim.Native.Nat.{ℕ}
 use Rattle.lines.specs.declared.Head.{Head}
 use Rattle.lines.specs.declared.Line.{Line}
 use Rattle.lines.specs.declared.Number.{Number}
-use Rattle.promises.specs.LinesSays.{LinesReadHead, LinesReadLine, LinesReadNumber}
+use Rattle.promises.specs.LinesSays.{LinesEat, LinesEatText, LinesReadHead, LinesReadLine, LinesReadNumber}
+
+-- lines::eat
+pub linesEat-one : (s : List ℕ) (at : ℕ) (b : ℕ) (r q : ℕ) → LinesEat s at b r → LinesEat s at b q → (r ≡ q)
+linesEat-one s at b r q says also = says .answer ∙ sym (also .answer)
 
 -- lines::read_number
 pub linesReadNumber-one : (s : List ℕ) (at : ℕ) (most : ℕ) (r q : Number) → LinesReadNumber s at most r → LinesReadNumber s at most q → (r ≡ q)
 linesReadNumber-one s at most r q says also = says .answer ∙ sym (also .answer)
+
+-- lines::eat_text
+pub linesEatText-one : (s : List ℕ) (at : ℕ) (text : List ℕ) (r q : ℕ) → LinesEatText s at text r → LinesEatText s at text q → (r ≡ q)
+linesEatText-one s at text r q says also = says .answer ∙ sym (also .answer)
 
 -- lines::read_line
 pub linesReadLine-one : (s : List ℕ) (at : ℕ) (n : ℕ) (k : ℕ) (r q : Line) → LinesReadLine s at n k r → LinesReadLine s at n k q → (r ≡ q)

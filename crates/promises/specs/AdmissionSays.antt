@@ -1,10 +1,18 @@
 -- The equalities that the contracts of crate `admission` state: r is the answer, and x′ what a lent x holds afterwards. Made by tools/surface from the source.
 use mathlib.Core.Path.{_≡_}
 use mathlib.Core.List.{List}
-use Rattle.admission.specs.Admit.{admitAnswer}
+use Prim.Native.Nat.{ℕ}
+use Rattle.admission.specs.Admit.{admitAnswer, answerIn}
 use Rattle.admission.specs.declared.AdmitAnswer.{AdmitAnswer}
+use Rattle.flowlist.specs.List.{none}
 use Rattle.flowlist.specs.declared.Flow.{Flow}
+use Rattle.flowlist.specs.declared.FlowList.{FlowList}
 use Rattle.site.specs.declared.Site.{Site}
+use lib.ListN.{getD}
+
+-- admission::decide
+pub record Decide (site : Site) (l : FlowList) (count : ℕ) (r : AdmitAnswer) : Type 0 where
+  pub answer : r ≡ answerIn site (λ k. getD (l .list) k none) count
 
 -- admission::admit
 pub record Admit (site : Site) (flows : List Flow) (r : AdmitAnswer) : Type 0 where

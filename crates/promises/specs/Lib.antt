@@ -29,7 +29,9 @@ pub mod ListingSays
 pub mod LinesSays
 pub mod PutlinesSays
 pub mod SheetSays
+pub mod FlowsheetSays
 pub mod VerdictsSays
+pub mod FlowwordsSays
 pub mod WhySays
 pub mod ToldSays
 pub mod CapiSays

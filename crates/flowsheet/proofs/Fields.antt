@@ -1,0 +1,271 @@
+-- One line of a flow, read field by field: after each field the reader stands where the text of the fields so far ends, if that text is there and each number so far is small enough, and
+-- nowhere otherwise. So at the line's end it stands after the line that its content gives, or nowhere. Assumes nothing.
+use Prim.Native.Nat.{ℕ, _+_, _≤_, _<_}
+use mathlib.Core.Path.{_≡_, refl, sym, ap, ap₂, _∙_}
+use mathlib.Core.Bool.{Bool, true, false, _&&_}
+use mathlib.Core.List.{List, [], _∷_, _++_, append-assoc}
+use native.Mathlib.Omega.{arith}
+use native.Mathlib.Nat.{add-zero}
+use lib.ListN.{length, drop, length-append}
+use lib.Seq.{drop-drop}
+use lib.Dec.{leb}
+use borrow.Author.Tests.{leb-true}
+use Rattle.laws.specs.Choice.{pick}
+use Rattle.text.specs.Decimal.{decimal}
+use Rattle.lines.specs.Match.{starts, nowhere, eaten}
+use Rattle.lines.specs.Format.{column}
+use Rattle.lines.specs.Content.{scanned, numberRead}
+use Rattle.lines.specs.declared.Number.{Number}
+use Rattle.lines.proofs.Match.{eaten-append, lost}
+use Rattle.lines.proofs.Steps.{eaten-lost, eaten-there, eaten-not}
+use Rattle.flowlist.specs.declared.Flow.{Flow}
+use Rattle.flowsheet.specs.Format.{flowLine}
+use Rattle.flowsheet.specs.Read.{after, flowIn, flowFits, flowOk, fieldRead, noFlow, flowRead}
+
+-- the reader part way through the line at `at`: whether the numbers so far fit, the text so far, what is left, and where the reader is
+record Way (s : List ℕ) (at : ℕ) (t : Bool) (w rest : List ℕ) (p : ℕ) : Type 0 where
+  pub place : p ≡ pick t (eaten s at w) nowhere
+  pub left : rest ≡ drop (length w) (drop at s)
+
+module _ (s : List ℕ) (short : length s < nowhere) where
+  -- a field is its number and the byte after it, eaten in one
+  field-next : (p b : ℕ) → fieldRead s p b .next ≡ pick (leb (scanned 0 (drop p s)) 65535) (eaten s p (decimal (scanned 0 (drop p s)) ++ (b ∷ []))) nowhere
+  unfolding fieldRead numberRead
+  field-next p b = go (leb (scanned 0 (drop p s)) 65535)
+    where
+      go : (t : Bool) → eaten s (pick t (eaten s p (decimal (scanned 0 (drop p s)))) nowhere) (b ∷ []) ≡ pick t (eaten s p (decimal (scanned 0 (drop p s)) ++ (b ∷ []))) nowhere
+      go true = eaten-append s p (decimal (scanned 0 (drop p s))) (b ∷ []) (omega arith)
+      go false = lost s (b ∷ []) (omega arith)
+
+  field-value : (p b : ℕ) → fieldRead s p b .value ≡ scanned 0 (drop p s)
+  unfolding fieldRead numberRead
+  field-value p b = refl
+
+  lost-at : (p : ℕ) (w : List ℕ) → p ≡ nowhere → eaten s p w ≡ nowhere
+  lost-at p w e = ap (λ (i : ℕ). eaten s i w) e ∙ lost s w (omega arith)
+
+  field-lost : (p b : ℕ) → p ≡ nowhere → fieldRead s p b .next ≡ nowhere
+  field-lost p b e = field-next p b ∙ go (leb (scanned 0 (drop p s)) 65535)
+    where
+      go : (t : Bool) → pick t (eaten s p (decimal (scanned 0 (drop p s)) ++ (b ∷ []))) nowhere ≡ nowhere
+      go true = lost-at p (decimal (scanned 0 (drop p s)) ++ (b ∷ [])) e
+      go false = refl
+
+  module _ (at : ℕ) where
+    begun : Way s at true [] (drop at s) at
+    unfolding eaten starts
+    begun = record { place = sym (add-zero at); left = refl }
+
+    module _ (t : Bool) (w rest : List ℕ) (p : ℕ) (way : Way s at t w rest p) where
+      -- where the reader is somewhere, what is left stands there
+      here : (p ≡ nowhere → ⊥) → (t ≡ true) × (p ≡ eaten s at w) × (drop p s ≡ rest)
+      here on = go t (way .place)
+        where
+          go : (t : Bool) → p ≡ pick t (eaten s at w) nowhere → (t ≡ true) × (p ≡ eaten s at w) × (drop p s ≡ rest)
+          go true e =
+              let h = eaten-there s at w (λ z. on (e ∙ z)) in
+              (refl, e, ap (λ (i : ℕ). drop i s) (e ∙ h .1) ∙ sym (drop-drop (length w) at s) ∙ sym (way .left))
+          go false e = absurd (on e)
+
+      at-end : starts w (drop at s) ≡ true → eaten s at w ≡ at + length w
+      unfolding eaten
+      at-end q = rw q
+
+      not-there : starts w (drop at s) ≡ false → eaten s at w ≡ nowhere
+      unfolding eaten
+      not-there q = rw q
+
+      module _ (b : ℕ) (n : Number) (read : n ≡ fieldRead s p b) where
+        abbrev v : ℕ
+        v = scanned 0 rest
+
+        abbrev text : List ℕ
+        text = decimal (scanned 0 rest) ++ (b ∷ [])
+
+        -- nowhere, where the text so far is not there
+        none : (y : Bool) → eaten s at w ≡ nowhere → nowhere ≡ pick y (eaten s at (w ++ text)) nowhere
+        none true e = sym (eaten-lost s at w text (omega arith) e)
+        none false e = refl
+
+        come : p ≡ eaten s at w → (u : Bool) → starts w (drop at s) ≡ u → n .next ≡ pick (leb v 65535) (eaten s at (w ++ text)) nowhere
+        come e true q =
+            let a : p ≡ at + length w = e ∙ at-end q in
+            let d : drop p s ≡ rest = ap (λ (i : ℕ). drop i s) a ∙ sym (drop-drop (length w) at s) ∙ sym (way .left) in
+            ap (λ (x : Number). x .next) read ∙ field-next p b
+            ∙ ap (λ (r : List ℕ). pick (leb (scanned 0 r) 65535) (eaten s p (decimal (scanned 0 r) ++ (b ∷ []))) nowhere) d
+            ∙ ap (λ (i : ℕ). pick (leb v 65535) i nowhere) (ap (λ (i : ℕ). eaten s i text) e ∙ eaten-append s at w text (omega arith))
+        come e false q = ap (λ (x : Number). x .next) read ∙ field-lost p b (e ∙ not-there q) ∙ none (leb v 65535) (not-there q)
+
+        place-next : n .next ≡ pick (t && leb v 65535) (eaten s at (w ++ text)) nowhere
+        place-next = go t (way .place)
+          where
+            go : (t : Bool) → p ≡ pick t (eaten s at w) nowhere → n .next ≡ pick (t && leb v 65535) (eaten s at (w ++ text)) nowhere
+            go true e = come e (starts w (drop at s)) refl
+            go false e = ap (λ (x : Number). x .next) read ∙ field-lost p b e
+
+        -- one field more
+        one : Way s at (t && leb v 65535) (w ++ text) (after rest) (n .next)
+        unfolding after
+        one =
+            record {
+              place = place-next;
+              left =
+                  ap (drop (length (decimal v) + 1)) (way .left)
+                  ∙ drop-drop (length (decimal v) + 1) (length w) (drop at s)
+                  ∙ ap (λ (i : ℕ). drop i (drop at s)) (sym (length-append w text ∙ ap (λ (i : ℕ). length w + i) (length-append (decimal v) (b ∷ []))));
+            }
+
+        -- and its number, where it is there
+        met : (n .next ≡ nowhere → ⊥) → (n .value ≡ v) × (n .value ≤ 65535) × (p ≡ nowhere → ⊥)
+        met on =
+            let from : p ≡ nowhere → ⊥ = λ e. on (ap (λ (x : Number). x .next) read ∙ field-lost p b e) in
+            let is : n .value ≡ v = ap (λ (x : Number). x .value) read ∙ field-value p b ∙ ap (scanned 0) (here from .2) in
+            (is, go (t && leb v 65535) refl is, from)
+          where
+            small : (y z : Bool) → (y && z) ≡ true → z ≡ true
+            small true z e = e
+            small false z e = cc
+
+            go : (y : Bool) → (t && leb v 65535) ≡ y → n .value ≡ v → n .value ≤ 65535
+            go true e is = omega (arith, is, leb-true v 65535 (small t (leb v 65535) e))
+            go false e is = absurd (on (place-next ∙ ap (λ (y : Bool). pick y (eaten s at (w ++ text)) nowhere) e))
+
+-- ---- the five fields and the line feed
+
+all-five : (a b c d e : Bool) → ((((a && b) && c) && d) && e) ≡ (a && (b && (c && (d && e))))
+all-five true true true true e = refl
+all-five true true true false e = refl
+all-five true true false d e = refl
+all-five true false c d e = refl
+all-five false b c d e = refl
+
+module _ (s : List ℕ) (at : ℕ) (short : length s < nowhere) (n₁ n₂ n₃ n₄ n₅ : Number) (end : ℕ)
+    (e₁ : n₁ ≡ fieldRead s at 44) (e₂ : n₂ ≡ fieldRead s (n₁ .next) 44) (e₃ : n₃ ≡ fieldRead s (n₂ .next) 44) (e₄ : n₄ ≡ fieldRead s (n₃ .next) 44) (e₅ : n₅ ≡ fieldRead s (n₄ .next) 13)
+    (e₆ : end ≡ eaten s (n₅ .next) (10 ∷ [])) where
+  abbrev f : Flow
+  f = flowIn (drop at s)
+
+  abbrev r₁ : List ℕ
+  r₁ = after (drop at s)
+
+  abbrev r₂ : List ℕ
+  r₂ = after r₁
+
+  abbrev r₃ : List ℕ
+  r₃ = after r₂
+
+  abbrev r₄ : List ℕ
+  r₄ = after r₃
+
+  abbrev w₁ : List ℕ
+  w₁ = [] ++ (decimal (scanned 0 (drop at s)) ++ (44 ∷ []))
+
+  abbrev w₂ : List ℕ
+  w₂ = w₁ ++ (decimal (scanned 0 r₁) ++ (44 ∷ []))
+
+  abbrev w₃ : List ℕ
+  w₃ = w₂ ++ (decimal (scanned 0 r₂) ++ (44 ∷ []))
+
+  abbrev w₄ : List ℕ
+  w₄ = w₃ ++ (decimal (scanned 0 r₃) ++ (44 ∷ []))
+
+  abbrev w₅ : List ℕ
+  w₅ = w₄ ++ (decimal (scanned 0 r₄) ++ (13 ∷ []))
+
+  abbrev t₁ : Bool
+  t₁ = true && leb (scanned 0 (drop at s)) 65535
+
+  abbrev t₂ : Bool
+  t₂ = t₁ && leb (scanned 0 r₁) 65535
+
+  abbrev t₃ : Bool
+  t₃ = t₂ && leb (scanned 0 r₂) 65535
+
+  abbrev t₄ : Bool
+  t₄ = t₃ && leb (scanned 0 r₃) 65535
+
+  abbrev t₅ : Bool
+  t₅ = t₄ && leb (scanned 0 r₄) 65535
+
+  way₁ : Way s at t₁ w₁ r₁ (n₁ .next)
+  way₁ = one s short at true [] (drop at s) at (begun s short at) 44 n₁ e₁
+
+  way₂ : Way s at t₂ w₂ r₂ (n₂ .next)
+  way₂ = one s short at t₁ w₁ r₁ (n₁ .next) way₁ 44 n₂ e₂
+
+  way₃ : Way s at t₃ w₃ r₃ (n₃ .next)
+  way₃ = one s short at t₂ w₂ r₂ (n₂ .next) way₂ 44 n₃ e₃
+
+  way₄ : Way s at t₄ w₄ r₄ (n₄ .next)
+  way₄ = one s short at t₃ w₃ r₃ (n₃ .next) way₃ 44 n₄ e₄
+
+  way₅ : Way s at t₅ w₅ (after r₄) (n₅ .next)
+  way₅ = one s short at t₄ w₄ r₄ (n₄ .next) way₄ 13 n₅ e₅
+
+  -- the text of the fields and the line feed is the line
+  line-is : w₅ ++ (10 ∷ []) ≡ flowLine f
+  unfolding flowLine column flowIn
+  line-is = simp append-assoc
+
+  line-some : 0 < length (flowLine f)
+  unfolding flowLine column
+  line-some = simp length-append (omega arith)
+
+  fits-is : t₅ ≡ flowFits f
+  unfolding flowFits flowIn
+  fits-is = all-five (leb (scanned 0 (drop at s)) 65535) (leb (scanned 0 r₁) 65535) (leb (scanned 0 r₂) 65535) (leb (scanned 0 r₃) 65535) (leb (scanned 0 r₄) 65535)
+
+  last : (t : Bool) → n₅ .next ≡ pick t (eaten s at w₅) nowhere → end ≡ pick t (eaten s at (w₅ ++ (10 ∷ []))) nowhere
+  last true e = e₆ ∙ ap (λ (i : ℕ). eaten s i (10 ∷ [])) e ∙ eaten-append s at w₅ (10 ∷ []) (omega arith)
+  last false e = e₆ ∙ lost-at s short (n₅ .next) (10 ∷ []) e
+
+  end-is : end ≡ pick (flowFits f) (eaten s at (flowLine f)) nowhere
+  end-is = last t₅ (way₅ .place) ∙ ap₂ (λ (t : Bool) (w : List ℕ). pick t (eaten s at w) nowhere) fits-is line-is
+
+  -- the line is not there
+  pub no-line : end ≡ nowhere → noFlow ≡ flowRead s at
+  unfolding flowRead flowOk
+  no-line e = go (flowFits f) refl (sym end-is ∙ e)
+    where
+      go : (t : Bool) → flowFits f ≡ t → pick t (eaten s at (flowLine f)) nowhere ≡ nowhere → noFlow ≡ flowRead s at
+      go true p q = rw (p, eaten-not s at (flowLine f) short line-some q)
+      go false p q = rw p
+
+  module _ (there : end ≡ nowhere → ⊥) where
+    still₅ : n₅ .next ≡ nowhere → ⊥
+    still₅ e = there (e₆ ∙ lost-at s short (n₅ .next) (10 ∷ []) e)
+
+    met₅ : (n₅ .value ≡ scanned 0 r₄) × (n₅ .value ≤ 65535) × (n₄ .next ≡ nowhere → ⊥)
+    met₅ = met s short at t₄ w₄ r₄ (n₄ .next) way₄ 13 n₅ e₅ still₅
+
+    met₄ : (n₄ .value ≡ scanned 0 r₃) × (n₄ .value ≤ 65535) × (n₃ .next ≡ nowhere → ⊥)
+    met₄ = met s short at t₃ w₃ r₃ (n₃ .next) way₃ 44 n₄ e₄ (met₅ .2)
+
+    met₃ : (n₃ .value ≡ scanned 0 r₂) × (n₃ .value ≤ 65535) × (n₂ .next ≡ nowhere → ⊥)
+    met₃ = met s short at t₂ w₂ r₂ (n₂ .next) way₂ 44 n₃ e₃ (met₄ .2)
+
+    met₂ : (n₂ .value ≡ scanned 0 r₁) × (n₂ .value ≤ 65535) × (n₁ .next ≡ nowhere → ⊥)
+    met₂ = met s short at t₁ w₁ r₁ (n₁ .next) way₁ 44 n₂ e₂ (met₃ .2)
+
+    met₁ : (n₁ .value ≡ scanned 0 (drop at s)) × (n₁ .value ≤ 65535) × (at ≡ nowhere → ⊥)
+    met₁ = met s short at true [] (drop at s) at (begun s short at) 44 n₁ e₁ (met₂ .2)
+
+    -- each number fits, and they are what the line says
+    pub fit : (n₁ .value ≤ 65535) × (n₂ .value ≤ 65535) × (n₃ .value ≤ 65535) × (n₄ .value ≤ 65535) × (n₅ .value ≤ 65535)
+    fit = (met₁ .1, met₂ .1, met₃ .1, met₄ .1, met₅ .1)
+
+    said : _≡_ {A = Flow} (record { cell = n₁ .value; burst = n₂ .value; period = n₃ .value; repeats = n₄ .value; value = n₅ .value }) f
+    unfolding flowIn
+    said = rw (met₁ .0, met₂ .0, met₃ .0, met₄ .0, met₅ .0)
+
+    pub line-read :
+        record { flow = record { cell = n₁ .value; burst = n₂ .value; period = n₃ .value; repeats = n₄ .value; value = n₅ .value }; next = end } ≡ flowRead s at
+    unfolding flowRead flowOk
+    line-read = go (flowFits f) refl end-is
+      where
+        go : (t : Bool) → flowFits f ≡ t → end ≡ pick t (eaten s at (flowLine f)) nowhere →
+            record { flow = record { cell = n₁ .value; burst = n₂ .value; period = n₃ .value; repeats = n₄ .value; value = n₅ .value }; next = end } ≡ flowRead s at
+        go true p q =
+            let h = eaten-there s at (flowLine f) (λ z. there (q ∙ z)) in
+            rw (p, h .0, said, q ∙ h .1)
+        go false p q = absurd (there q)

@@ -1,0 +1,5 @@
+-- The laws of crate `flowsheet`, module by module.
+pub mod Fields
+pub mod Reading
+pub mod Trip
+pub mod Example

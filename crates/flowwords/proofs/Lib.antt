@@ -1,0 +1,3 @@
+-- The laws of crate `flowwords`, module by module.
+pub mod Flows
+pub mod Example

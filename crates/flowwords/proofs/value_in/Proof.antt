@@ -1,0 +1,21 @@
+-- `flowwords::value_in` meets its contract: the value, or 0. Assumes nothing.
+use mathlib.Core.Path.{sym, _∙_}
+use native.Mathlib.Omega.{arith}
+use borrow.Author.Needs.{needs}
+use Rattle.flowwords.proofs.value_in.Statement.{statement}
+use Rattle.flowwords.proofs.value_in.Tie as tie
+
+is-taken-requires : tie.Need-is-taken-requires
+is-taken-requires c κs = search needs
+
+cast-result : tie.Need-cast-result
+cast-result c = search needs
+
+returns : tie.Need-returns
+returns c = (rw (sym (c .before .before .is-taken .ensures) ∙ c .before .if1 .taken), omega arith)
+
+returns-2 : tie.Need-returns-2
+returns-2 c = (rw (sym (c .before .is-taken .ensures) ∙ c .if1 .left), omega arith)
+
+pub value-in-spec : {M : Type 1} → statement M
+value-in-spec = tie.close (tie.spec is-taken-requires cast-result returns returns-2)

@@ -1,0 +1,70 @@
+-- `flowwords::worth_of` meets its contract: the sum of the values passed. Assumes nothing.
+use Prim.Native.Nat.{ℕ, _+_, _*_, _-_, _≤_}
+use mathlib.Core.Path.{_≡_, refl, ap₂}
+use native.Mathlib.Omega.{arith}
+use native.Mathlib.Numerals.{add-one}
+use lib.ListN.{getD}
+use Rattle.laws.specs.Sum.{sum}
+use Rattle.flowlist.specs.List.{none}
+use Rattle.bestset.specs.Best.{total}
+use borrow.Author.Needs.{needs}
+use Rattle.flowwords.proofs.worth_of.Statement.{statement}
+use Rattle.flowwords.proofs.worth_of.Tie as tie
+
+abbrev Inv-loop : tie.InvT-loop
+Inv-loop set count list w₀ k₀ w k = (k ≤ count) × (w ≤ 65535 * k) × (w ≡ total (λ i. getD list i none .value) k set)
+
+abbrev μ-loop : tie.MeasureT-loop
+μ-loop set count list w₀ k₀ w k = count - k
+
+loop-holds : tie.Need-loop-holds Inv-loop μ-loop
+unfolding sum
+loop-holds c = (omega arith, omega arith, refl)
+
+mul-value-in : tie.Need-mul-value-in Inv-loop μ-loop
+mul-value-in c = search needs
+
+array-copy-out-value-in : tie.Need-array-copy-out-value-in Inv-loop μ-loop
+array-copy-out-value-in c = search needs
+
+value-in-requires : tie.Need-value-in-requires Inv-loop μ-loop
+value-in-requires c κs = search needs
+
+add-w : tie.Need-add-w Inv-loop μ-loop
+add-w c = search needs
+
+add-k : tie.Need-add-k Inv-loop μ-loop
+add-k c = search needs
+
+loop-less : tie.Need-loop-less Inv-loop μ-loop
+loop-less c = search needs
+
+loop-again : tie.Need-loop-again Inv-loop μ-loop
+unfolding sum
+loop-again c =
+    let l = c .before .before .before in
+    let e = c .value-in .ensures in
+    (omega arith, omega (arith, e .1), rw (add-one (l .loop .k)) (ap₂ (λ (m n : ℕ). m + n) (l .loop .inv .2) (e .0)))
+
+returns : tie.Need-returns Inv-loop μ-loop
+returns c =
+    let l = c .before in
+    let s = l .before .before in
+    let e : l .loop .k ≡ s .args .count = omega arith in
+    rw e at (l .loop .inv .2)
+
+pub worth-of-spec : {M : Type 1} → statement M
+worth-of-spec =
+    tie.close
+    (tie.spec
+    Inv-loop
+    μ-loop
+    loop-holds
+    mul-value-in
+    array-copy-out-value-in
+    value-in-requires
+    add-w
+    add-k
+    loop-less
+    loop-again
+    returns)

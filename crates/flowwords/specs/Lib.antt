@@ -1,0 +1,2 @@
+-- The definitions of crate `flowwords`, module by module.
+pub mod Words

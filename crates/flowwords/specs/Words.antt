@@ -1,0 +1,50 @@
+-- The words of `duggfrask admit`: for each flow its cell, its share and its value, and whether it is taken; what the flows that are taken are worth; or why there is no answer.
+use Prim.Native.Nat.{ℕ, zero, suc, _+_}
+use mathlib.Core.List.{List, [], _++_}
+use Rattle.laws.specs.Bits.{bitAt}
+use Rattle.laws.specs.Choice.{pick}
+use Rattle.site.specs.declared.Site.{Site}
+use Rattle.flowlist.specs.declared.Flow.{Flow}
+use Rattle.bestset.specs.Best.{worth}
+use Rattle.admission.specs.Admit.{shareIn, amount, flowsIn}
+use Rattle.admission.specs.declared.AdmitAnswer.{AdmitAnswer}
+use Rattle.admission.specs.declared.AdmitAnswer.the-variants as admit
+use Rattle.speech.specs.Speech.{said}
+use Rattle.refusals.specs.Words.{refusedLine}
+use Rattle.refusals.specs.declared.Place.the-variants as place
+use Rattle.verdicts.specs.Words.{faultWords}
+
+-- ---- the lines
+
+abbrev pub takenLine : (number cell share value : ℕ) → List ℕ
+takenLine number cell share value = said "flow @1: cell @2, share @3, value @4, taken\n" number cell share value
+
+abbrev pub leftLine : (number cell share value : ℕ) → List ℕ
+leftLine number cell share value = said "flow @1: cell @2, share @3, value @4, not taken\n" number cell share value
+
+abbrev pub worthLine : (w : ℕ) → List ℕ
+worthLine w = said "worth @1\n" w 0 0 0
+
+-- ---- the flows
+
+-- the line of the flow at place k: it is taken where its bit is in the set
+abbrev pub flowWords : (slots set : ℕ) → Flow → ℕ → List ℕ
+flowWords slots set f k =
+    pick (bitAt set k)
+    (takenLine (k + 1) (f .cell) (amount (shareIn slots f)) (f .value))
+    (leftLine (k + 1) (f .cell) (amount (shareIn slots f)) (f .value))
+
+-- the lines of the first n flows, in order
+unfoldable pub flowLines : (slots set : ℕ) → (ℕ → Flow) → ℕ → List ℕ
+flowLines slots set f zero = []
+flowLines slots set f (suc k) = flowLines slots set f k ++ flowWords slots set (f k) k
+
+-- "which flows to take", and their total value; or the refusal: "18 over 16 flows, 19 site not chained, then per flow 2, 15, 16 with the flow's number"
+abbrev pub admitWords : Site → (ℕ → Flow) → ℕ → AdmitAnswer → List ℕ
+admitWords s f n (admit.Admitted set) = flowLines (s .slots) set f n ++ worthLine (worth (flowsIn (s .slots) f n) set)
+admitWords s f n admit.TooMany = refusedLine 18 place.Nowhere
+admitWords s f n admit.NotChained = refusedLine 19 place.Nowhere
+admitWords s f n (admit.BadCell k) = refusedLine 2 (place.Flow k)
+admitWords s f n (admit.BadFlow k) = refusedLine 15 (place.Flow k)
+admitWords s f n (admit.BigShare k) = refusedLine 16 (place.Flow k)
+admitWords s f n (admit.Refused fault) = faultWords fault
