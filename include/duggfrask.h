@@ -34,6 +34,9 @@
 #include <stddef.h>
 #include <stdint.h>
 
+/* The version: one more where a record or a call has another shape than before. */
+#define DUGG_VERSION 1
+
 #ifdef __cplusplus
 extern "C" {
 #endif

@@ -16,7 +16,7 @@ pub struct Flow {
     pub value: u16,
 }
 
-const MOST_FLOWS: usize = 16;
+pub const MOST_FLOWS: usize = 16;
 
 /// The number of the set to admit, in which flow 1 weighs 1, flow 2 weighs 2 and flow 3 weighs 4. The record's faults
 /// come first, then 18, then 19 with all cells counted as loaded, then each flow's own refusals.

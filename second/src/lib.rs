@@ -5,6 +5,7 @@ pub mod admit;
 pub mod answer;
 pub mod capi;
 pub mod checker;
+pub mod desk;
 pub mod files;
 pub mod judge;
 pub mod listing;

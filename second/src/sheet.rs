@@ -7,7 +7,7 @@ use crate::site::{Site, MOST_CELLS};
 const LINE_END: &[u8] = b"\r\n";
 
 /// The lines that CR LF ends, and what stands after the last of them. A CR or LF by itself is part of a line.
-fn split_lines(mut bytes: &[u8]) -> (Vec<&[u8]>, &[u8]) {
+pub fn split_lines(mut bytes: &[u8]) -> (Vec<&[u8]>, &[u8]) {
     let mut lines = Vec::new();
     while let Some(end) = bytes.windows(2).position(|pair| pair == LINE_END) {
         lines.push(&bytes[..end]);
@@ -16,12 +16,12 @@ fn split_lines(mut bytes: &[u8]) -> (Vec<&[u8]>, &[u8]) {
     (lines, bytes)
 }
 
-fn fields(line: &[u8]) -> Vec<&[u8]> {
+pub fn fields(line: &[u8]) -> Vec<&[u8]> {
     line.split(|&byte| byte == b',').collect()
 }
 
 /// A number from 0 to 65,535, in digits alone and without leading zeros.
-fn number(field: &[u8]) -> Option<u16> {
+pub fn number(field: &[u8]) -> Option<u16> {
     let text = std::str::from_utf8(field).ok()?;
     let number = text.parse().ok()?;
     // Only the number's own digits are the number: no sign, no leading zero.
@@ -58,7 +58,7 @@ fn read_cell(line: &[u8], cell: usize, cells: usize) -> Option<(u16, u32)> {
 }
 
 /// Refusal 17 with the first bad line, from 1.
-fn bad_line<T>(line: usize) -> Outcome<T> {
+pub fn bad_line<T>(line: usize) -> Outcome<T> {
     refuse(17, &[line as u64])
 }
 

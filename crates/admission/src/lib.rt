@@ -1,7 +1,7 @@
 // Which of at most 16 flows a site admits: the best set of them whose shares, summed by cell, pass the load test. The lent list is taken apart by `flowlist`; all else works on
 // numbers and small arrays.
 ghost use mathlib.Core.Path.{_≡_};
-ghost use Prim.Native.Nat.{ℕ, _+_, _-_, _≤_};
+ghost use Prim.Native.Nat.{_-_, _≤_};
 ghost use lib.ListN.{getD, replicate};
 ghost use lib.Seq.{sets};
 ghost use Rattle.laws.specs.Bits.{bitIn};
@@ -50,8 +50,8 @@ struct AskedAll {
     values: [u16; 16],
 }
 
-// The share of a flow, with repeats.
-fn share_in(slots: u16, f: Flow) -> ShareAnswer
+// The share of a flow, with its repeats, on a site of so many slots: for callers that have the flow by value.
+pub fn share_in(slots: u16, f: Flow) -> ShareAnswer
     ensures { λ r. ⌜ r ≡ shareIn slots f ⌝ }
 {
     share_of(

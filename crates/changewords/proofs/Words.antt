@@ -41,7 +41,7 @@ module _ (F : ℕ) where
       ap (λ y. changeLine F c k x ++ y) (said-append (m - 1) a b (omega arith)) ∙ sym (append-assoc (changeLine F c k x) (changeWords F a) (changeWords F b))
 
   -- a change, and nothing where there is none
-  pub said-one : (is was : Bool) (i k : ℕ) → changeWords F (change is was i k) ≡ wordsOf is was (i + 1) (k / F + 1) (k % F + 1)
+  said-one : (is was : Bool) (i k : ℕ) → changeWords F (change is was i k) ≡ wordsOf is was (i + 1) (k / F + 1) (k % F + 1)
   unfolding changeWords
   said-one true true i k = refl
   said-one true false i k = append-nil (addedLine (i + 1) (k / F + 1) (k % F + 1))

@@ -25,7 +25,7 @@ gathered-long fs zero = length-replicate {A = Flow} 16 none
 gathered-long fs (suc n) = rw length-set (gathered-long fs n)
 
 -- the flows gathered, place by place
-gathered-at : (fs : List Flow) (n k : ℕ) → n ≤ 16 → k < n → getD (gathered fs n .list) k none ≡ flowAt fs k
+pub gathered-at : (fs : List Flow) (n k : ℕ) → n ≤ 16 → k < n → getD (gathered fs n .list) k none ≡ flowAt fs k
 unfolding gathered
 gathered-at fs zero k m l = absurd (omega arith)
 gathered-at fs (suc n) k m l =

@@ -11,6 +11,7 @@ use lib.Seq.{drop-drop}
 use lib.Dec.{leb}
 use borrow.Author.Tests.{leb-true}
 use Rattle.laws.specs.Choice.{pick}
+use Rattle.laws.proofs.Choice.{both}
 use Rattle.text.specs.Decimal.{decimal}
 use Rattle.lines.specs.Match.{starts, nowhere, eaten}
 use Rattle.lines.specs.Format.{column}
@@ -122,13 +123,14 @@ module _ (s : List ℕ) (short : length s < nowhere) where
             let is : n .value ≡ v = ap (λ (x : Number). x .value) read ∙ field-value p b ∙ ap (scanned 0) (here from .2) in
             (is, go (t && leb v 65535) refl is, from)
           where
-            small : (y z : Bool) → (y && z) ≡ true → z ≡ true
-            small true z e = e
-            small false z e = cc
-
             go : (y : Bool) → (t && leb v 65535) ≡ y → n .value ≡ v → n .value ≤ 65535
-            go true e is = omega (arith, is, leb-true v 65535 (small t (leb v 65535) e))
+            go true e is = omega (arith, is, leb-true v 65535 (both t (leb v 65535) e .1))
             go false e is = absurd (on (place-next ∙ ap (λ (y : Bool). pick y (eaten s at (w ++ text)) nowhere) e))
+
+-- no line is empty
+pub line-some : (f : Flow) → 0 < length (flowLine f)
+unfolding flowLine column
+line-some f = simp length-append (omega arith)
 
 -- ---- the five fields and the line feed
 
@@ -207,10 +209,6 @@ module _ (s : List ℕ) (at : ℕ) (short : length s < nowhere) (n₁ n₂ n₃ 
   unfolding flowLine column flowIn
   line-is = simp append-assoc
 
-  line-some : 0 < length (flowLine f)
-  unfolding flowLine column
-  line-some = simp length-append (omega arith)
-
   fits-is : t₅ ≡ flowFits f
   unfolding flowFits flowIn
   fits-is = all-five (leb (scanned 0 (drop at s)) 65535) (leb (scanned 0 r₁) 65535) (leb (scanned 0 r₂) 65535) (leb (scanned 0 r₃) 65535) (leb (scanned 0 r₄) 65535)
@@ -228,7 +226,7 @@ module _ (s : List ℕ) (at : ℕ) (short : length s < nowhere) (n₁ n₂ n₃ 
   no-line e = go (flowFits f) refl (sym end-is ∙ e)
     where
       go : (t : Bool) → flowFits f ≡ t → pick t (eaten s at (flowLine f)) nowhere ≡ nowhere → noFlow ≡ flowRead s at
-      go true p q = rw (p, eaten-not s at (flowLine f) short line-some q)
+      go true p q = rw (p, eaten-not s at (flowLine f) short (line-some f) q)
       go false p q = rw p
 
   module _ (there : end ≡ nowhere → ⊥) where

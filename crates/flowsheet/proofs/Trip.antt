@@ -4,9 +4,8 @@ use Prim.Native.Nat.{ℕ, zero, suc, _+_, _-_, _≤_, _<_}
 use mathlib.Core.Path.{_≡_, refl, sym, ap, _∙_}
 use mathlib.Core.Bool.{Bool, true, false, true≢false}
 use mathlib.Core.List.{List, [], _∷_, _++_, append-assoc, append-nil}
-use mathlib.Core.Logic.{⊎-elim}
 use native.Mathlib.Omega.{arith}
-use native.Mathlib.Nat.{add-zero, eq-or-lt-of-le, le-of-suc-le-suc}
+use native.Mathlib.Nat.{add-zero}
 use native.Mathlib.Numerals.{add-one}
 use lib.ListN.{length, drop, getD, length-append, length-set, length-replicate}
 use lib.Seq.{drop-append-seam, drop-append-add, getD-set-same, getD-set-other}
@@ -21,13 +20,15 @@ use Rattle.lines.specs.Content.{scanned}
 use Rattle.lines.proofs.Match.{starts-is, starts-there}
 use Rattle.lines.proofs.Numbers.{scanned-decimal, scanned-end}
 use Rattle.flowlist.specs.List.{none, flowAt, noFlows, withFlow, gathered}
+use Rattle.flowlist.proofs.Laws.{gathered-count}
 use Rattle.flowlist.specs.declared.Flow.{Flow}
 use Rattle.flowlist.specs.declared.FlowList.{FlowList}
 use Rattle.flowsheet.specs.Format.{flowHead, flowLine, flowLines, flowSheet}
-use Rattle.flowsheet.specs.Read.{after, flowIn, flowFits, flowOk, done, badAt, tooMany, atEnd, flowsFrom, readFlows, heldFlows}
+use Rattle.flowsheet.specs.Read.{after, flowIn, flowFits, flowOk, done, badAt, tooMany, atEnd, flowsFrom, readFlows}
 use Rattle.flowsheet.specs.declared.FlowsRead.{FlowsRead}
 use Rattle.flowsheet.specs.declared.FlowsAnswer.{FlowsAnswer}
 use Rattle.flowsheet.specs.declared.FlowsAnswer.the-variants.{Done, BadLine, TooMany}
+use Rattle.flowsheet.proofs.Fields.{line-some}
 
 -- ---- a written number, and a byte below the digits after it
 
@@ -92,12 +93,8 @@ module _ (f : Flow) (r : List ℕ) (h : flowFits f ≡ true) where
   unfolding flowOk
   ok-written = rw (flow-written, h) (starts-there (flowLine f) r)
 
-  line-some : 0 < length (flowLine f)
-  unfolding flowLine column
-  line-some = simp length-append (omega arith)
-
   not-end : atEnd (flowLine f ++ r) ≡ false
-  not-end = ne-eqb (length (flowLine f ++ r)) 0 (λ e. omega (arith, length-append (flowLine f) r, line-some))
+  not-end = ne-eqb (length (flowLine f ++ r)) 0 (λ e. omega (arith, length-append (flowLine f) r, line-some f))
 
   -- and the reader goes on after it
   line-passed : (m : ℕ) (l : FlowList) → flowsFrom (suc m) l (flowLine f ++ r) ≡ flowsFrom m (withFlow l f) r
@@ -119,75 +116,44 @@ no-room : (l : FlowList) (r : List ℕ) → atEnd r ≡ false → flowsFrom 0 l 
 unfolding flowsFrom
 no-room l r some = rw some
 
-module _ (f : ℕ → Flow) where
+module _ (fs : List Flow) where
   -- after the lines of n flows the reader has these, and goes on
   lines-read :
-      (n k m : ℕ) (r : List ℕ) → n ≤ m → ((i : ℕ) → i < k + n → flowFits (f i) ≡ true) → flowsFrom m (heldFlows f k) (flowLines f k n ++ r) ≡ flowsFrom (m - n) (heldFlows f (k + n)) r
-  unfolding flowLines heldFlows
+      (n k m : ℕ) (r : List ℕ) → n ≤ m → ((i : ℕ) → i < k + n → flowFits (flowAt fs i) ≡ true) → flowsFrom m (gathered fs k) (flowLines (flowAt fs) k n ++ r) ≡ flowsFrom (m - n) (gathered fs (k + n)) r
+  unfolding flowLines gathered
   lines-read zero k m r h fits = let e : m - zero ≡ m = omega arith in rw (add-zero k, e)
   lines-read (suc n) k zero r h fits = absurd (omega arith)
   lines-read (suc n) k (suc m) r h fits =
       let e : suc k + n ≡ k + suc n = omega arith in
       let d : suc m - suc n ≡ m - n = omega arith in
-      rw (append-assoc (flowLine (f k)) (flowLines f (suc k) n) r, d, ← e)
-      (line-passed (f k) (flowLines f (suc k) n ++ r) (fits k (omega arith)) m (heldFlows f k)
+      rw (append-assoc (flowLine (flowAt fs k)) (flowLines (flowAt fs) (suc k) n) r, d, ← e)
+      (line-passed (flowAt fs k) (flowLines (flowAt fs) (suc k) n ++ r) (fits k (omega arith)) m (gathered fs k)
       ∙ lines-read n (suc k) m r (omega arith) (λ i l. fits i (omega arith)))
 
-  held-none : heldFlows f 0 ≡ noFlows
-  unfolding heldFlows
-  held-none = refl
-
-  -- so many
-  pub held-count : (n : ℕ) → heldFlows f n .count ≡ n
-  unfolding heldFlows noFlows
-  held-count zero = refl
-  held-count (suc n) = omega (arith, held-count n)
-
   -- of at most 16 flows, each number at most 65,535
-  module _ (n : ℕ) (few : n ≤ 16) (fits : (i : ℕ) → i < n → flowFits (f i) ≡ true) where
-    sheet-read : (r : List ℕ) → readFlows (flowSheet f n ++ r) ≡ flowsFrom (16 - n) (heldFlows f n) r
-    unfolding readFlows flowSheet
+  module _ (n : ℕ) (few : n ≤ 16) (fits : (i : ℕ) → i < n → flowFits (flowAt fs i) ≡ true) where
+    sheet-read : (r : List ℕ) → readFlows (flowSheet (flowAt fs) n ++ r) ≡ flowsFrom (16 - n) (gathered fs n) r
+    unfolding readFlows flowSheet gathered
     sheet-read r =
         let e : 0 + n ≡ n = omega arith in
-        rw (append-assoc flowHead (flowLines f 0 n) r, starts-there flowHead (flowLines f 0 n ++ r), drop-append-seam flowHead (flowLines f 0 n ++ r))
-        (ap (λ (l : FlowList). flowsFrom 16 l (flowLines f 0 n ++ r)) (sym held-none)
-        ∙ lines-read n 0 16 r few (λ i l. fits i (omega arith))
-        ∙ ap (λ (i : ℕ). flowsFrom (16 - n) (heldFlows f i) r) e)
+        rw (append-assoc flowHead (flowLines (flowAt fs) 0 n) r, starts-there flowHead (flowLines (flowAt fs) 0 n ++ r), drop-append-seam flowHead (flowLines (flowAt fs) 0 n ++ r))
+        (lines-read n 0 16 r few (λ i l. fits i (omega arith))
+        ∙ ap (λ (i : ℕ). flowsFrom (16 - n) (gathered fs i) r) e)
 
     -- reading their sheet gives these flows
-    pub read-written : readFlows (flowSheet f n) ≡ done (heldFlows f n)
-    read-written = ap readFlows (sym (append-nil (flowSheet f n))) ∙ sheet-read [] ∙ no-lines (16 - n) (heldFlows f n)
+    pub read-written : readFlows (flowSheet (flowAt fs) n) ≡ done (gathered fs n)
+    read-written = ap readFlows (sym (append-nil (flowSheet (flowAt fs) n))) ∙ sheet-read [] ∙ no-lines (16 - n) (gathered fs n)
 
     -- "17 with the first bad line (from 1; line 1 is the head)": the line after those of n flows is not of the format
-    pub bad-after : (r : List ℕ) → n < 16 → atEnd r ≡ false → flowOk r ≡ false → readFlows (flowSheet f n ++ r) ≡ badAt (n + 2)
-    bad-after r less some bad = sheet-read r ∙ no-line (15 - n) (omega arith) (held-count n)
+    pub bad-after : (r : List ℕ) → n < 16 → atEnd r ≡ false → flowOk r ≡ false → readFlows (flowSheet (flowAt fs) n ++ r) ≡ badAt (n + 2)
+    bad-after r less some bad = sheet-read r ∙ no-line (15 - n) (omega arith) (gathered-count fs n)
       where
-        no-line : (m : ℕ) → 16 - n ≡ suc m → heldFlows f n .count ≡ n → flowsFrom (16 - n) (heldFlows f n) r ≡ badAt (n + 2)
-        no-line m e c = ap (λ (i : ℕ). flowsFrom i (heldFlows f n) r) e ∙ stop-here m (heldFlows f n) r some bad ∙ ap (λ (i : ℕ). badAt (i + 2)) c
+        no-line : (m : ℕ) → 16 - n ≡ suc m → gathered fs n .count ≡ n → flowsFrom (16 - n) (gathered fs n) r ≡ badAt (n + 2)
+        no-line m e c = ap (λ (i : ℕ). flowsFrom i (gathered fs n) r) e ∙ stop-here m (gathered fs n) r some bad ∙ ap (λ (i : ℕ). badAt (i + 2)) c
 
     -- "More than 16 flow lines: 18, whatever stands after the sixteenth"
-    pub seventeenth : (r : List ℕ) → n ≡ 16 → atEnd r ≡ false → readFlows (flowSheet f n ++ r) ≡ tooMany
-    seventeenth r all some = sheet-read r ∙ ap (λ (i : ℕ). flowsFrom i (heldFlows f n) r) (omega arith) ∙ no-room (heldFlows f n) r some
-
-  -- place by place
-  held-long : (n : ℕ) → length (heldFlows f n .list) ≡ 16
-  unfolding heldFlows noFlows
-  held-long zero = length-replicate {A = Flow} 16 none
-  held-long (suc n) = rw length-set (held-long n)
-
-  pub held-at : (n k : ℕ) → n ≤ 16 → k < n → getD (heldFlows f n .list) k none ≡ f k
-  unfolding heldFlows
-  held-at zero k m l = absurd (omega arith)
-  held-at (suc n) k m l =
-      rw (held-count n)
-      (⊎-elim (λ e. rw e (getD-set-same (heldFlows f n .list) n (f n) none (omega (arith, held-long n))))
-      (λ q. getD-set-other (heldFlows f n .list) n k (f n) none (λ z. omega arith) ∙ held-at n k (omega arith) q) (eq-or-lt-of-le (le-of-suc-le-suc l)))
-
--- the flows of a list, held so, are those that a call on the list gathers
-pub held-gathered : (fs : List Flow) (n : ℕ) → heldFlows (flowAt fs) n ≡ gathered fs n
-unfolding heldFlows gathered
-held-gathered fs zero = refl
-held-gathered fs (suc n) = ap (λ (l : FlowList). withFlow l (flowAt fs n)) (held-gathered fs n)
+    pub seventeenth : (r : List ℕ) → n ≡ 16 → atEnd r ≡ false → readFlows (flowSheet (flowAt fs) n ++ r) ≡ tooMany
+    seventeenth r all some = sheet-read r ∙ ap (λ (i : ℕ). flowsFrom i (gathered fs n) r) (omega arith) ∙ no-room (gathered fs n) r some
 
 -- ---- an accepted sheet
 

@@ -33,7 +33,7 @@ flowIn r =
       value = scanned 0 (after (after (after (after r))));
     }
 
--- "each number at most 65,535"
+-- "Each number is 0 to 65,535."
 unfoldable pub flowFits : Flow → Bool
 flowFits f = leb (f .cell) 65535 && (leb (f .burst) 65535 && (leb (f .period) 65535 && (leb (f .repeats) 65535 && leb (f .value) 65535)))
 
@@ -60,11 +60,11 @@ flowRead s at =
 abbrev pub done : FlowList → FlowsRead
 done l = record { flows = l; answer = Done }
 
--- "17 with the first bad line (from 1; line 1 is the head)"
+-- "17 gives the first line that is not so, from 1."
 abbrev pub badAt : ℕ → FlowsRead
 badAt line = record { flows = noFlows; answer = BadLine line }
 
--- "More than 16 flow lines: 18, whatever stands after the sixteenth"
+-- "A line after the sixteenth flow's is 18, whatever stands in it."
 abbrev pub tooMany : FlowsRead
 tooMany = record { flows = noFlows; answer = TooMany }
 
@@ -81,8 +81,3 @@ flowsFrom (suc m) l r =
 
 unfoldable pub readFlows : List ℕ → FlowsRead
 readFlows b = pick (starts flowHead b) (flowsFrom 16 noFlows (drop (length flowHead) b)) (badAt 1)
-
--- the first n flows of f, one by one
-unfoldable pub heldFlows : (ℕ → Flow) → ℕ → FlowList
-heldFlows f zero = noFlows
-heldFlows f (suc n) = withFlow (heldFlows f n) (f n)

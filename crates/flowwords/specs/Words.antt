@@ -1,10 +1,13 @@
--- The words of `duggfrask admit`: for each flow its cell, its share and its value, and whether it is taken; what the flows that are taken are worth; or why there is no answer.
+-- The words of `duggfrask admit`: for each flow its cell, its share and its value, and whether it is taken; what the flows that are taken are worth; or why there is no answer, and why a sheet
+-- of flows is refused.
 use Prim.Native.Nat.{ℕ, zero, suc, _+_}
 use mathlib.Core.List.{List, [], _++_}
 use Rattle.laws.specs.Bits.{bitAt}
 use Rattle.laws.specs.Choice.{pick}
 use Rattle.site.specs.declared.Site.{Site}
 use Rattle.flowlist.specs.declared.Flow.{Flow}
+use Rattle.flowsheet.specs.declared.FlowsAnswer.{FlowsAnswer}
+use Rattle.flowsheet.specs.declared.FlowsAnswer.the-variants as flows
 use Rattle.bestset.specs.Best.{worth}
 use Rattle.admission.specs.Admit.{shareIn, amount, flowsIn}
 use Rattle.admission.specs.declared.AdmitAnswer.{AdmitAnswer}
@@ -35,16 +38,24 @@ flowWords slots set f k =
     (leftLine (k + 1) (f .cell) (amount (shareIn slots f)) (f .value))
 
 -- the lines of the first n flows, in order
-unfoldable pub flowLines : (slots set : ℕ) → (ℕ → Flow) → ℕ → List ℕ
-flowLines slots set f zero = []
-flowLines slots set f (suc k) = flowLines slots set f k ++ flowWords slots set (f k) k
+unfoldable pub listWords : (slots set : ℕ) → (ℕ → Flow) → ℕ → List ℕ
+listWords slots set f zero = []
+listWords slots set f (suc k) = listWords slots set f k ++ flowWords slots set (f k) k
 
 -- "which flows to take", and their total value; or the refusal: "18 over 16 flows, 19 site not chained, then per flow 2, 15, 16 with the flow's number"
 abbrev pub admitWords : Site → (ℕ → Flow) → ℕ → AdmitAnswer → List ℕ
-admitWords s f n (admit.Admitted set) = flowLines (s .slots) set f n ++ worthLine (worth (flowsIn (s .slots) f n) set)
+admitWords s f n (admit.Admitted set) = listWords (s .slots) set f n ++ worthLine (worth (flowsIn (s .slots) f n) set)
 admitWords s f n admit.TooMany = refusedLine 18 place.Nowhere
 admitWords s f n admit.NotChained = refusedLine 19 place.Nowhere
 admitWords s f n (admit.BadCell k) = refusedLine 2 (place.Flow k)
 admitWords s f n (admit.BadFlow k) = refusedLine 15 (place.Flow k)
 admitWords s f n (admit.BigShare k) = refusedLine 16 (place.Flow k)
 admitWords s f n (admit.Refused fault) = faultWords fault
+
+-- ---- the sheet of flows
+
+-- a sheet that was read: nothing to say; 17 and the line; or 18
+abbrev pub flowSheetWords : FlowsAnswer → List ℕ
+flowSheetWords flows.Done = []
+flowSheetWords (flows.BadLine line) = refusedLine 17 (place.Line line)
+flowSheetWords flows.TooMany = refusedLine 18 place.Nowhere

@@ -1,15 +1,14 @@
-// The words of an admission, written into a lent buffer. Each function puts its words at `at` and answers where the next byte goes.
+// The words of an admission, and of the sheet of flows that it is asked with, written into a lent buffer. Each function puts its words at `at` and answers where the next byte goes.
 use admission::AdmitAnswer;
+use admission::share_in;
 use flowlist::Flow;
 use flowlist::FlowList;
+use flowsheet::FlowsAnswer;
 use refusals::Place;
-use shares::Fragments;
-use shares::Repeats;
 use shares::ShareAnswer;
-use shares::Slots;
-use shares::share_of;
 use site::Site;
 use speech::say;
+use words::has;
 ghost use mathlib.Core.Path.{_≡_};
 ghost use Prim.Native.Nat.{_+_, _*_, _≤_, _<_};
 ghost use lib.ListN.{length, getD};
@@ -20,7 +19,7 @@ ghost use Rattle.flowlist.specs.List.{none};
 ghost use Rattle.bestset.specs.Best.{total};
 ghost use Rattle.admission.specs.Admit.{shareIn, amount};
 ghost use Rattle.admission.specs.declared.AdmitAnswer.the-variants.{Admitted};
-ghost use Rattle.flowwords.specs.Words.{takenLine, leftLine, worthLine, flowWords, flowLines, admitWords};
+ghost use Rattle.flowwords.specs.Words.{takenLine, leftLine, worthLine, flowWords, listWords, admitWords, flowSheetWords};
 
 // A flow that is taken.
 fn taken_line(
@@ -86,24 +85,11 @@ fn worth_line(out: &mut [u8], at: usize, w: usize) -> usize
 fn share_at(slots: u16, f: Flow) -> usize
     ensures { λ r. ⌜ r ≡ amount (shareIn slots f) ⌝ }
 {
-    let a = share_of(
-        Slots(slots as u32),
-        Fragments(f.burst as u32),
-        Slots(f.period as u32),
-        Repeats(f.repeats as u32),
-    );
+    let a = share_in(slots, f);
     let ShareAnswer::Done(s, _, _) = a else {
         return 0;
     };
     s.0 as usize
-}
-
-// Whether the flow at place k is in a set.
-fn is_taken(set: u32, k: usize) -> bool
-    requires { ⌜ k < 32 ⌝ }
-    ensures { λ r. ⌜ r ≡ bitAt set k ⌝ }
-{
-    (set >> k) % 2 == 1
 }
 
 // The line of the flow at place k.
@@ -115,17 +101,17 @@ fn flow_words(out: &mut [u8], at: usize, slots: u16, set: u32, f: Flow, k: usize
     ensures short { λ r. ⌜ r ≤ at + 600 ⌝ }
 {
     let share = share_at(slots, f);
-    if is_taken(set, k) {
+    if has(set, k) {
         return taken_line(out, at, k + 1, f.cell as usize, share, f.value as usize);
     }
     left_line(out, at, k + 1, f.cell as usize, share, f.value as usize)
 }
 
 // The lines of the flows.
-fn flow_lines(out: &mut [u8], at: usize, slots: u16, set: u32, l: FlowList, count: usize) -> usize
+fn list_words(out: &mut [u8], at: usize, slots: u16, set: u32, l: FlowList, count: usize) -> usize
     requires { ⌜ (count ≤ 16) × (at + 600 * count ≤ length (now out)) ⌝ }
-    ensures stored { λ r. ⌜ now (out .exit) ≡ sets (now (out .entry)) at (flowLines slots set (λ k. getD (l .list) k none) count) ⌝ }
-    ensures next { λ r. ⌜ r ≡ at + length (flowLines slots set (λ k. getD (l .list) k none) count) ⌝ }
+    ensures stored { λ r. ⌜ now (out .exit) ≡ sets (now (out .entry)) at (listWords slots set (λ k. getD (l .list) k none) count) ⌝ }
+    ensures next { λ r. ⌜ r ≡ at + length (listWords slots set (λ k. getD (l .list) k none) count) ⌝ }
     ensures short { λ r. ⌜ r ≤ at + 600 * count ⌝ }
 {
     let list = l.list;
@@ -143,7 +129,7 @@ fn value_in(set: u32, f: Flow, k: usize) -> usize
     requires { ⌜ k < 16 ⌝ }
     ensures { λ r. ⌜ (r ≡ pick (bitAt set k) (f .value) 0) × (r ≤ 65535) ⌝ }
 {
-    if is_taken(set, k) {
+    if has(set, k) {
         return f.value as usize;
     }
     0
@@ -171,7 +157,7 @@ fn taken_words(out: &mut [u8], at: usize, site: Site, l: FlowList, count: usize,
     ensures next { λ r. ⌜ r ≡ at + length (admitWords site (λ k. getD (l .list) k none) count (Admitted set)) ⌝ }
     ensures short { λ r. ⌜ r ≤ at + 12000 ⌝ }
 {
-    let middle = flow_lines(out, at, site.slots, set, l, count);
+    let middle = list_words(out, at, site.slots, set, l, count);
     let w = worth_of(set, l, count);
     worth_line(out, middle, w)
 }
@@ -198,5 +184,19 @@ pub fn admit_words(
         AdmitAnswer::BadFlow(flow) => refusals::refused(out, at, 15, Place::Flow(flow)),
         AdmitAnswer::BigShare(flow) => refusals::refused(out, at, 16, Place::Flow(flow)),
         AdmitAnswer::Refused(f) => verdicts::fault_words(out, at, f),
+    }
+}
+
+// A sheet of flows that was read, or its refusal.
+pub fn flow_sheet_words(out: &mut [u8], at: usize, reply: FlowsAnswer) -> usize
+    requires { ⌜ at + 2000 ≤ length (now out) ⌝ }
+    ensures stored { λ r. ⌜ now (out .exit) ≡ sets (now (out .entry)) at (flowSheetWords reply) ⌝ }
+    ensures next { λ r. ⌜ r ≡ at + length (flowSheetWords reply) ⌝ }
+    ensures short { λ r. ⌜ r ≤ at + 2000 ⌝ }
+{
+    match reply {
+        FlowsAnswer::Done => at,
+        FlowsAnswer::BadLine(line) => refusals::refused(out, at, 17, Place::Line(line)),
+        FlowsAnswer::TooMany => refusals::refused(out, at, 18, Place::Nowhere),
     }
 }

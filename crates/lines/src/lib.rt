@@ -1,8 +1,8 @@
 // Texts, numbers and lines of a range sheet, met at a place of the input. A cursor is a place; after what is not there it is NOWHERE, where nothing stands.
 ghost use mathlib.Core.Path.{_≡_};
 ghost use mathlib.Core.List.{[], _∷_};
-ghost use Prim.Native.Nat.{_+_, _≤_, _<_};
-ghost use lib.ListN.{length, drop, getD};
+ghost use Prim.Native.Nat.{_≤_, _<_};
+ghost use lib.ListN.{drop};
 ghost use Rattle.text.specs.Decimal.{decimal};
 ghost use Rattle.lines.specs.Match.{eaten};
 ghost use Rattle.lines.specs.Content.{more, scanned, numberRead, markOk, marksRead, noLine, lineRead, columnsRead, noHead, headRead};

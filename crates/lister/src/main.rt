@@ -1,11 +1,11 @@
 // The lister: reads a site file on standard input, the first 4,096 bytes, and prints document 01's listing. `head` makes the first lines and plans
-// the site, and `row_line` the line of a planned cell; `main` and `print_rows` only read and write.
+// the site, and `row_line` the line of a planned cell; `main`, `print_rows` and `tell` only read and write. A file that is refused is listed as refused, and then said in words.
 use judges::ChainAnswer;
 use judges::LoadAnswer;
 use libc::STDIN_FILENO;
-use libc::STDOUT_FILENO;
 use planner::PlanAnswer;
 use records::ReadAnswer;
+use refusals::Place;
 use site::Site;
 ghost use mathlib.Core.Path.{_≡_};
 ghost use Prim.Native.Nat.{_+_, _*_, _≤_, _<_};
@@ -148,14 +148,32 @@ fn row_line(out: &mut [u8], table: &[u8], width: usize, channels: usize, i: usiz
     listing::cell_line(out, i + 1, channels, &table[from..to])
 }
 
-// Prints the cell lines, one after the other.
-fn print_rows(out: &mut [u8], table: &[u8], rows: usize, width: usize, channels: usize)
+// Prints the cell lines, one after the other; whether all of them were written.
+fn print_rows(out: &mut [u8], table: &[u8], rows: usize, width: usize, channels: usize) -> bool
     requires { ⌜ (rows ≤ 32) × (width ≤ 2048) × (rows * width ≤ length (now table)) × (0 < rows → 0 < channels) ⌝ }
     requires { ⌜ 24576 ≤ length (now out) ⌝ }
 {
     for i in 0..rows {
         let end = row_line(out, table, width, channels, i);
-        io::write_all(STDOUT_FILENO, &out[..end]);
+        if !reply::result(out, end) {
+            return false;
+        }
+    }
+    true
+}
+
+// The status of a listing that is written: a file that is refused is a no, with its words.
+fn tell(out: &mut [u8], file: &[u8])
+    requires { ⌜ 65536 ≤ length (now out) ⌝ }
+{
+    let read = sitefile::read_site(file);
+    let answer = read.answer;
+    match answer {
+        ReadAnswer::Done => reply::done(),
+        ReadAnswer::Refused(number, offset) => {
+            let end = refusals::refused(out, 0, number as usize, Place::Byte(offset));
+            reply::no(out, end);
+        }
     }
 }
 
@@ -166,7 +184,11 @@ fn main() {
     let mut table = io::large_buffer();
     let mut out = io::large_buffer();
     let rest = head(&mut out, &input[..n], &mut table);
-    let end = rest.end;
-    io::write_all(STDOUT_FILENO, &out[..end]);
-    print_rows(&mut out, &table, rest.rows, rest.width, rest.channels);
+    let first = reply::result(&out, rest.end);
+    let all = print_rows(&mut out, &table, rest.rows, rest.width, rest.channels);
+    if first & all {
+        tell(&mut out, &input[..n]);
+        return;
+    }
+    reply::unwritten();
 }

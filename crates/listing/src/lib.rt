@@ -6,7 +6,6 @@ ghost use mathlib.Core.Path.{_≡_};
 ghost use Prim.Native.Nat.{_+_, _≤_, _<_};
 ghost use lib.ListN.{length};
 ghost use lib.Seq.{sets};
-ghost use Rattle.text.specs.Decimal.{decimal};
 ghost use Rattle.listing.specs.Lines.{field, fields, line, reservation, listed, reservations, siteLine, chainYes, chainNo, loadHolds, loadOver, planDone, planShort, refusedLine, cellLine};
 
 // A space and a number.

@@ -9,29 +9,28 @@ use Prim.Native.Nat.{ℕ, _*_, _≤_}
 use native.Mathlib.Omega.{arith}
 use borrow.Author.Tests.{le-ltb}
 use lib.Dec.{ltb}
-use lib.ListN.{length, replicate, length-replicate}
+use lib.ListN.{length, length-replicate}
 use Rattle.theory.specs.Greedy.{reserved, Outcome, planned, noRoom}
 use Rattle.site.specs.Record.{positions, size, faultOf}
 use Rattle.site.specs.Reach.{netOf}
 use Rattle.site.specs.declared.Site.{Site}
 use Rattle.mending.specs.Mend.{mend}
 use Rattle.mending.proofs.Changes.{few-changes}
-use Rattle.mender.specs.Mend.{numberOf, answerOf, tableAfter, called, mendAnswer, mendTable, roomFor}
+use Rattle.mender.specs.Mend.{numberOf, answerOf, tableAfter, called, mendAnswer, mendTable, roomOf, roomFor}
 use Rattle.mender.specs.declared.MendAnswer.{MendAnswer}
 use Rattle.mender.specs.declared.MendAnswer.the-variants.{TableShort, ListShort, Refused}
 use Rattle.mender.proofs.Meaning.{list-means}
 
-pub enough-room : (cells n number : ℕ) → number ≤ cells * n → ltb (length (replicate {A = ℕ} (4 * (cells * n)) 0)) (4 * number) ≡ false
-enough-room cells n number h =
-    le-ltb (length (replicate {A = ℕ} (4 * (cells * n)) 0)) (4 * number) (omega (arith, length-replicate {A = ℕ} (4 * (cells * n)) 0))
+-- four numbers a change
+room-of : (number : ℕ) → length (roomOf number) ≡ 4 * number
+room-of number = length-replicate _ 0
+
+pub enough-room : (cells n number : ℕ) → number ≤ cells * n → ltb (length (roomOf (cells * n))) (4 * number) ≡ false
+enough-room cells n number h = le-ltb (length (roomOf (cells * n))) (4 * number) (omega (arith, room-of (cells * n)))
 
 module _ (s : Site) (u : List ℕ) where
-  -- four numbers for each byte
-  room-long : length (roomFor s) ≡ 4 * size s
-  room-long = length-replicate _ 0
-
   room-for : (t : List ℕ) → 4 * numberOf (netOf s) u t ≤ length (roomFor s)
-  room-for t = omega (arith, room-long, few-changes (reserved (positions s) t) (reserved (positions s) u) (positions s) (s .cells))
+  room-for t = omega (arith, room-of (size s), few-changes (reserved (positions s) t) (reserved (positions s) u) (positions s) (s .cells))
 
   -- no call is refused for such a list
   pub never-short : (n : ℕ) → mendAnswer s u (roomFor s) ≡ ListShort n → ⊥
@@ -42,7 +41,7 @@ module _ (s : Site) (u : List ℕ) where
       → (answerOf (netOf s) u (roomFor s) o ≡ answerOf (netOf s) u l o) × (tableAfter (netOf s) u (roomFor s) o ≡ tableAfter (netOf s) u l o)
   any-by l h (planned t) =
       let number = numberOf (netOf s) u t in
-      rw (le-ltb (length (roomFor s)) (4 * number) (room-for t), le-ltb (length l) (4 * number) (omega (arith, room-for t, room-long))) (refl, refl)
+      rw (le-ltb (length (roomFor s)) (4 * number) (room-for t), le-ltb (length l) (4 * number) (omega (arith, room-for t, room-of (size s)))) (refl, refl)
   any-by l h (noRoom c m) = (refl, refl)
 
   pub any-room : (l : List ℕ) → 4 * size s ≤ length l → (mendAnswer s u (roomFor s) ≡ mendAnswer s u l) × (mendTable s u (roomFor s) ≡ mendTable s u l)

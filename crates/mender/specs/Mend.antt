@@ -64,9 +64,13 @@ module _ (s : Net) (u l : List ℕ) where
 abbrev pub ifRoom : {A : Type 0} → List ℕ → ℕ → (short done : A) → A
 ifRoom l number short done = pick (ltb (length l) (4 * number)) short done
 
+-- a list with room for so many changes: four numbers each
+abbrev pub roomOf : ℕ → List ℕ
+roomOf number = replicate (4 * number) 0
+
 -- the list that a call goes by: the one that is lent, or, where nothing is to be listed, one with room for every change
 abbrev pub goesBy : Bool → ℕ → ℕ → List ℕ → List ℕ
-goesBy only cells n l = pick only (replicate (4 * (cells * n)) 0) l
+goesBy only cells n l = pick only (roomOf (cells * n)) l
 
 -- the one that is lent then has room for the changes of a row
 abbrev pub Workable : Bool → ℕ → List ℕ → Type 0
@@ -106,6 +110,6 @@ mendTable s u l = called s u u u (tableAfter (netOf s) u l (mend (netOf s) u))
 unfoldable pub mendList : Site → List ℕ → List ℕ → List ℕ
 mendList s u l = called s u l l (listAfter (netOf s) u l (mend (netOf s) u))
 
--- a list with room for a change at every byte of the site's table: four numbers each
+-- a list with room for a change at every byte of the site's table
 abbrev pub roomFor : Site → List ℕ
-roomFor s = replicate (4 * size s) 0
+roomFor s = roomOf (size s)

@@ -14,7 +14,7 @@ use Rattle.laws.specs.Sum.{count}
 use Rattle.theory.specs.Net.{Reserved}
 use Rattle.theory.specs.Greedy.{sends, reserved}
 use Rattle.mending.specs.Keep.{keepAt, standAt}
-use Rattle.mending.specs.Changes.{changed, changes, changeCount}
+use Rattle.mending.specs.Changes.{changed, changes, changeCount, follow}
 
 -- no cell of a clash row stands at position k
 abbrev pub freeAt : List ℕ → ℕ → ℕ → Bool
@@ -71,6 +71,13 @@ allCount cells n words u = changeCount (standsIn words) (reserved n u) n cells
 -- the changes of so many cells, by the words
 abbrev pub listedIn : ℕ → ℕ → List ℕ → List ℕ → List ℕ
 listedIn cells n words u = changes (standsIn words) (reserved n u) n cells
+
+-- the table with them made, and the list with them at its start
+abbrev pub tableWith : ℕ → ℕ → List ℕ → List ℕ → List ℕ
+tableWith cells n words u = follow n (listedIn cells n words u) u
+
+abbrev pub listWith : ℕ → ℕ → List ℕ → List ℕ → List ℕ → List ℕ
+listWith cells n words u l = sets l 0 (listedIn cells n words u)
 
 -- the counts are these
 abbrev pub Counted : ℕ → ℕ → List ℕ → List ℕ → List ℕ → Type 0

@@ -17,9 +17,8 @@ ghost use Rattle.laws.specs.Choice.{pick};
 ghost use Rattle.laws.specs.Few.{firstFew};
 ghost use Rattle.laws.specs.Sum.{bit, count};
 ghost use Rattle.theory.specs.Greedy.{sends, reserved};
-ghost use Rattle.mending.specs.Mend.{mend};
-ghost use Rattle.mending.specs.Changes.{differ, change, cellChanges, changes, follow};
-ghost use Rattle.mender.specs.Words.{freeAt, joined, oldAt, keptIn, standsIn, cellStands, cellCount, allCount, listedIn, Below, Zeros, TwoWay, Counted};
+ghost use Rattle.mending.specs.Changes.{differ, change, cellChanges, follow};
+ghost use Rattle.mender.specs.Words.{freeAt, joined, oldAt, keptIn, standsIn, cellStands, cellCount, allCount, tableWith, listWith, Below, Zeros, TwoWay, Counted};
 ghost use Rattle.mender.specs.Mend.{ifRoom, goesBy, Workable, stoodBy, SaysBy, answerBy, tableBy, listBy, roomFor, mendAnswer, mendTable, mendList};
 ghost use Rattle.mender.specs.declared.MendAnswer.the-variants.{Done, ListShort};
 
@@ -269,8 +268,8 @@ fn list_all(
 )
     requires { ⌜ (cells ≤ 32) × (n ≤ 2048) × (n ≤ length (now words)) × (cells ≤ length (now counts)) × (cells * n ≤ length (now table)) ⌝ }
     requires { ⌜ Counted cells n (now words) (now table) (now counts) × (4 * allCount cells n (now words) (now table) ≤ length (now list)) ⌝ }
-    ensures table { λ _. ⌜ now (table .exit) ≡ follow n (listedIn cells n (now (words .entry)) (now (table .entry))) (now (table .entry)) ⌝ }
-    ensures list { λ _. ⌜ now (list .exit) ≡ sets (now (list .entry)) 0 (listedIn cells n (now (words .entry)) (now (table .entry))) ⌝ }
+    ensures table { λ _. ⌜ now (table .exit) ≡ tableWith cells n (now (words .entry)) (now (table .entry)) ⌝ }
+    ensures list { λ _. ⌜ now (list .exit) ≡ listWith cells n (now (words .entry)) (now (table .entry)) (now (list .entry)) ⌝ }
 {
     let mut at: usize = 0;
     for i in 0..cells {
@@ -289,7 +288,7 @@ fn store_all(
 )
     requires { ⌜ (cells ≤ 32) × (n ≤ 2048) × (n ≤ length (now words)) × (cells ≤ length (now counts)) × (cells * n ≤ length (now table)) ⌝ }
     requires { ⌜ Counted cells n (now words) (now table) (now counts) × (4 * n ≤ length (now list)) ⌝ }
-    ensures { λ _. ⌜ now (table .exit) ≡ follow n (listedIn cells n (now (words .entry)) (now (table .entry))) (now (table .entry)) ⌝ }
+    ensures { λ _. ⌜ now (table .exit) ≡ tableWith cells n (now (words .entry)) (now (table .entry)) ⌝ }
 {
     for j in 0..cells {
         list_cell(table, list, words, n, j, counts[j], 0);
@@ -310,8 +309,8 @@ fn finish(
     requires { ⌜ (cells ≤ 32) × (n ≤ 2048) × (n ≤ length (now words)) × (cells ≤ length (now counts)) × (cells * n ≤ length (now table)) ⌝ }
     requires { ⌜ Counted cells n (now words) (now table) (now counts) × (number ≡ allCount cells n (now words) (now table)) × Workable only n (now list) ⌝ }
     ensures answer { λ r. ⌜ r ≡ ifRoom (goesBy only cells n (now (list .entry))) number (ListShort number) (Done number) ⌝ }
-    ensures table { λ _. ⌜ now (table .exit) ≡ ifRoom (goesBy only cells n (now (list .entry))) number (now (table .entry)) (follow n (listedIn cells n (now (words .entry)) (now (table .entry))) (now (table .entry))) ⌝ }
-    ensures list { λ _. ⌜ (only ≡ false → now (list .exit) ≡ ifRoom (now (list .entry)) number (now (list .entry)) (sets (now (list .entry)) 0 (listedIn cells n (now (words .entry)) (now (table .entry))))) ⌝ }
+    ensures table { λ _. ⌜ now (table .exit) ≡ ifRoom (goesBy only cells n (now (list .entry))) number (now (table .entry)) (tableWith cells n (now (words .entry)) (now (table .entry))) ⌝ }
+    ensures list { λ _. ⌜ (only ≡ false → now (list .exit) ≡ ifRoom (now (list .entry)) number (now (list .entry)) (listWith cells n (now (words .entry)) (now (table .entry)) (now (list .entry)))) ⌝ }
 {
     if only {
         store_all(table, list, words, counts, n, cells);

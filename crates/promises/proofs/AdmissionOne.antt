@@ -6,8 +6,13 @@ use Prim.Native.Nat.{ℕ}
 use Rattle.admission.specs.declared.AdmitAnswer.{AdmitAnswer}
 use Rattle.flowlist.specs.declared.Flow.{Flow}
 use Rattle.flowlist.specs.declared.FlowList.{FlowList}
-use Rattle.promises.specs.AdmissionSays.{Admit, Decide}
+use Rattle.promises.specs.AdmissionSays.{Admit, Decide, ShareIn}
+use Rattle.shares.specs.declared.ShareAnswer.{ShareAnswer}
 use Rattle.site.specs.declared.Site.{Site}
+
+-- admission::share_in
+pub shareIn-one : (slots : ℕ) (f : Flow) (r q : ShareAnswer) → ShareIn slots f r → ShareIn slots f q → (r ≡ q)
+shareIn-one slots f r q says also = says .answer ∙ sym (also .answer)
 
 -- admission::decide
 pub decide-one : (site : Site) (l : FlowList) (count : ℕ) (r q : AdmitAnswer) → Decide site l count r → Decide site l count q → (r ≡ q)

@@ -5,9 +5,14 @@ use mathlib.Core.List.{List}
 use Prim.Native.Nat.{ℕ}
 use Rattle.admission.specs.declared.AdmitAnswer.{AdmitAnswer}
 use Rattle.flowlist.specs.declared.FlowList.{FlowList}
-use Rattle.promises.specs.FlowwordsSays.{FlowwordsAdmitWords}
+use Rattle.flowsheet.specs.declared.FlowsAnswer.{FlowsAnswer}
+use Rattle.promises.specs.FlowwordsSays.{FlowwordsAdmitWords, FlowwordsFlowSheetWords}
 use Rattle.site.specs.declared.Site.{Site}
 
 -- flowwords::admit_words
 pub flowwordsAdmitWords-one : (out : List ℕ) (at : ℕ) (site : Site) (l : FlowList) (count : ℕ) (reply : AdmitAnswer) (r q : ℕ) (out′ out″ : List ℕ) → FlowwordsAdmitWords out at site l count reply r out′ → FlowwordsAdmitWords out at site l count reply q out″ → (r ≡ q) × (out′ ≡ out″)
 flowwordsAdmitWords-one out at site l count reply r q out′ out″ says also = (says .answer ∙ sym (also .answer), says .out-after ∙ sym (also .out-after))
+
+-- flowwords::flow_sheet_words
+pub flowwordsFlowSheetWords-one : (out : List ℕ) (at : ℕ) (reply : FlowsAnswer) (r q : ℕ) (out′ out″ : List ℕ) → FlowwordsFlowSheetWords out at reply r out′ → FlowwordsFlowSheetWords out at reply q out″ → (r ≡ q) × (out′ ≡ out″)
+flowwordsFlowSheetWords-one out at reply r q out′ out″ says also = (says .answer ∙ sym (also .answer), says .out-after ∙ sym (also .out-after))

@@ -198,6 +198,11 @@ module _ (s : Site) (u l : List ℕ) where
         )))
         (rule.dropped-why (netOf s) u (d .stands) (d .mends) i k h w refl o (now-is i k h w ∙ c))
 
+  -- no change is said of a valid table alone: what the desk is told as "valid as it is"
+  pub unchanged-valid : MendedBy 0 → checkGiven (checkAnswer s u) ≡ done
+  unfolding follow
+  unchanged-valid e = let same : u ≡ mendTable s u l = list-gives 0 e in ap (λ t. checkGiven (checkAnswer s t)) same ∙ mended-checks 0 e
+
 -- mended without a list, the words are those of the list that `mend` writes where it is lent one with room for every change
 pub only-said : (s : Site) (u : List ℕ) (n : ℕ) → MendedBy s u (roomFor s) n → (l : List ℕ) → 4 * size s ≤ length l
     → allWords u (mendTable s u (roomFor s)) (s .slots) (s .channels) (s .cells) ≡ changeWords (s .channels) (take (4 * n) (mendList s u l))

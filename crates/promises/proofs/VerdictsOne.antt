@@ -4,8 +4,9 @@ use mathlib.Core.Path.{_≡_, sym, _∙_}
 use mathlib.Core.List.{List}
 use Prim.Native.Nat.{ℕ}
 use Rattle.checker.specs.declared.CheckAnswer.{CheckAnswer}
+use Rattle.mender.specs.declared.MendAnswer.{MendAnswer}
 use Rattle.planner.specs.declared.PlanAnswer.{PlanAnswer}
-use Rattle.promises.specs.VerdictsSays.{VerdictsCheckWords, VerdictsFaultWords, VerdictsOtherPlanLine, VerdictsPlanReadWords, VerdictsPlanWords, VerdictsReadWords, VerdictsShareWords, VerdictsSheetWords}
+use Rattle.promises.specs.VerdictsSays.{VerdictsCheckWords, VerdictsFaultWords, VerdictsMendWords, VerdictsOtherPlanLine, VerdictsPlanReadWords, VerdictsPlanWords, VerdictsReadWords, VerdictsShareWords, VerdictsSheetWords}
 use Rattle.records.specs.declared.ReadAnswer.{ReadAnswer}
 use Rattle.shares.specs.declared.ShareAnswer.{ShareAnswer}
 use Rattle.sheet.specs.declared.SheetAnswer.{SheetAnswer}
@@ -43,3 +44,7 @@ verdictsPlanWords-one out at site reply r q out′ out″ says also = (says .ans
 -- verdicts::check_words
 pub verdictsCheckWords-one : (out : List ℕ) (at : ℕ) (site : Site) (reply : CheckAnswer) (r q : ℕ) (out′ out″ : List ℕ) → VerdictsCheckWords out at site reply r out′ → VerdictsCheckWords out at site reply q out″ → (r ≡ q) × (out′ ≡ out″)
 verdictsCheckWords-one out at site reply r q out′ out″ says also = (says .answer ∙ sym (also .answer), says .out-after ∙ sym (also .out-after))
+
+-- verdicts::mend_words
+pub verdictsMendWords-one : (out : List ℕ) (at : ℕ) (reply : MendAnswer) (r q : ℕ) (out′ out″ : List ℕ) → VerdictsMendWords out at reply r out′ → VerdictsMendWords out at reply q out″ → (r ≡ q) × (out′ ≡ out″)
+verdictsMendWords-one out at reply r q out′ out″ says also = (says .answer ∙ sym (also .answer), says .out-after ∙ sym (also .out-after))

@@ -2,13 +2,18 @@
 use mathlib.Core.Path.{_≡_}
 use mathlib.Core.List.{List}
 use Prim.Native.Nat.{ℕ}
-use Rattle.admission.specs.Admit.{admitAnswer, answerIn}
+use Rattle.admission.specs.Admit.{admitAnswer, answerIn, shareIn}
 use Rattle.admission.specs.declared.AdmitAnswer.{AdmitAnswer}
 use Rattle.flowlist.specs.List.{none}
 use Rattle.flowlist.specs.declared.Flow.{Flow}
 use Rattle.flowlist.specs.declared.FlowList.{FlowList}
+use Rattle.shares.specs.declared.ShareAnswer.{ShareAnswer}
 use Rattle.site.specs.declared.Site.{Site}
 use lib.ListN.{getD}
+
+-- admission::share_in
+pub record ShareIn (slots : ℕ) (f : Flow) (r : ShareAnswer) : Type 0 where
+  pub answer : r ≡ shareIn slots f
 
 -- admission::decide
 pub record Decide (site : Site) (l : FlowList) (count : ℕ) (r : AdmitAnswer) : Type 0 where

@@ -4,7 +4,6 @@ use mathlib.Core.List.{List}
 use Prim.Native.Nat.{ℕ}
 use Rattle.mender.specs.Mend.{mendAnswer, mendList, mendTable, roomFor}
 use Rattle.mender.specs.declared.MendAnswer.{MendAnswer}
-use Rattle.mending.specs.Changes.{changes}
 use Rattle.site.specs.declared.Site.{Site}
 
 -- mender::mend

@@ -3,13 +3,14 @@ use mathlib.Core.Path.{_≡_}
 use mathlib.Core.List.{List}
 use Prim.Native.Nat.{_+_, ℕ}
 use Rattle.checker.specs.declared.CheckAnswer.{CheckAnswer}
+use Rattle.mender.specs.declared.MendAnswer.{MendAnswer}
 use Rattle.planner.specs.declared.PlanAnswer.{PlanAnswer}
 use Rattle.records.specs.declared.ReadAnswer.{ReadAnswer}
 use Rattle.shares.specs.declared.ShareAnswer.{ShareAnswer}
 use Rattle.sheet.specs.declared.SheetAnswer.{SheetAnswer}
 use Rattle.site.specs.declared.Fault.{Fault}
 use Rattle.site.specs.declared.Site.{Site}
-use Rattle.verdicts.specs.Words.{checkWords, faultWords, otherPlanLine, planReadWords, planWords, readWords, shareWords, sheetWords}
+use Rattle.verdicts.specs.Words.{checkWords, faultWords, mendWords, otherPlanLine, planReadWords, planWords, readWords, shareWords, sheetWords}
 use lib.ListN.{length}
 use lib.Seq.{sets}
 
@@ -52,3 +53,8 @@ pub record VerdictsPlanWords (out : List ℕ) (at : ℕ) (site : Site) (reply : 
 pub record VerdictsCheckWords (out : List ℕ) (at : ℕ) (site : Site) (reply : CheckAnswer) (r : ℕ) (out′ : List ℕ) : Type 0 where
   pub answer : r ≡ at + length (checkWords site reply)
   pub out-after : out′ ≡ sets out at (checkWords site reply)
+
+-- verdicts::mend_words
+pub record VerdictsMendWords (out : List ℕ) (at : ℕ) (reply : MendAnswer) (r : ℕ) (out′ : List ℕ) : Type 0 where
+  pub answer : r ≡ at + length (mendWords reply)
+  pub out-after : out′ ≡ sets out at (mendWords reply)

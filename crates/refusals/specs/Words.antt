@@ -43,7 +43,7 @@ abbrev pub bitPastEnd : List ℕ
 bitPastEnd = said "a bit past the last position of the last cell is set\n" 0 0 0 0
 
 abbrev pub badFlow : List ℕ
-badFlow = said "the burst or the period of a flow is 0, or its repeats are not 1 to 4\n" 0 0 0 0
+badFlow = said "the burst or the period of a flow is not 1 to 65,535, or its repeats are not 1 to 4\n" 0 0 0 0
 
 abbrev pub bigShare : List ℕ
 bigShare = said "the flow needs a share above 65,535 fragments in a superframe, its repeats counted\n" 0 0 0 0

@@ -208,7 +208,7 @@ fn bad_flow(out: &mut [u8], at: usize) -> usize
     say(
         out,
         at,
-        b"the burst or the period of a flow is 0, or its repeats are not 1 to 4\n",
+        b"the burst or the period of a flow is not 1 to 65,535, or its repeats are not 1 to 4\n",
         0,
         0,
         0,

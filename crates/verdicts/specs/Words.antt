@@ -2,7 +2,7 @@
 use Prim.Native.Nat.{ℕ, _+_, _-_, _/_, _%_}
 use mathlib.Core.Bool.{_&&_}
 use mathlib.Core.List.{List, []}
-use lib.Dec.{ltb}
+use lib.Dec.{ltb, eqb}
 use lib.ListN.{getD}
 use Rattle.laws.specs.Choice.{pick}
 use Rattle.site.specs.declared.Site.{Site}
@@ -10,6 +10,8 @@ use Rattle.site.specs.declared.Fault.{Fault}
 use Rattle.site.specs.declared.Fault.the-variants.{Fine, Size, Load, Reach}
 use Rattle.checker.specs.declared.CheckAnswer.{CheckAnswer}
 use Rattle.checker.specs.declared.CheckAnswer.the-variants as check
+use Rattle.mender.specs.declared.MendAnswer.{MendAnswer}
+use Rattle.mender.specs.declared.MendAnswer.the-variants as mend
 use Rattle.planner.specs.declared.PlanAnswer.{PlanAnswer}
 use Rattle.planner.specs.declared.PlanAnswer.the-variants as plan
 use Rattle.shares.specs.declared.ShareAnswer.{ShareAnswer}
@@ -38,6 +40,12 @@ plannedLine cells slots channels = said "planned: @1 cell@a, @2 slot@b, @3 chann
 
 abbrev pub noRoomLine : (cell short : ℕ) → List ℕ
 noRoomLine cell short = said "refused 5, cell @1: no room for @2 of its fragments; duggfrask why says whether the site is full\n" cell short 0 0
+
+abbrev pub unchangedLine : List ℕ
+unchangedLine = said "valid as it is: nothing to change\n" 0 0 0 0
+
+abbrev pub mendedLine : (number : ℕ) → List ℕ
+mendedLine number = said "mended with @1 change@a\n" number 0 0 0
 
 abbrev pub shareLine : (share queue delay : ℕ) → List ℕ
 shareLine share queue delay = said "share @1 fragment@a in a superframe\nqueue at most @2 fragment@b\ndelay at most @3 slot@c\n" share queue delay 0
@@ -99,3 +107,15 @@ shareWords (share.Done s q d) = shareLine (s .0) (q .0) (d .0)
 shareWords share.OutOfRange = refusedLine 1 Nowhere
 shareWords share.BadFlow = refusedLine 15 Nowhere
 shareWords share.BigShare = refusedLine 16 Nowhere
+
+-- how many changes the mender makes; none where the table is valid, which crate `mending` proves
+unfoldable pub changesWords : ℕ → List ℕ
+changesWords number = pick (eqb number 0) unchangedLine (mendedLine number)
+
+-- what the mender answers. Its changes, one by one, are crate `changewords`'
+abbrev pub mendWords : MendAnswer → List ℕ
+mendWords (mend.Done number) = changesWords number
+mendWords mend.TableShort = refusedLine 4 Nowhere
+mendWords (mend.NoRoom cell short) = noRoomLine cell short
+mendWords (mend.ListShort number) = refusedLine 13 Nowhere
+mendWords (mend.Refused f) = faultWords f

@@ -1,5 +1,6 @@
 // The words of the answers that the desk asks for, written into a lent buffer. Each function puts its words at `at` and answers where the next byte goes.
 use checker::CheckAnswer;
+use mender::MendAnswer;
 use planner::PlanAnswer;
 use records::ReadAnswer;
 use refusals::Place;
@@ -9,10 +10,10 @@ use site::Fault;
 use site::Site;
 use speech::say;
 ghost use mathlib.Core.Path.{_≡_};
-ghost use Prim.Native.Nat.{_+_, _≤_, _<_, _-_, _/_, _%_};
-ghost use lib.ListN.{length, getD};
+ghost use Prim.Native.Nat.{_+_, _≤_};
+ghost use lib.ListN.{length};
 ghost use lib.Seq.{sets};
-ghost use Rattle.verdicts.specs.Words.{validLine, clashLine, countLine, plannedLine, noRoomLine, shareLine, otherPlanLine, loadOf, clashWords, faultWords, readWords, planReadWords, sheetWords, checkWords, planWords, shareWords};
+ghost use Rattle.verdicts.specs.Words.{validLine, clashLine, countLine, plannedLine, noRoomLine, unchangedLine, mendedLine, shareLine, otherPlanLine, loadOf, clashWords, faultWords, readWords, planReadWords, sheetWords, checkWords, planWords, shareWords, changesWords, mendWords};
 
 // A valid table.
 fn valid_line(out: &mut [u8], at: usize) -> usize
@@ -94,6 +95,26 @@ fn no_room_line(out: &mut [u8], at: usize, cell: usize, short: usize) -> usize
         0,
         0,
     )
+}
+
+// A table that the mender leaves as it is.
+fn unchanged_line(out: &mut [u8], at: usize) -> usize
+    requires { ⌜ at + 1000 ≤ length (now out) ⌝ }
+    ensures stored { λ r. ⌜ now (out .exit) ≡ sets (now (out .entry)) at unchangedLine ⌝ }
+    ensures next { λ r. ⌜ r ≡ at + length unchangedLine ⌝ }
+    ensures short { λ r. ⌜ r ≤ at + 1000 ⌝ }
+{
+    say(out, at, b"valid as it is: nothing to change\n", 0, 0, 0, 0)
+}
+
+// A table that the mender changes.
+fn mended_line(out: &mut [u8], at: usize, number: usize) -> usize
+    requires { ⌜ at + 1000 ≤ length (now out) ⌝ }
+    ensures stored { λ r. ⌜ now (out .exit) ≡ sets (now (out .entry)) at (mendedLine number) ⌝ }
+    ensures next { λ r. ⌜ r ≡ at + length (mendedLine number) ⌝ }
+    ensures short { λ r. ⌜ r ≤ at + 1000 ⌝ }
+{
+    say(out, at, b"mended with @1 change@a\n", number, 0, 0, 0)
 }
 
 // The share of a flow, and its bounds.
@@ -295,5 +316,34 @@ pub fn check_words(out: &mut [u8], at: usize, site: Site, reply: CheckAnswer) ->
         CheckAnswer::Clash(p, a, c) => clash_words(out, at, a, c, p, site.channels as usize),
         CheckAnswer::Count(cell, times) => count_line(out, at, cell, times, load_of(site, cell)),
         CheckAnswer::Refused(f) => fault_words(out, at, f),
+    }
+}
+
+// How many changes there are, if any.
+fn changes_words(out: &mut [u8], at: usize, number: usize) -> usize
+    requires { ⌜ at + 1000 ≤ length (now out) ⌝ }
+    ensures stored { λ r. ⌜ now (out .exit) ≡ sets (now (out .entry)) at (changesWords number) ⌝ }
+    ensures next { λ r. ⌜ r ≡ at + length (changesWords number) ⌝ }
+    ensures short { λ r. ⌜ r ≤ at + 1000 ⌝ }
+{
+    if number == 0 {
+        return unchanged_line(out, at);
+    }
+    mended_line(out, at, number)
+}
+
+// A table that was mended, or why not.
+pub fn mend_words(out: &mut [u8], at: usize, reply: MendAnswer) -> usize
+    requires { ⌜ at + 2000 ≤ length (now out) ⌝ }
+    ensures stored { λ r. ⌜ now (out .exit) ≡ sets (now (out .entry)) at (mendWords reply) ⌝ }
+    ensures next { λ r. ⌜ r ≡ at + length (mendWords reply) ⌝ }
+    ensures short { λ r. ⌜ r ≤ at + 2000 ⌝ }
+{
+    match reply {
+        MendAnswer::Done(number) => changes_words(out, at, number),
+        MendAnswer::TableShort => refusals::refused(out, at, 4, Place::Nowhere),
+        MendAnswer::NoRoom(cell, short) => no_room_line(out, at, cell, short),
+        MendAnswer::ListShort(_) => refusals::refused(out, at, 13, Place::Nowhere),
+        MendAnswer::Refused(f) => fault_words(out, at, f),
     }
 }

@@ -33,7 +33,7 @@ abbrev pub holdsLine : List ℕ
 holdsLine = said "the load test holds\n" 0 0 0 0
 
 abbrev pub overLine : (cell excess : ℕ) → List ℕ
-overLine cell excess = said "the load test fails: cell @1 is over by @2 fragment@b, and these cells share the air there:\n" cell excess 0 0
+overLine cell excess = said "the load test fails: cell @1 is over by @2 fragment@b; the air there has to carry:\n" cell excess 0 0
 
 abbrev pub airLine : (cell load : ℕ) → List ℕ
 airLine cell load = said "  cell @1, load @2\n" cell load 0 0
@@ -48,7 +48,7 @@ abbrev pub gaveUpLine : (cell short : ℕ) → List ℕ
 gaveUpLine cell short = said "not planned: cell @1 is @2 fragment@b short. This order found no room; the site is not chained, and another order may find room\n" cell short 0 0
 
 abbrev pub leastLine : (n positions : ℕ) → List ℕ
-leastLine n positions = said "@1 channel-slot@a will do, and fewer never will; the site has @2\n" n positions 0 0
+leastLine n positions = said "it takes @1 channel-slot@a, and no fewer; the site has @2\n" n positions 0 0
 
 abbrev pub enoughLine : (n positions : ℕ) → List ℕ
 enoughLine n positions = said "@1 channel-slot@a will do, and fewer may; the site has @2\n" n positions 0 0

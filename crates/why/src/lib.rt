@@ -8,15 +8,14 @@ use speech::say;
 use words::has;
 ghost use mathlib.Core.Path.{_≡_};
 ghost use mathlib.Core.List.{[]};
-ghost use Prim.Native.Nat.{_+_, _*_, _-_, _≤_, _<_};
-ghost use lib.Dec.{ltb};
-ghost use lib.ListN.{length, getD};
+ghost use Prim.Native.Nat.{_+_, _*_, _≤_, _<_};
+ghost use lib.ListN.{length};
 ghost use lib.Seq.{sets};
 ghost use Rattle.laws.specs.Choice.{pick};
 ghost use Rattle.judges.specs.Judges.{loadAnswer};
 ghost use Rattle.judges.specs.declared.LoadAnswer.the-variants.{Over};
 ghost use Rattle.judges.specs.declared.LeastAnswer.the-variants.{Least, Enough};
-ghost use Rattle.why.specs.Words.{chainedLine, brokenLine, holdsLine, overLine, airLine, plannedLine, fullLine, gaveUpLine, leastLine, enoughLine, slotsLine, manySlotsLine, channelsLine, manyChannelsLine, chainWords, aroundIn, airLines, airIn, loadWords, noWords, planWords, fewest, slotsWords, channelsWords, sizesWords, leastWords};
+ghost use Rattle.why.specs.Words.{chainedLine, brokenLine, holdsLine, overLine, airLine, plannedLine, fullLine, gaveUpLine, leastLine, enoughLine, slotsLine, manySlotsLine, channelsLine, manyChannelsLine, chainWords, aroundIn, airIn, loadWords, noWords, planWords, fewest, slotsWords, channelsWords, sizesWords, leastWords};
 
 // A chained site.
 fn chained_line(out: &mut [u8], at: usize) -> usize
@@ -66,7 +65,7 @@ fn over_line(out: &mut [u8], at: usize, cell: usize, excess: usize) -> usize
     say(
         out,
         at,
-        b"the load test fails: cell @1 is over by @2 fragment@b, and these cells share the air there:\n",
+        b"the load test fails: cell @1 is over by @2 fragment@b; the air there has to carry:\n",
         cell,
         excess,
         0,
@@ -140,7 +139,7 @@ fn least_line(out: &mut [u8], at: usize, n: usize, positions: usize) -> usize
     say(
         out,
         at,
-        b"@1 channel-slot@a will do, and fewer never will; the site has @2\n",
+        b"it takes @1 channel-slot@a, and no fewer; the site has @2\n",
         n,
         positions,
         0,

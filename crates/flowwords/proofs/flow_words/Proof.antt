@@ -7,8 +7,8 @@ use Rattle.flowwords.proofs.flow_words.Tie as tie
 share-at-requires : tie.Need-share-at-requires
 share-at-requires c κs = search needs
 
-is-taken-requires : tie.Need-is-taken-requires
-is-taken-requires c κs = search needs
+has-requires : tie.Need-has-requires
+has-requires c κs = search needs
 
 add-taken-line : tie.Need-add-taken-line
 add-taken-line c = search needs
@@ -29,7 +29,7 @@ returns : tie.Need-returns
 returns c =
     let t = c .before .before .before .before .before .before in
     let e = c .before .before .taken-line .ensures in
-    rw (sym (t .before .is-taken .ensures) ∙ t .if1 .taken, ← (t .before .before .share-at .ensures)) (e .0, (e .1 .0, e .1 .1))
+    rw (sym (t .before .has .ensures) ∙ t .if1 .taken, ← (t .before .before .share-at .ensures)) (e .0, (e .1 .0, e .1 .1))
 
 add-left-line : tie.Need-add-left-line
 add-left-line c = search needs
@@ -50,14 +50,14 @@ returns-2 : tie.Need-returns-2
 returns-2 c =
     let t = c .before .before .before .before .before .before in
     let e = c .before .before .left-line .ensures in
-    rw (sym (t .before .is-taken .ensures) ∙ t .if1 .left, ← (t .before .before .share-at .ensures)) (e .0, (e .1 .0, e .1 .1))
+    rw (sym (t .before .has .ensures) ∙ t .if1 .left, ← (t .before .before .share-at .ensures)) (e .0, (e .1 .0, e .1 .1))
 
 pub flow-words-spec : {M : Type 1} → statement M
 flow-words-spec =
     tie.close
     (tie.spec
     share-at-requires
-    is-taken-requires
+    has-requires
     add-taken-line
     cast-taken-line
     cast-taken-line-2

@@ -6,38 +6,26 @@ use borrow.Author.Needs.{needs}
 use Rattle.flowwords.proofs.share_at.Statement.{statement}
 use Rattle.flowwords.proofs.share_at.Tie as tie
 
-cast-t7 : tie.Need-cast-t7
-cast-t7 c = search needs
-
-cast-t9 : tie.Need-cast-t9
-cast-t9 c = search needs
-
-cast-t11 : tie.Need-cast-t11
-cast-t11 c = search needs
-
-share-of-requires : tie.Need-share-of-requires
-share-of-requires c κs = search needs
+share-in-requires : tie.Need-share-in-requires
+share-in-requires c κs = search needs
 
 enum-known-a : tie.Need-enum-known-a
 enum-known-a c = search needs
 
 returns : tie.Need-returns
-returns c = sym (ap amount (sym (c .before .share-of .ensures)) ∙ no-amount (c .before .share-of .result) (c .match .keys2))
+returns c = sym (ap amount (sym (c .before .share-in .ensures)) ∙ no-amount (c .before .share-in .result) (c .match .keys2))
 
 cast-result : tie.Need-cast-result
 cast-result c = search needs
 
 returns-2 : tie.Need-returns-2
-returns-2 c = sym (ap amount (sym (c .before .before .before .before .share-of .ensures) ∙ c .before .before .a .given .1))
+returns-2 c = sym (ap amount (sym (c .before .before .before .before .share-in .ensures) ∙ c .before .before .a .given .1))
 
 pub share-at-spec : {M : Type 1} → statement M
 share-at-spec =
     tie.close
     (tie.spec
-    cast-t7
-    cast-t9
-    cast-t11
-    share-of-requires
+    share-in-requires
     enum-known-a
     returns
     cast-result

@@ -1,7 +1,5 @@
--- `lister::main` is safe: what `head` ensures of its answer keeps the writes within the buffers. Assumes nothing.
-use mathlib.Core.Path.{sym}
+-- `lister::main` is safe: what `head` ensures of its answer keeps the rows within the table. Assumes nothing.
 use native.Mathlib.Omega.{arith}
-use lib.Seq.{length-take-le}
 use borrow.Author.Needs.{needs}
 use Rattle.lister.proofs.main.Statement.{statement}
 use Rattle.lister.proofs.main.Tie as tie
@@ -36,14 +34,11 @@ slice-aggregate-head-3 c = search needs
 head-requires : tie.Need-head-requires
 head-requires c κs = search needs
 
-array-share-prefix-out : tie.Need-array-share-prefix-out
-array-share-prefix-out c = search needs
+slice-aggregate-result : tie.Need-slice-aggregate-result
+slice-aggregate-result c = search needs
 
-slice-aggregate-write-all : tie.Need-slice-aggregate-write-all
-slice-aggregate-write-all c = sym (length-take-le _ _ (array-share-prefix-out (c .before)))
-
-write-all-requires : tie.Need-write-all-requires
-write-all-requires c κs = search needs
+result-requires : tie.Need-result-requires
+result-requires c κs = search needs
 
 slice-aggregate-print-rows : tie.Need-slice-aggregate-print-rows
 slice-aggregate-print-rows c = search needs
@@ -56,8 +51,26 @@ print-rows-requires c κs =
     let f = c .before .before .before .before .before .before .head .ensures .1 .1 .1 in
     ((f .few, f .narrow, omega (arith, f .within), f .some), omega arith)
 
+slice-aggregate-tell : tie.Need-slice-aggregate-tell
+slice-aggregate-tell c = search needs
+
+array-share-prefix-input-2 : tie.Need-array-share-prefix-input-2
+array-share-prefix-input-2 c = search needs
+
+slice-aggregate-tell-2 : tie.Need-slice-aggregate-tell-2
+slice-aggregate-tell-2 c = search needs
+
+tell-requires : tie.Need-tell-requires
+tell-requires c κs = search needs
+
 returns : tie.Need-returns
 returns c = search needs
+
+unwritten-requires : tie.Need-unwritten-requires
+unwritten-requires c κs = search needs
+
+returns-2 : tie.Need-returns-2
+returns-2 c = search needs
 
 pub main-spec : {M : Type 1} → statement M
 main-spec =
@@ -73,10 +86,15 @@ main-spec =
     slice-aggregate-head-2
     slice-aggregate-head-3
     head-requires
-    array-share-prefix-out
-    slice-aggregate-write-all
-    write-all-requires
+    slice-aggregate-result
+    result-requires
     slice-aggregate-print-rows
     slice-aggregate-print-rows-2
     print-rows-requires
-    returns)
+    slice-aggregate-tell
+    array-share-prefix-input-2
+    slice-aggregate-tell-2
+    tell-requires
+    returns
+    unwritten-requires
+    returns-2)

@@ -1,10 +1,10 @@
 -- `lister::print_rows` is safe and ends: each row stands within the table. Assumes nothing.
 use Prim.Native.Nat.{suc, _-_, _≤_}
-use mathlib.Core.Path.{_≡_, refl, sym, _∙_}
+use mathlib.Core.Path.{_≡_, refl, _∙_}
 use native.Mathlib.Nat.{mul-le-mul-right, suc-mul}
 use native.Mathlib.Omega.{arith}
 use lib.ListN.{length}
-use lib.Seq.{length-take-le}
+use borrow.Author.Needs.{needs}
 use Rattle.lister.proofs.print_rows.Statement.{statement}
 use Rattle.lister.proofs.print_rows.Tie as tie
 
@@ -28,14 +28,14 @@ row-line-requires c κs =
     let q = s .pre .0 in
     ((q .3 (omega arith), q .1), ((omega (arith, q .0), omega (arith, rows, row, q .2)), omega (arith, s .pre .1, l .inv .1)))
 
-slice-reshare-prefix-write-all : tie.Need-slice-reshare-prefix-write-all Inv-loop μ-loop
-slice-reshare-prefix-write-all c = c .before .before .row-line .ensures .1 .1
+result-requires : tie.Need-result-requires Inv-loop μ-loop
+result-requires c κs = search needs
 
-slice-aggregate-write-all : tie.Need-slice-aggregate-write-all Inv-loop μ-loop
-slice-aggregate-write-all c = sym (length-take-le _ _ (c .before .before .before .row-line .ensures .1 .1))
+same-length : tie.Need-same-length Inv-loop μ-loop
+same-length c = c .before .before .before .before .before .row-line .kept .0 ∙ c .before .before .before .before .before .before .before .before .loop .inv .1
 
-write-all-requires : tie.Need-write-all-requires Inv-loop μ-loop
-write-all-requires c κs = tt
+returns : tie.Need-returns Inv-loop μ-loop
+returns c = search needs
 
 add-i : tie.Need-add-i Inv-loop μ-loop
 add-i c = omega arith
@@ -44,13 +44,13 @@ loop-less : tie.Need-loop-less Inv-loop μ-loop
 loop-less c = omega arith
 
 loop-again : tie.Need-loop-again Inv-loop μ-loop
-loop-again c = (omega arith, c .before .before .before .before .row-line .kept .0 ∙ c .before .before .before .before .before .before .before .loop .inv .1)
+loop-again c = (omega arith, c .before .before .before .before .before .row-line .kept .0 ∙ c .before .before .before .before .before .before .before .before .loop .inv .1)
 
-same-length : tie.Need-same-length Inv-loop μ-loop
-same-length c = c .before .loop .inv .1
+same-length-2 : tie.Need-same-length-2 Inv-loop μ-loop
+same-length-2 c = c .before .loop .inv .1
 
-returns : tie.Need-returns Inv-loop μ-loop
-returns c = tt
+returns-2 : tie.Need-returns-2 Inv-loop μ-loop
+returns-2 c = search needs
 
 pub print-rows-spec : {M : Type 1} → statement M
 print-rows-spec =
@@ -60,11 +60,11 @@ print-rows-spec =
     μ-loop
     loop-holds
     row-line-requires
-    slice-reshare-prefix-write-all
-    slice-aggregate-write-all
-    write-all-requires
+    result-requires
+    same-length
+    returns
     add-i
     loop-less
     loop-again
-    same-length
-    returns)
+    same-length-2
+    returns-2)

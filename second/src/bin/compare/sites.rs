@@ -12,6 +12,11 @@ pub fn sound_site(random: &mut Random) -> Site {
         17..=32 => (random.between(6, 32), random.between(1, 6), 1),
         _ => (random.between(1, 5), random.between(1, 4), random.between(1, 3)),
     };
+    sized_site(random, cells, slots, channels)
+}
+
+/// A site of these sizes whose record has no fault.
+pub fn sized_site(random: &mut Random, cells: usize, slots: usize, channels: usize) -> Site {
     let mut site = Site::sized(cells, slots, channels);
     set_reach(random, &mut site);
     set_loads(random, &mut site);

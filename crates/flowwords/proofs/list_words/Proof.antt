@@ -1,4 +1,4 @@
--- `flowwords::flow_lines` meets its contract: before flow k, the lines of the flows before it are stored. Assumes nothing.
+-- `flowwords::list_words` meets its contract: before flow k, the lines of the flows before it are stored. Assumes nothing.
 use Prim.Native.Nat.{ℕ, _+_, _*_, _-_, _≤_}
 use mathlib.Core.Path.{_≡_, refl, sym, ap, _∙_}
 use native.Mathlib.Nat.{add-zero}
@@ -8,15 +8,15 @@ use lib.Seq.{sets, length-sets}
 use Rattle.laws.proofs.Stores.{sets-append}
 use Rattle.flowlist.specs.List.{none}
 use Rattle.flowlist.specs.declared.Flow.{Flow}
-use Rattle.flowwords.specs.Words.{flowWords, flowLines}
-use Rattle.flowwords.proofs.Flows.{lines-more}
+use Rattle.flowwords.specs.Words.{flowWords, listWords}
+use Rattle.flowwords.proofs.Flows.{list-more}
 use borrow.Author.Needs.{needs}
-use Rattle.flowwords.proofs.flow_lines.Statement.{statement}
-use Rattle.flowwords.proofs.flow_lines.Tie as tie
+use Rattle.flowwords.proofs.list_words.Statement.{statement}
+use Rattle.flowwords.proofs.list_words.Tie as tie
 
 abbrev Inv-loop : tie.InvT-loop
 Inv-loop out₀ at slots set count list next₀ k₀ out next k =
-    (k ≤ count) × (out ≡ sets out₀ at (flowLines slots set (λ i. getD list i none) k)) × (next ≡ at + length (flowLines slots set (λ i. getD list i none) k)) × (next ≤ at + 600 * k)
+    (k ≤ count) × (out ≡ sets out₀ at (listWords slots set (λ i. getD list i none) k)) × (next ≡ at + length (listWords slots set (λ i. getD list i none) k)) × (next ≤ at + 600 * k)
 
 abbrev μ-loop : tie.MeasureT-loop
 μ-loop out₀ at slots set count list next₀ k₀ out next k = count - k
@@ -25,10 +25,10 @@ abbrev μ-loop : tie.MeasureT-loop
 long : (l : tie.At-loop Inv-loop μ-loop) → length (l .loop .out) ≡ length (l .before .before .before .args .out .now)
 long l =
     let s = l .before .before .before in
-    ap length (l .loop .inv .1) ∙ length-sets (s .args .out .now) (s .args .at) (flowLines (s .args .slots) (s .args .set) (λ i. getD (s .args .l .list) i none) (l .loop .k))
+    ap length (l .loop .inv .1) ∙ length-sets (s .args .out .now) (s .args .at) (listWords (s .args .slots) (s .args .set) (λ i. getD (s .args .l .list) i none) (l .loop .k))
 
 loop-holds : tie.Need-loop-holds Inv-loop μ-loop
-unfolding flowLines
+unfolding listWords
 loop-holds c = (omega arith, refl, sym (add-zero _), omega arith)
 
 mul-flow-words : tie.Need-mul-flow-words Inv-loop μ-loop
@@ -57,10 +57,10 @@ loop-again c =
     let at = s .args .at in
     let k = l .loop .k in
     let flow : ℕ → Flow = λ i. getD (s .args .l .list) i none in
-    let so-far = flowLines (s .args .slots) (s .args .set) flow k in
+    let so-far = listWords (s .args .slots) (s .args .set) flow k in
     let here = flowWords (s .args .slots) (s .args .set) (flow k) k in
     let e = c .before .before .flow-words .ensures in
-    let more = lines-more (s .args .slots) (s .args .set) flow k in
+    let more = list-more (s .args .slots) (s .args .set) flow k in
     let put : l .loop .out ≡ sets out at so-far = l .loop .inv .1 in
     let next : l .loop .next ≡ at + length so-far = l .loop .inv .2 in (
       omega arith,
@@ -79,8 +79,8 @@ returns c =
     let e : l .loop .k ≡ s .args .count = omega arith in
     (rw e at (l .loop .inv .1), (rw e at (l .loop .inv .2), rw e at (l .loop .inv .3)))
 
-pub flow-lines-spec : {M : Type 1} → statement M
-flow-lines-spec =
+pub list-words-spec : {M : Type 1} → statement M
+list-words-spec =
     tie.close
     (tie.spec
     Inv-loop

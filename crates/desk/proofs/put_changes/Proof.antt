@@ -1,0 +1,69 @@
+-- `desk::put_changes` is safe and ends. Assumes nothing.
+use Prim.Native.Nat.{_-_, _≤_}
+use mathlib.Core.Path.{_≡_, refl, _∙_}
+use native.Mathlib.Omega.{arith}
+use lib.ListN.{length}
+use borrow.Author.Needs.{needs}
+use Rattle.desk.proofs.put_changes.Statement.{statement}
+use Rattle.desk.proofs.put_changes.Tie as tie
+
+abbrev Inv-loop : tie.InvT-loop
+Inv-loop old new words₀ cells slots channels at₀ i₀ words at i = (i ≤ cells) × (length words ≡ length words₀)
+
+abbrev μ-loop : tie.MeasureT-loop
+μ-loop old new words₀ cells slots channels at₀ i₀ words at i = cells - i
+
+cast-cells : tie.Need-cast-cells Inv-loop μ-loop
+cast-cells c = search needs
+
+cast-slots : tie.Need-cast-slots Inv-loop μ-loop
+cast-slots c = search needs
+
+cast-channels : tie.Need-cast-channels Inv-loop μ-loop
+cast-channels c = search needs
+
+returns : tie.Need-returns Inv-loop μ-loop
+returns c = search needs
+
+loop-holds : tie.Need-loop-holds Inv-loop μ-loop
+loop-holds c = (omega arith, refl)
+
+add-put-row : tie.Need-add-put-row Inv-loop μ-loop
+add-put-row c = search needs
+
+put-row-requires : tie.Need-put-row-requires Inv-loop μ-loop
+put-row-requires c κs = (omega (arith, c .before .before .before .before .before .before .before .before .before .before .pre, c .before .before .loop .inv .1), omega arith)
+
+add-i : tie.Need-add-i Inv-loop μ-loop
+add-i c = omega arith
+
+loop-less : tie.Need-loop-less Inv-loop μ-loop
+loop-less c = omega arith
+
+loop-again : tie.Need-loop-again Inv-loop μ-loop
+loop-again c = (omega arith, c .before .before .put-row .kept .1 .1 .0 ∙ c .before .before .before .before .before .loop .inv .1)
+
+same-length : tie.Need-same-length Inv-loop μ-loop
+same-length c = c .before .loop .inv .1
+
+returns-2 : tie.Need-returns-2 Inv-loop μ-loop
+returns-2 c = search needs
+
+pub put-changes-spec : {M : Type 1} → statement M
+put-changes-spec =
+    tie.close
+    (tie.spec
+    Inv-loop
+    μ-loop
+    cast-cells
+    cast-slots
+    cast-channels
+    returns
+    loop-holds
+    add-put-row
+    put-row-requires
+    add-i
+    loop-less
+    loop-again
+    same-length
+    returns-2)

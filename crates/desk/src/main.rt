@@ -1,0 +1,452 @@
+// The desk's program, run by the script `duggfrask`, whose head says how the two speak: argument 1 is the command, and its numbers follow; the first input is on
+// standard input, the second on descriptor 4. What it says and writes is made by proved functions over slices; here it is only read and written, by way of `reply`.
+//
+// Every buffer has 65,536 bytes: the table of the largest site has as many, 32 cells by 2,048 positions. What is said at once has far fewer, and so has every good input. Of a longer one only
+// the first 65,536 bytes are read, and they are refused.
+use admission::AdmitAnswer;
+use checker::CheckAnswer;
+use flowlist::FlowList;
+use flowsheet::FlowsAnswer;
+use libc::STDIN_FILENO;
+use mender::MendAnswer;
+use planfile::PlanRead;
+use planfile::PlanWritten;
+use planner::PlanAnswer;
+use records::ReadAnswer;
+use reply::no;
+use reply::yes;
+use shares::Fragments;
+use shares::Repeats;
+use shares::ShareAnswer;
+use shares::Slots;
+use sheet::SheetAnswer;
+use sheet::SheetWritten;
+use site::Site;
+use sitefile::SiteWritten;
+ghost use mathlib.Core.Path.{_≡_};
+ghost use mathlib.Core.Bool.{true, _&&_};
+ghost use Prim.Native.Nat.{_+_, _≤_};
+ghost use lib.Dec.{eqb};
+ghost use lib.ListN.{length};
+
+const SECOND: i32 = 4;
+
+// A site file that was refused.
+fn refuse(words: &mut [u8], answer: ReadAnswer)
+    requires { ⌜ 65536 ≤ length (now words) ⌝ }
+{
+    let end = verdicts::read_words(words, 0, answer);
+    no(words, end);
+}
+
+// A table as a plan file, with the words; whether it was written.
+fn put_plan(site: Site, table: &[u8], out: &mut [u8]) -> bool {
+    let written = planfile::write_plan(site, table, out);
+    let PlanWritten::Done(size) = written else {
+        return false;
+    };
+    reply::result(out, size)
+}
+
+// Plans a site: the plan file, and a line that says what was planned.
+fn plan(input: &[u8], table: &mut [u8], out: &mut [u8], words: &mut [u8])
+    requires { ⌜ 65536 ≤ length (now words) ⌝ }
+{
+    let read = sitefile::read_site(input);
+    let answer = read.answer;
+    let site = read.site;
+    let ReadAnswer::Done = answer else {
+        refuse(words, answer);
+        return;
+    };
+    let planned = planner::plan(site, table);
+    let end = verdicts::plan_words(words, 0, site, planned);
+    let PlanAnswer::Done = planned else {
+        no(words, end);
+        return;
+    };
+    if !put_plan(site, table, out) {
+        reply::unwritten();
+        return;
+    }
+    reply::words(words, end);
+    reply::done();
+}
+
+// Whether a plan is of the site's size.
+fn same_size(site: Site, plan: PlanRead) -> bool
+    ensures { λ r. ⌜ r ≡ (eqb (site .cells) (plan .cells) && (eqb (site .slots) (plan .slots) && eqb (site .channels) (plan .channels))) ⌝ }
+{
+    if site.cells != plan.cells {
+        return false;
+    }
+    if site.slots != plan.slots {
+        return false;
+    }
+    site.channels == plan.channels
+}
+
+// A site, and whether the plan that was read into a table goes with it. Where it does not, or one of the two is refused, the words are said.
+struct Pair {
+    site: Site,
+    good: bool,
+}
+
+// The site file, and the plan file, which goes into the table.
+fn read_pair(input: &[u8], second: &[u8], table: &mut [u8], words: &mut [u8]) -> Pair
+    requires { ⌜ 65536 ≤ length (now words) ⌝ }
+{
+    let read = sitefile::read_site(input);
+    let answer = read.answer;
+    let site = read.site;
+    let ReadAnswer::Done = answer else {
+        refuse(words, answer);
+        return Pair { site, good: false };
+    };
+    let plan = planfile::read_plan(second, table);
+    let plan_answer = plan.answer;
+    let ReadAnswer::Done = plan_answer else {
+        let end = verdicts::plan_read_words(words, 0, plan_answer);
+        no(words, end);
+        return Pair { site, good: false };
+    };
+    if same_size(site, plan) {
+        return Pair { site, good: true };
+    }
+    let end = verdicts::other_plan_line(
+        words,
+        0,
+        plan.cells as usize,
+        plan.slots as usize,
+        plan.channels as usize,
+    );
+    no(words, end);
+    Pair { site, good: false }
+}
+
+// Checks a plan file: valid, or the first thing wrong.
+fn check(input: &[u8], second: &[u8], table: &mut [u8], words: &mut [u8])
+    requires { ⌜ 65536 ≤ length (now words) ⌝ }
+{
+    let pair = read_pair(input, second, table, words);
+    if !pair.good {
+        return;
+    }
+    let site = pair.site;
+    let verdict = checker::check(site, table);
+    let end = verdicts::check_words(words, 0, site, verdict);
+    let CheckAnswer::Valid = verdict else {
+        no(words, end);
+        return;
+    };
+    yes(words, end, b"", 0);
+}
+
+// Whether a table has so many bytes at a place.
+fn holds(table: &[u8], at: usize, many: usize) -> bool
+    ensures { λ r. ⌜ (r ≡ true → at + many ≤ length (now (table .entry))) ⌝ }
+{
+    if table.len() < at {
+        return false;
+    }
+    many <= table.len() - at
+}
+
+// The changes of a cell in words, a slot at a time, where its bytes begin at `from` in both tables; answers where those of the next cell begin. Where a table ended before, it would stop there.
+fn put_row(
+    old: &[u8],
+    new: &[u8],
+    words: &mut [u8],
+    from: usize,
+    slots: usize,
+    channels: usize,
+    cell: usize,
+) -> usize
+    requires { ⌜ (65536 ≤ length (now words)) × (channels ≤ 16) ⌝ }
+{
+    let mut at = from;
+    for slot in 0..slots {
+        if !holds(old, at, channels) {
+            return at;
+        }
+        if !holds(new, at, channels) {
+            return at;
+        }
+        let end = changewords::slot_words(words, 0, old, new, at, channels, cell, slot + 1);
+        reply::words(words, end);
+        at += channels;
+    }
+    at
+}
+
+// Each change in words, cell by cell. A site that was read has at most 16 channels, and both tables have its size.
+fn put_changes(old: &[u8], new: &[u8], words: &mut [u8], site: Site)
+    requires { ⌜ 65536 ≤ length (now words) ⌝ }
+{
+    let cells = site.cells as usize;
+    let slots = site.slots as usize;
+    let channels = site.channels as usize;
+    if 16 < channels {
+        return;
+    }
+    let mut at: usize = 0;
+    for i in 0..cells {
+        at = put_row(old, new, words, at, slots, channels, i + 1);
+    }
+}
+
+// A mended plan: the plan file, the words so far, and each change.
+fn put_mended(site: Site, old: &[u8], table: &[u8], out: &mut [u8], words: &mut [u8], end: usize)
+    requires { ⌜ 65536 ≤ length (now words) ⌝ }
+{
+    if !put_plan(site, table, out) {
+        reply::unwritten();
+        return;
+    }
+    reply::words(words, end);
+    put_changes(old, table, words, site);
+    reply::done();
+}
+
+// Mends a plan. It is read twice: one table is mended, and the other keeps what it was.
+fn mend(
+    input: &[u8],
+    second: &[u8],
+    old: &mut [u8],
+    table: &mut [u8],
+    out: &mut [u8],
+    words: &mut [u8],
+)
+    requires { ⌜ 65536 ≤ length (now words) ⌝ }
+{
+    let pair = read_pair(input, second, old, words);
+    if !pair.good {
+        return;
+    }
+    let site = pair.site;
+    planfile::read_plan(second, table);
+    let mended = mender::mend_only(site, table);
+    let end = verdicts::mend_words(words, 0, mended);
+    let MendAnswer::Done(_) = mended else {
+        no(words, end);
+        return;
+    };
+    put_mended(site, old, table, out, words, end);
+}
+
+// The verdicts on a site, in words.
+fn why(input: &[u8], table: &mut [u8], words: &mut [u8])
+    requires { ⌜ 65536 ≤ length (now words) ⌝ }
+{
+    let read = sitefile::read_site(input);
+    let answer = read.answer;
+    let site = read.site;
+    let ReadAnswer::Done = answer else {
+        refuse(words, answer);
+        return;
+    };
+    let judge = judges::chain(site);
+    let load = why::chain_words(words, 0, judge);
+    let plan = why::load_words(words, load, site);
+    let least = why::plan_words(words, plan, judge, planner::plan(site, table));
+    let end = why::least_words(words, least, site, judges::least(site));
+    yes(words, end, b"", 0);
+}
+
+// A site as a range sheet.
+fn sheet(input: &[u8], out: &mut [u8], words: &mut [u8])
+    requires { ⌜ 65536 ≤ length (now words) ⌝ }
+{
+    let read = sitefile::read_site(input);
+    let answer = read.answer;
+    let site = read.site;
+    let ReadAnswer::Done = answer else {
+        refuse(words, answer);
+        return;
+    };
+    let written = sheet::write_sheet(site, out);
+    let SheetWritten::Done(size) = written else {
+        reply::unwritten();
+        return;
+    };
+    yes(out, size, b"", 0);
+}
+
+// A range sheet as a site file, with slots and channels.
+fn site(input: &[u8], slots: u16, channels: u16, out: &mut [u8], words: &mut [u8])
+    requires { ⌜ 65536 ≤ length (now words) ⌝ }
+{
+    let read = sheet::read_sheet(input, slots, channels);
+    let answer = read.answer;
+    let site = read.site;
+    let end = verdicts::sheet_words(words, 0, answer);
+    let SheetAnswer::Done = answer else {
+        no(words, end);
+        return;
+    };
+    let written = sitefile::write_site(site, out);
+    let SiteWritten::Done(size) = written else {
+        reply::unwritten();
+        return;
+    };
+    yes(out, size, b"", 0);
+}
+
+// The share of a flow; one that says nothing of repeats has the default.
+fn share_of(slots: u16, burst: u16, period: u16) -> ShareAnswer {
+    let t = Slots(slots as u32);
+    let c = Fragments(burst as u32);
+    let p = Slots(period as u32);
+    if os::arg_count() < 6 {
+        return shares::share(t, c, p);
+    }
+    shares::share_of(t, c, p, Repeats(number(5) as u32))
+}
+
+// The share of a flow, in words.
+fn share(slots: u16, burst: u16, period: u16, words: &mut [u8])
+    requires { ⌜ 65536 ≤ length (now words) ⌝ }
+{
+    let answer = share_of(slots, burst, period);
+    let end = verdicts::share_words(words, 0, answer);
+    let ShareAnswer::Done(_, _, _) = answer else {
+        no(words, end);
+        return;
+    };
+    yes(words, end, b"", 0);
+}
+
+// Which of the flows to take, a line for each.
+fn decide(site: Site, flows: FlowList, words: &mut [u8])
+    requires { ⌜ (65536 ≤ length (now words)) × (flows .count ≤ 16) ⌝ }
+{
+    let count = flows.count;
+    let answer = admission::decide(site, flows, count);
+    let end = flowwords::admit_words(words, 0, site, flows, count, answer);
+    let AdmitAnswer::Admitted(_) = answer else {
+        no(words, end);
+        return;
+    };
+    yes(words, end, b"", 0);
+}
+
+// Whether an input was read to its end: one more read finds nothing, and does not fail. A sheet of flows may end after any line, so what a failing read cut off would pass for a shorter sheet; every
+// other file says how long it is.
+fn ended(fd: i32) -> bool {
+    let mut more = [0u8; 1];
+    libc::read(fd, &mut more) == 0
+}
+
+// Which flows of a sheet to take.
+fn admit(input: &[u8], second: &[u8], words: &mut [u8])
+    requires { ⌜ 65536 ≤ length (now words) ⌝ }
+{
+    let read = sitefile::read_site(input);
+    let answer = read.answer;
+    let site = read.site;
+    let ReadAnswer::Done = answer else {
+        refuse(words, answer);
+        return;
+    };
+    let flows = flowsheet::read_flows(second);
+    let said = flows.answer;
+    let FlowsAnswer::Done = said else {
+        let end = flowwords::flow_sheet_words(words, 0, said);
+        no(words, end);
+        return;
+    };
+    if !ended(SECOND) {
+        no(
+            b"duggfrask: the sheet of flows could not be read to its end\n",
+            59,
+        );
+        return;
+    }
+    decide(site, flows.flows, words);
+}
+
+// Argument i, with zeros after it: a command has at most 5 letters, and a number at most 5 digits. Of a longer one the first 8 bytes are here, and no zero ends them.
+fn word(i: usize) -> [u8; 8] {
+    let mut word = [0u8; 8];
+    os::arg(i, &mut word);
+    word
+}
+
+// Argument i as a number; 0 where it is none up to 65,535. No call takes 0 for slots, channels, a burst, a period or repeats.
+fn number(i: usize) -> u16 {
+    let word = word(i);
+    let read = lines::read_number(&word, 0, 65535);
+    let value = read.value;
+    if 8 < lines::eat(&word, read.next, 0) {
+        return 0;
+    }
+    if 65535 < value {
+        return 0;
+    }
+    value as u16
+}
+
+// Whether a word is this name, with a zero after it.
+fn is(word: &[u8], name: &[u8]) -> bool {
+    lines::eat_text(word, 0, name) == name.len()
+}
+
+// The command: 0 where there is none of that name.
+fn command() -> u8 {
+    let word = word(1);
+    if is(&word, b"plan\0") {
+        return 1;
+    }
+    if is(&word, b"check\0") {
+        return 2;
+    }
+    if is(&word, b"why\0") {
+        return 3;
+    }
+    if is(&word, b"sheet\0") {
+        return 4;
+    }
+    if is(&word, b"site\0") {
+        return 5;
+    }
+    if is(&word, b"share\0") {
+        return 6;
+    }
+    if is(&word, b"mend\0") {
+        return 7;
+    }
+    if is(&word, b"admit\0") {
+        return 8;
+    }
+    0
+}
+
+// Reads the inputs, and does what the command says.
+fn main() {
+    let mut input = io::large_buffer();
+    let n = io::read_full(STDIN_FILENO, &mut input);
+    let mut second = io::large_buffer();
+    let m = io::read_full(SECOND, &mut second);
+    let mut table = io::large_buffer();
+    let mut old = io::large_buffer();
+    let mut out = io::large_buffer();
+    let mut words = io::large_buffer();
+    match command() {
+        1 => plan(&input[..n], &mut table, &mut out, &mut words),
+        2 => check(&input[..n], &second[..m], &mut table, &mut words),
+        3 => why(&input[..n], &mut table, &mut words),
+        4 => sheet(&input[..n], &mut out, &mut words),
+        5 => site(&input[..n], number(2), number(3), &mut out, &mut words),
+        6 => share(number(2), number(3), number(4), &mut words),
+        7 => mend(
+            &input[..n],
+            &second[..m],
+            &mut old,
+            &mut table,
+            &mut out,
+            &mut words,
+        ),
+        8 => admit(&input[..n], &second[..m], &mut words),
+        _ => no(b"duggfrask: there is no such command\n", 36),
+    }
+}

@@ -1,0 +1,60 @@
+// How a program answers the script `duggfrask`, whose head says what stands on which descriptor: the result on standard output, words on standard error, and the status, one
+// byte, on descriptor 3. What is written is no value, so these functions have no contract but that they are safe.
+use libc::STDERR_FILENO;
+use libc::STDOUT_FILENO;
+ghost use Prim.Native.Nat.{_≤_};
+ghost use lib.ListN.{length};
+
+const STATUS: i32 = 3;
+
+// As much of a buffer as there is.
+fn within(end: usize, buffer: &[u8]) -> usize
+    ensures { λ r. ⌜ r ≤ length (now (buffer .entry)) ⌝ }
+{
+    if buffer.len() < end {
+        return buffer.len();
+    }
+    end
+}
+
+// Writes the first bytes of a buffer; whether all of them were written.
+fn put(fd: i32, buffer: &[u8], end: usize) -> bool {
+    let end = within(end, buffer);
+    io::write_all(fd, &buffer[..end])
+}
+
+// The first bytes of a buffer, as a part of the result; whether all of them were written.
+pub fn result(bytes: &[u8], end: usize) -> bool {
+    put(STDOUT_FILENO, bytes, end)
+}
+
+// The first bytes of a buffer, as words.
+pub fn words(text: &[u8], end: usize) {
+    put(STDERR_FILENO, text, end);
+}
+
+// Done, or yes.
+pub fn done() {
+    put(STATUS, b"0", 1);
+}
+
+// No, or refused, and the words that say why.
+pub fn no(text: &[u8], end: usize) {
+    words(text, end);
+    put(STATUS, b"1", 1);
+}
+
+// A result that could not be written whole is none.
+pub fn unwritten() {
+    no(b"duggfrask: the result could not be written\n", 43);
+}
+
+// Done, or yes: the result, then the words.
+pub fn yes(bytes: &[u8], size: usize, text: &[u8], end: usize) {
+    if !result(bytes, size) {
+        unwritten();
+        return;
+    }
+    words(text, end);
+    done();
+}
