@@ -68,6 +68,15 @@ static uint32_t loaded_cells(const dugg_site *s)
     return cells;
 }
 
+/* The record's faults; where there is none, the clash masks. */
+static dugg_answer judged(const dugg_site *s, uint32_t mask[CELLS])
+{
+    dugg_answer f = fault(s);
+    if (f.number == 0)
+        clash_masks(s, mask);
+    return f;
+}
+
 /* The load of a cell, and the loads of its lower-numbered clashing cells. */
 static uint32_t sum_at(const dugg_site *s, const uint32_t mask[CELLS], unsigned i)
 {
@@ -79,11 +88,10 @@ static uint32_t sum_at(const dugg_site *s, const uint32_t mask[CELLS], unsigned 
 
 dugg_answer NAME(load_test)(dugg_site site)
 {
-    dugg_answer f = fault(&site);
+    uint32_t mask[CELLS];
+    dugg_answer f = judged(&site, mask);
     if (f.number != 0)
         return f;
-    uint32_t mask[CELLS];
-    clash_masks(&site, mask);
     uint32_t room = positions_of(&site);
     for (unsigned i = 0; i < site.cells; i++) {
         if (site.loads[i] == 0)
@@ -114,21 +122,19 @@ static dugg_answer first_gap(const uint32_t mask[CELLS], uint32_t loaded)
 
 dugg_answer NAME(chain)(dugg_site site)
 {
-    dugg_answer f = fault(&site);
+    uint32_t mask[CELLS];
+    dugg_answer f = judged(&site, mask);
     if (f.number != 0)
         return f;
-    uint32_t mask[CELLS];
-    clash_masks(&site, mask);
     return first_gap(mask, loaded_cells(&site));
 }
 
 dugg_answer NAME(least)(dugg_site site)
 {
-    dugg_answer f = fault(&site);
+    uint32_t mask[CELLS];
+    dugg_answer f = judged(&site, mask);
     if (f.number != 0)
         return f;
-    uint32_t mask[CELLS];
-    clash_masks(&site, mask);
     uint32_t loaded = loaded_cells(&site), most = 0;
     for (uint32_t left = loaded; left != 0; left &= left - 1) {
         uint32_t sum = sum_at(&site, mask, __builtin_ctz(left));

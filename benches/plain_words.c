@@ -82,14 +82,19 @@ dugg_answer NAME(check_words)(dugg_site site, const uint32_t *words, size_t coun
     return answer(0, 0, 0, 0);
 }
 
+/* The same for a table and its words. */
+static dugg_answer form_fault(const dugg_site *s, size_t len, size_t count)
+{
+    dugg_answer f = words_fault(s, count);
+    return f.number != 0 || len >= s->cells * positions_of(s) ? f : answer(4, 0, 0, 0);
+}
+
 dugg_answer NAME(to_words)(dugg_site site, const uint8_t *table, size_t len, uint32_t *words, size_t count)
 {
-    dugg_answer f = words_fault(&site, count);
+    dugg_answer f = form_fault(&site, len, count);
     if (f.number != 0)
         return f;
     size_t n = positions_of(&site);
-    if (len < site.cells * n)
-        return answer(4, 0, 0, 0);
     memset(words, 0, n * sizeof words[0]);
     for (unsigned i = 0; i < site.cells; i++)
         gather(words, table + i * n, n, i);
@@ -105,12 +110,10 @@ static void spread(uint8_t *restrict row, const uint32_t *restrict words, size_t
 
 dugg_answer NAME(to_bytes)(dugg_site site, const uint32_t *words, size_t count, uint8_t *table, size_t len)
 {
-    dugg_answer f = words_fault(&site, count);
+    dugg_answer f = form_fault(&site, len, count);
     if (f.number != 0)
         return f;
     size_t n = positions_of(&site);
-    if (len < site.cells * n)
-        return answer(4, 0, 0, 0);
     for (unsigned i = 0; i < site.cells; i++)
         spread(table + i * n, words, n, i);
     return answer(0, 0, 0, 0);

@@ -55,6 +55,15 @@ pub fn tunnel(cells: u16, slots: u16, channels: u16) -> Site {
     site
 }
 
+/// A site of three cells with each fault of a record: a load and a reach too many, a size out of range in three ways.
+pub fn wrong_sites(three_cells: Site) -> [Site; 5] {
+    let mut load = three_cells;
+    load.loads[3] = 1;
+    let mut reach = three_cells;
+    reach.reach[2] |= 1 << 2;
+    [load, reach, Site { slots: 129, ..three_cells }, Site { cells: 0, ..three_cells }, Site::default()]
+}
+
 /// All cells clash and have the greatest load, so that sums of loads go far above 65,535.
 fn largest_sums(run: &mut Run) {
     let mut site = Site { loads: [65_535; 32], ..Site::sized(32, 128, 16) };

@@ -2,7 +2,7 @@
 //! 255; lists with room for no change, for all changes and for one less; loads above N; the tables of the desk
 //! examples; and every table of small sites.
 
-use crate::boundary::{tunnel, CELLS, CHANNELS, SLOTS};
+use crate::boundary::{tunnel, wrong_sites, CELLS, CHANNELS, SLOTS};
 use crate::case::{Call, Case};
 use crate::run::Run;
 use second::site::Site;
@@ -88,13 +88,9 @@ fn desk(run: &mut Run) {
 /// The record's faults, then 4, then 5, then 13.
 fn faults(run: &mut Run) {
     let fine = tunnel(3, 3, 2);
-    let mut load = fine;
-    load.loads[3] = 1;
-    let mut reach = fine;
-    reach.reach[2] |= 1 << 2;
     let mut full = fine;
     full.loads[2] = 7;
-    for site in [fine, full, load, reach, Site { slots: 129, ..fine }, Site { cells: 0, ..fine }, Site::default()] {
+    for site in [fine, full].into_iter().chain(wrong_sites(fine)) {
         for len in [0, 17, 18, 19] {
             for numbers in [0, 3, 4, 71, 72, 73] {
                 mend(run, site, &vec![1; len], numbers);

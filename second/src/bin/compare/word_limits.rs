@@ -1,7 +1,7 @@
 //! Tables of words at their limits: every size around the largest site, one word or one byte too few, words and bytes past
 //! the site's part, bits above the last cell, all bits set, bytes of every value, every small site; and there and back.
 
-use crate::boundary::{tunnel, CELLS, CHANNELS, SLOTS};
+use crate::boundary::{tunnel, wrong_sites, CELLS, CHANNELS, SLOTS};
 use crate::case::{Call, Case};
 use crate::run::Run;
 use crate::spares::four_cells;
@@ -87,12 +87,7 @@ fn every_small_site(run: &mut Run) {
 
 /// The record's faults come before 4.
 fn faults(run: &mut Run) {
-    let site = tunnel(3, 3, 2);
-    let mut load = site;
-    load.loads[3] = 1;
-    let mut reach = site;
-    reach.reach[2] |= 1 << 2;
-    for wrong in [load, reach, Site { slots: 129, ..site }, Site { cells: 0, ..site }, Site::default()] {
+    for wrong in wrong_sites(tunnel(3, 3, 2)) {
         for count in [0, 5, 6, 7] {
             for call in [Call::PlanWords, Call::CheckWords, Call::ToWords, Call::ToBytes] {
                 let case = Case::of(call, wrong).words(&vec![5; count], count as u64);
