@@ -39,7 +39,7 @@ fn refuse(words: &mut [u8], answer: ReadAnswer)
     no(words, end);
 }
 
-// A table as a plan file, with the words; whether it was written.
+// A table as a plan file; whether it was written.
 fn put_plan(site: Site, table: &[u8], out: &mut [u8]) -> bool {
     let written = planfile::write_plan(site, table, out);
     let PlanWritten::Done(size) = written else {
@@ -139,7 +139,7 @@ fn check(input: &[u8], second: &[u8], table: &mut [u8], words: &mut [u8])
         no(words, end);
         return;
     };
-    yes(words, end, b"", 0);
+    yes(words, end);
 }
 
 // Whether a table has so many bytes at a place.
@@ -250,7 +250,7 @@ fn why(input: &[u8], table: &mut [u8], words: &mut [u8])
     let plan = why::load_words(words, load, site);
     let least = why::plan_words(words, plan, judge, planner::plan(site, table));
     let end = why::least_words(words, least, site, judges::least(site));
-    yes(words, end, b"", 0);
+    yes(words, end);
 }
 
 // A site as a range sheet.
@@ -269,7 +269,7 @@ fn sheet(input: &[u8], out: &mut [u8], words: &mut [u8])
         reply::unwritten();
         return;
     };
-    yes(out, size, b"", 0);
+    yes(out, size);
 }
 
 // A range sheet as a site file, with slots and channels.
@@ -289,7 +289,7 @@ fn site(input: &[u8], slots: u16, channels: u16, out: &mut [u8], words: &mut [u8
         reply::unwritten();
         return;
     };
-    yes(out, size, b"", 0);
+    yes(out, size);
 }
 
 // The share of a flow; one that says nothing of repeats has the default.
@@ -313,7 +313,7 @@ fn share(slots: u16, burst: u16, period: u16, words: &mut [u8])
         no(words, end);
         return;
     };
-    yes(words, end, b"", 0);
+    yes(words, end);
 }
 
 // Which of the flows to take, a line for each.
@@ -327,7 +327,7 @@ fn decide(site: Site, flows: FlowList, words: &mut [u8])
         no(words, end);
         return;
     };
-    yes(words, end, b"", 0);
+    yes(words, end);
 }
 
 // Whether an input was read to its end: one more read finds nothing, and does not fail. A sheet of flows may end after any line, so what a failing read cut off would pass for a shorter sheet; every

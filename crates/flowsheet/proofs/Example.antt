@@ -57,7 +57,7 @@ zeros-read : readFlows (flowHead ++ (48 ∷ 44 ∷ 48 ∷ 44 ∷ 48 ∷ 44 ∷ 4
 unfolding readFlows starts flowsFrom flowOk flowFits flowIn after scanned more flowLine column decimal digitsOf noFlows
 zeros-read = refl
 
--- 65535,3,8,1,65535: "each number at most 65,535"
+-- 65535,3,8,1,65535: "Each number is 0 to 65,535."
 most-read : readFlows (flowHead ++ (54 ∷ 53 ∷ 53 ∷ 51 ∷ 53 ∷ 44 ∷ 51 ∷ 44 ∷ 56 ∷ 44 ∷ 49 ∷ 44 ∷ 54 ∷ 53 ∷ 53 ∷ 51 ∷ 53 ∷ 13 ∷ 10 ∷ [])) ≡ done (withFlow noFlows (record { cell = 65535; burst = 3; period = 8; repeats = 1; value = 65535 }))
 unfolding readFlows starts flowsFrom flowOk flowFits flowIn after scanned more flowLine column decimal digitsOf noFlows
 most-read = refl

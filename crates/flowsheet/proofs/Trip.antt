@@ -144,14 +144,14 @@ module _ (fs : List Flow) where
     pub read-written : readFlows (flowSheet (flowAt fs) n) ≡ done (gathered fs n)
     read-written = ap readFlows (sym (append-nil (flowSheet (flowAt fs) n))) ∙ sheet-read [] ∙ no-lines (16 - n) (gathered fs n)
 
-    -- "17 with the first bad line (from 1; line 1 is the head)": the line after those of n flows is not of the format
+    -- "17 gives the first line that is not so, from 1.": the line after those of n flows is not of the format
     pub bad-after : (r : List ℕ) → n < 16 → atEnd r ≡ false → flowOk r ≡ false → readFlows (flowSheet (flowAt fs) n ++ r) ≡ badAt (n + 2)
     bad-after r less some bad = sheet-read r ∙ no-line (15 - n) (omega arith) (gathered-count fs n)
       where
         no-line : (m : ℕ) → 16 - n ≡ suc m → gathered fs n .count ≡ n → flowsFrom (16 - n) (gathered fs n) r ≡ badAt (n + 2)
         no-line m e c = ap (λ (i : ℕ). flowsFrom i (gathered fs n) r) e ∙ stop-here m (gathered fs n) r some bad ∙ ap (λ (i : ℕ). badAt (i + 2)) c
 
-    -- "More than 16 flow lines: 18, whatever stands after the sixteenth"
+    -- "A line after the sixteenth flow's is 18, whatever stands in it."
     pub seventeenth : (r : List ℕ) → n ≡ 16 → atEnd r ≡ false → readFlows (flowSheet (flowAt fs) n ++ r) ≡ tooMany
     seventeenth r all some = sheet-read r ∙ ap (λ (i : ℕ). flowsFrom i (gathered fs n) r) (omega arith) ∙ no-room (gathered fs n) r some
 

@@ -1,5 +1,5 @@
-// The verdicts on a site: the load test, the judge of the chain, and the least number of channel-slots that do. All ask the clash rows and the word of the cells that count, those with load above 0, and go from one
-// cell of a word to the next without a look at those between.
+// The verdicts on a site: the load test, the judge of the chain, and the least number of channel-slots that do. All ask the clash rows and the word of the cells that count, those with load above 0. The chain
+// and a sum of few loads go from one cell of a word to the next without a look at those between.
 ghost use mathlib.Core.Path.{_≡_};
 ghost use Prim.Native.Nat.{_≤_, _<_};
 ghost use lib.Dec.{ltb};

@@ -5,7 +5,7 @@ use mathlib.Core.Bool.{Bool, true, false, _&&_, and-false}
 use mathlib.Core.Logic.{⊎-elim}
 use Prim.Native.Nat.{ℕ, _+_, _-_, _≤_, min}
 use native.Mathlib.Omega.{arith}
-use lib.Dec.{ltb, leb·suc-zero}
+use lib.Dec.{ltb}
 use borrow.Author.Tests.{lt-ltb, le-ltb, ltb-true, ltb-false}
 use Rattle.laws.specs.Sum.{bit, count}
 use Rattle.laws.specs.Few.{firstFew}
@@ -28,9 +28,6 @@ none-left b c l h = rw (le-ltb c l h, and-false)
 -- nothing is left
 pub few-past : (p : ℕ → Bool) (l m k : ℕ) → l ≤ count p m → m ≤ k → firstFew p l k ≡ false
 few-past p l m k h g = none-left (p k) (count p k) l (omega (arith, sum-up (λ j. bit (p j)) m k g))
-
-pub few-none : (p : ℕ → Bool) (k : ℕ) → firstFew p 0 k ≡ false
-few-none p k = rw (leb·suc-zero, and-false)
 
 -- ---- a loop that counts down what is left of l
 

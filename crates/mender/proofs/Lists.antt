@@ -67,9 +67,6 @@ module _ (is was : Reserved) (n i : ℕ) where
         let c : bit (differ (is i k) b) ≡ bit (changed is was i k) = ap (λ z. bit (differ (is i k) z)) e in
         omega (arith, there, c, sum-below (λ q. bit (changed is was i q)) k m h, ap length so-far, length-sets l at (cellChanges is was i k))
 
-    pub list-long : length x ≡ length l
-    list-long = ap length so-far ∙ length-sets l at (cellChanges is was i k)
-
   -- no change at all
   pub none-stored : count (changed is was i) n ≡ 0 → (u : List ℕ) → u ≡ follow n (cellChanges is was i n) u
   unfolding follow

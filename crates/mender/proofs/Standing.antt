@@ -22,7 +22,7 @@ use Rattle.theory.specs.Net.{Net, taken, free}
 use Rattle.theory.specs.Greedy.{sends, reserved, held, planned, noRoom, run}
 use Rattle.theory.proofs.Loops.{run-next, run-stop, run-stays}
 use Rattle.theory.proofs.Row.{kept, added}
-use Rattle.theory.proofs.Run.{run-good}
+use Rattle.theory.proofs.Run.{run-good, is-planned}
 use Rattle.words.specs.Words.{wordAt}
 use Rattle.mending.specs.Keep.{standAt}
 use Rattle.mending.specs.Mend.{stand, mend}
@@ -156,9 +156,6 @@ module _ (cells n : ℕ) (loads clash u : List ℕ) (two : TwoWay clash) (i : �
 module _ (s : Net) (u words counts : List ℕ) (number : ℕ) (st : Standing s u (s .cells) words counts number) where
   pub stood-all : All number ≡ stoodOf s u (mend s u)
   stood-all = ap All (st .all) ∙ sym (ap (stoodOf s u) (st .runs))
-
-  is-planned : (t v : List ℕ) → planned t ≡ planned v → t ≡ v
-  is-planned t v e = cc
 
   pub stood-says : (t : List ℕ) → mend s u ≡ planned t → Says (s .cells) (s .width) t u words counts
   stood-says t e =

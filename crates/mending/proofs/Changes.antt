@@ -1,6 +1,6 @@
 -- The list of changes is exactly the changes, by cell, then position: the change at cell i and position k stands where the changes before it end, and there are no others.
 --     cell-length, changes-length    four numbers a change
---     changes-same                   none where the same is reserved
+--     changes-none                   none where the same is reserved
 --     changes-cong                   only what is reserved counts
 --     changes-at, changes-each       every change stands in its place, and every place has a change
 --     changes-rise                   strictly rising

@@ -1,4 +1,4 @@
--- Desk examples: tables of document 01's P1, P2, P4 and P12, mended. Each line was compared with the sepick program.
+-- Desk examples: tables of document 01's P1, P2, P4 and P12, mended. Each line was compared with the second program.
 -- Assumes nothing.
 use mathlib.Core.Path.{_≡_, refl}
 use mathlib.Core.Bool.{Bool, true, false, _&&_, _||_}

@@ -9,11 +9,10 @@ use Prim.Native.Nat.{ℕ, zero, suc, _+_, _-_, _*_, _≤_}
 use native.Mathlib.Nat.{suc-mul, zero-mul, add-zero, add-suc}
 use native.Mathlib.Omega.{arith}
 use lib.ListN.{length, getD, set, take, length-set, length-take}
-use lib.Seq.{getD-set-other}
+use lib.Seq.{getD-set-other, set-getD}
 use borrow.Author.Tests.{eqb-true}
 use Rattle.laws.specs.Choice.{pick}
 use Rattle.laws.specs.Sum.{bit, count}
-use Rattle.laws.proofs.Stores.{set-self}
 use Rattle.theory.specs.Net.{Reserved}
 use Rattle.theory.specs.Greedy.{sends, reserved}
 use Rattle.mending.specs.Mend.{mendByte, overlay}
@@ -40,15 +39,6 @@ module _ (is was : Reserved) (n : ℕ) where
   pub follow-cell : (c : ℕ) (u : List ℕ) → follow n (changes is was n (suc c)) u ≡ follow n (cellChanges is was c n) (follow n (changes is was n c) u)
   unfolding changes
   follow-cell c u = follow-append n (changeCount is was n c) (changes is was n c) (cellChanges is was c n) u (changes-length is was n c)
-
-  -- a change is one store
-  pub follow-one : (i k : ℕ) (u : List ℕ) → changed is was i k ≡ true → follow n (change (is i k) (was i k) i k) u ≡ set u (i * n + k) (bit (is i k))
-  unfolding follow
-  follow-one i k u h = let e : i + 1 - 1 ≡ i = omega arith in rw (h, e)
-
-  pub follow-none : (i k : ℕ) (u : List ℕ) → changed is was i k ≡ false → follow n (change (is i k) (was i k) i k) u ≡ u
-  unfolding follow
-  follow-none i k u h = rw h
 
   -- what a store leaves alone
   spared : (b : Bool) (i k x : ℕ) (u : List ℕ) → (i * n + k ≡ x → ⊥) → getD (follow n (pick b ((i + 1) ∷ k ∷ bit (was i k) ∷ bit (is i k) ∷ []) []) u) x 0 ≡ getD u x 0
@@ -95,10 +85,10 @@ module _ (n : ℕ) (t u : List ℕ) where
   one-byte : (is was : Bool) (v : List ℕ) (i k b : ℕ) → was ≡ sends b → getD v (i * n + k) 0 ≡ b
       → follow n (pick (pick was (not is) is) ((i + 1) ∷ k ∷ bit was ∷ bit is ∷ []) []) v ≡ set v (i * n + k) (mendByte is b)
   unfolding follow
-  one-byte true true v i k b w h = sym (ap (set v (i * n + k)) (sym (eqb-true b 1 (sym w)) ∙ sym h) ∙ set-self v (i * n + k))
+  one-byte true true v i k b w h = sym (ap (set v (i * n + k)) (sym (eqb-true b 1 (sym w)) ∙ sym h) ∙ set-getD v (i * n + k) 0)
   one-byte true false v i k b w h = let e : i + 1 - 1 ≡ i = omega arith in rw e
   one-byte false true v i k b w h = let e : i + 1 - 1 ≡ i = omega arith in rw (e, ← w)
-  one-byte false false v i k b w h = rw (← w) (sym (ap (set v (i * n + k)) (sym h) ∙ set-self v (i * n + k)))
+  one-byte false false v i k b w h = rw (← w) (sym (ap (set v (i * n + k)) (sym h) ∙ set-getD v (i * n + k) 0))
 
   cell-overlay : (i k : ℕ) → i * n + k ≤ length t → follow n (cellChanges now′ old i k) (overlay (take (i * n) t) u) ≡ overlay (take (i * n + k) t) u
   unfolding cellChanges follow

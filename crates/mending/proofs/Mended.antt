@@ -9,7 +9,7 @@
 use mathlib.Core.Path.{_≡_, refl, sym, ap, _∙_}
 use mathlib.Core.Bool.{Bool, true, false, _&&_, _||_, not, and-eq-true-iff, and-false, false≢true}
 use mathlib.Core.List.{List, [], _++_}
-use mathlib.Core.Logic.{_⊎_, inl, inr, ⊎-elim, _↔_}
+use mathlib.Core.Logic.{_⊎_, inl, inr, ⊎-elim}
 use Prim.Native.Nat.{ℕ, zero, suc, _+_, _-_, _*_, _≤_, _<_}
 use native.Mathlib.Omega.{arith}
 use native.Mathlib.Nat.{not-suc-le-zero, le-of-suc-le-suc, eq-or-lt-of-le, zero-mul, suc-mul, mul-le-mul-right}
@@ -59,9 +59,6 @@ module _ (s : Net) (u : List ℕ) where
 
   pub mends-test : (who : ℕ → Bool) → Covers s who → Class s who → (t : List ℕ) → mend s u ≡ planned t → LoadTest s who
   mends-test who covers class t e = demand-three-test s (reserved (s .width) t) (stand-valid t e) s (eases-refl s) who covers class
-
-  pub mends-exact : (who : ℕ → Bool) → Covers s who → Class s who → LoadTest s who ↔ ((t : List ℕ) × (mend s u ≡ planned t))
-  mends-exact who covers class = (test-mends who covers, λ p. mends-test who covers class (p .0) (p .1))
 
 -- ---- a valid table
 

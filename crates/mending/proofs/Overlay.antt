@@ -3,7 +3,7 @@
 --     overlay-reserved    it reserves what stands
 --     overlay-more        one index more
 -- Assumes nothing.
-use mathlib.Core.Path.{_≡_, refl, sym, ap, _∙_}
+use mathlib.Core.Path.{_≡_, refl, ap, _∙_}
 use mathlib.Core.Bool.{Bool, true, false}
 use mathlib.Core.List.{List, [], _∷_}
 use mathlib.Core.Logic.{⊎-elim}
@@ -11,7 +11,6 @@ use Prim.Native.Nat.{ℕ, zero, suc, _+_, _*_, _≤_, _<_}
 use native.Mathlib.Omega.{arith}
 use native.Mathlib.Nat.{not-suc-le-zero, le-of-suc-le-suc}
 use lib.ListN.{length, getD, take, set}
-use borrow.Author.Tests.{eqb-true}
 use Rattle.laws.proofs.Choice.{cases}
 use Rattle.laws.proofs.Grid.{inside}
 use Rattle.theory.specs.Greedy.{sends, reserved}
@@ -43,10 +42,6 @@ mended-one false x = ⊎-elim (λ (e : sends x ≡ true). rw e) (λ (e : sends x
 
 overlay-one : (t u : List ℕ) (k : ℕ) → k < length t → k < length u → sends (getD (overlay t u) k 0) ≡ sends (getD t k 0)
 overlay-one t u k h l = ap sends (overlay-at t u k h l) ∙ mended-one (sends (getD t k 0)) (getD u k 0)
-
--- a byte stays where it says already what stands
-pub mended-same : (y : Bool) (x : ℕ) → y ≡ sends x → mendByte y x ≡ x
-mended-same y x e = ⊎-elim (λ (h : sends x ≡ true). rw (e, h) (sym (eqb-true x 1 h))) (λ (h : sends x ≡ false). rw (e, h)) (cases (sends x))
 
 -- a table of n cells with w positions each
 module _ (n w : ℕ) (t u : List ℕ) (size : length t ≡ n * w) (fits : n * w ≤ length u) where

@@ -101,9 +101,9 @@ module _ (site : Site) (n : ℕ) (e : leastGiven (leastAnswer site) ≡ doneWith
       let long : LongEnough other lent = omega (arith, length-replicate {A = ℕ} (size other) 0) in
       omega (arith, least-exact lent long .0 (demand-three-calls other other same chained-too any v lent long))
 
--- ---- any site
+-- ---- a site that is not chained
 
--- "so many are enough": on the chain and off it
+-- "so many are enough"; on the chain `least-exact` says more
 pub enough-plans : (site : Site) (n : ℕ) → leastGiven (leastAnswer site) ≡ doneWith (n ∷ 1 ∷ []) → (other : Site) → Accepted other → Alike other site → n ≤ positions other
     → (lent : List ℕ) → LongEnough other lent → planGiven (planAnswer other lent) ≡ done
 enough-plans site n e other ok alike h lent long =

@@ -14,12 +14,15 @@ use Rattle.laws.proofs.Any.{any-eq}
 use Rattle.laws.proofs.Sums.{sum-eq}
 use Rattle.laws.proofs.Stores.{take-sets}
 use Rattle.theory.specs.Net.{taken}
-use Rattle.theory.specs.Greedy.{reserved, planned}
+use Rattle.theory.specs.Greedy.{reserved}
 use Rattle.theory.specs.Named.{Fails}
+use Rattle.theory.proofs.Run.{is-planned}
 use Rattle.theory.proofs.Exact.{chained-class, covers-loaded}
-use Rattle.site.specs.Record.{positions, size, loadAt}
+use Rattle.site.specs.Record.{positions, size, loadAt, faultOf, isFine}
 use Rattle.site.specs.Reach.{netOf}
 use Rattle.site.specs.declared.Site.{Site}
+use Rattle.site.specs.declared.Fault.{Fault}
+use Rattle.site.specs.Given.{faultGiven}
 use Rattle.judges.specs.Judges.{counted, loadAnswer, chainAnswer}
 use Rattle.judges.specs.Given.{loadGiven, chainGiven}
 use Rattle.judges.proofs.Meaning.{chained-means}
@@ -35,16 +38,14 @@ use Rattle.mender.specs.Given.{mendGiven}
 use Rattle.mender.specs.declared.MendAnswer.the-variants.{Done, NoRoom, ListShort}
 use Rattle.mender.proofs.Given.{mend-apart, mend-proper}
 use Rattle.mender.proofs.Meaning as means
+use Rattle.mender.proofs.Ends.{refused-ends, short-ends}
 use Rattle.mender.proofs.Room.{any-room}
 use Rattle.changewords.specs.Words.{changeWords, allWords}
 use Rattle.changewords.proofs.Words.{said-all}
 use Rattle.promises.specs.Numbers.{done, doneWith, refused}
-use Rattle.promises.specs.Demands.{LongEnough}
+use Rattle.promises.specs.Demands.{Accepted, LongEnough}
 use Rattle.promises.proofs.Numbers.{accepted-number, chain-number}
 use Rattle.promises.proofs.Demand2.{check-is-valid, load-is-C1}
-
-planned-one : (t v : List ℕ) → planned t ≡ planned v → t ≡ v
-planned-one t v e = cc
 
 module _ (s : Site) (u l : List ℕ) where
   -- the call gives back 0 and n
@@ -74,7 +75,7 @@ module _ (s : Site) (u l : List ℕ) where
       let a = means.means-done s u l (accepted-number s .0 (v .0)) (v .1) (r .table) (r .mends) (omega (arith, r .number)) in
       let is : mendAnswer s u l ≡ Done 0 = a ∙ ap Done (r .number) in
       let d = means.done-means s u l 0 is in
-      let same : d .stands ≡ r .table = planned-one (d .stands) (r .table) (sym (d .mends) ∙ r .mends) in (
+      let same : d .stands ≡ r .table = is-planned (d .stands) (r .table) (sym (d .mends) ∙ r .mends) in (
         ap mendGiven is,
         d .table ∙ ap (λ t. overlay t u) same ∙ r .bytes,
         d .list ∙ ap (λ t. sets l 0 (changes (reserved (positions s) t) (reserved (positions s) u) (positions s) (s .cells))) same ∙ ap (sets l 0) (r .none),
@@ -97,7 +98,14 @@ module _ (s : Site) (u l : List ℕ) where
   pub refused-untouched : (mendGiven (mendAnswer s u l) .number ≡ 0 → ⊥) → (mendTable s u l ≡ u) × (mendList s u l ≡ l)
   refused-untouched h = means.untouched s u l (λ n e. h (ap (λ a. mendGiven a .number) e))
 
-  -- "then 5 (cell, fragments short)": the first cell whose load can't be met, before any look at the list
+  -- "1 to 4": the record's fault, whatever is lent; then 4, where the table is short
+  pub fault-of-mend : (f : Fault) → faultOf s ≡ f → isFine f ≡ false → mendGiven (mendAnswer s u l) ≡ faultGiven f
+  fault-of-mend f e h = ap mendGiven (sym (refused-ends s u l f e h .0))
+
+  pub four-of-mend : Accepted s → length u < size s → mendGiven (mendAnswer s u l) ≡ refused 4 []
+  four-of-mend ok h = ap mendGiven (sym (short-ends s u l (accepted-number s .0 ok) h .0))
+
+  -- "then 5 (cell, fragments short)": the first cell whose load can't be met
   pub five-of-mend : (cell short : ℕ) → mendGiven (mendAnswer s u l) ≡ refused 5 (cell ∷ short ∷ [])
       → (k : ℕ) × ((cell ≡ k + 1) × Fails (netOf s) (stand (netOf s) u) (s .cells) k short)
   five-of-mend cell short e = means.short-means s u l cell short (mend-apart (mendAnswer s u l) (NoRoom cell short) (mend-proper s u l) refl e) .2

@@ -49,12 +49,11 @@ pub fn unwritten() {
     no(b"duggfrask: the result could not be written\n", 43);
 }
 
-// Done, or yes: the result, then the words.
-pub fn yes(bytes: &[u8], size: usize, text: &[u8], end: usize) {
+// Done, or yes, with a result and no words.
+pub fn yes(bytes: &[u8], size: usize) {
     if !result(bytes, size) {
         unwritten();
         return;
     }
-    words(text, end);
     done();
 }

@@ -1,11 +1,10 @@
 -- The cells that a position takes, by the number of cells that had their turn: a cell that had its turn stays as it is.
 --     chosen-is       a cell is taken exactly where it is in need and clashes with no lower cell that is taken
 --     chosen-needs    only cells in need are taken
---     chosen-none     so none that is not
 --     chosen-same     the same cells in need, the same cells taken
 -- Assumes nothing.
 use mathlib.Core.Path.{_≡_, refl, sym, ap, _∙_}
-use mathlib.Core.Bool.{Bool, true, false, _&&_, not, true≢false}
+use mathlib.Core.Bool.{Bool, true, _&&_, not}
 use mathlib.Core.Logic.{⊎-elim}
 use Prim.Native.Nat.{ℕ, zero, suc, _<_}
 use native.Mathlib.Omega.{arith}
@@ -15,7 +14,7 @@ use borrow.Author.Tests.{eq-eqb, ne-eqb}
 use Rattle.laws.specs.Choice.{pick}
 use Rattle.laws.specs.Sum.{any}
 use Rattle.laws.proofs.Any.{any-eq}
-use Rattle.laws.proofs.Choice.{both, refute}
+use Rattle.laws.proofs.Choice.{both}
 use Rattle.theory.specs.Positions.{chosenTo, chosen}
 
 module _ (clash : ℕ → ℕ → Bool) (need : ℕ → Bool) where
@@ -48,9 +47,6 @@ module _ (clash : ℕ → ℕ → Bool) (need : ℕ → Bool) where
 
   pub chosen-needs : (i : ℕ) → chosen clash need i ≡ true → need i ≡ true
   chosen-needs i e = both (need i) _ (sym (chosen-turn i) ∙ e) .0
-
-  pub chosen-none : (i : ℕ) → need i ≡ false → chosen clash need i ≡ false
-  chosen-none i e = refute (chosen clash need i) (λ q. true≢false (sym (chosen-needs i q) ∙ e))
 
   chosen-same-to : (need′ : ℕ → Bool) (n : ℕ) → ((j : ℕ) → j < n → need j ≡ need′ j) → (j : ℕ) → chosenTo clash need n j ≡ chosenTo clash need′ n j
   unfolding chosenTo

@@ -4,9 +4,8 @@
 --     takes-is         a cell takes a position exactly where it is free there and fewer than its load are taken before it
 --     greedy-plans     where no cell has anything left at the end, the run by cells hands a table back, and it reserves just that
 --     greedy-short     else it names the lowest cell that has, and what that has left
---     planned-takes, noRoom-left     the other way round
 -- Assumes nothing.
-use mathlib.Core.Path.{_≡_, refl, sym, ap, ap₂, _∙_, subst}
+use mathlib.Core.Path.{_≡_, refl, sym, ap, ap₂, _∙_}
 use mathlib.Core.Bool.{Bool, true, false, _&&_, not, and-comm}
 use mathlib.Core.List.{List, [], _++_}
 use mathlib.Core.Logic.{⊎-elim}
@@ -20,7 +19,7 @@ use borrow.Author.Tests.{ltb-true, ltb-false, lt-ltb, le-ltb}
 use Rattle.laws.specs.Sum.{bit, sum, count, any}
 use Rattle.laws.proofs.Any.{any-eq}
 use Rattle.laws.proofs.Choice.{cases}
-use Rattle.laws.proofs.Search.{first-before, first-passes, first-most}
+use Rattle.laws.proofs.Search.{first-before, first-passes}
 use Rattle.laws.proofs.Sums.{sum-eq}
 use Rattle.theory.specs.Net.{Net, free}
 use Rattle.theory.specs.Greedy.{reserved, row, held, planned, noRoom, close, next, run, greedy}
@@ -135,7 +134,7 @@ module _ (s : Net) where
         agrees-more n t (h .2) (run-good s (row s) (greedy-fair s) n t (h .1) .size),
       )
 
-  -- the run's table, if there is one, is that of the positions
+  -- a cell with something left ends the run
   short-close : (n m : ℕ) (t : List ℕ) → 0 < m → close n m t ≡ noRoom n m
   short-close n zero t h = absurd (omega arith)
   short-close n (suc m) t h = refl
@@ -160,37 +159,3 @@ module _ (s : Net) where
   -- And where no cell has, there is a plan, and it reserves what the positions give.
   pub greedy-plans : s .cells ≤ shortCell s (s .cells) → (t : List ℕ) × (greedy s ≡ planned t) × Agrees (s .cells) t
   greedy-plans l = run-plans (s .cells) (λ i m. before-met (s .cells) i (omega arith))
-
-  -- The other way round: what an outcome tells.
-  pub planned-takes : (t : List ℕ) → greedy s ≡ planned t → (shortCell s (s .cells) ≡ s .cells) × Agrees (s .cells) t
-  planned-takes t e = ⊎-elim met short (eq-or-lt-of-le (first-most (needAt s (s .width)) 0 (s .cells) zero-le))
-    where
-      met : shortCell s (s .cells) ≡ s .cells → (shortCell s (s .cells) ≡ s .cells) × Agrees (s .cells) t
-      met q =
-          let h = greedy-plans (omega arith) in
-          let same : h .0 ≡ t = cc (h .1) in
-          (q, subst (Agrees (s .cells)) same (h .2))
-
-      short : shortCell s (s .cells) < s .cells → (shortCell s (s .cells) ≡ s .cells) × Agrees (s .cells) t
-      short l =
-          let o = greedy-short l in
-          let z : _≡_ {A = ℕ} 0 1 = cc in
-          absurd (omega arith)
-
-  pub noRoom-left : (c m : ℕ) → greedy s ≡ noRoom c m → (shortCell s (s .cells) ≡ c) × (leftAt s (s .width) c ≡ m) × (0 < m)
-  noRoom-left c m e = ⊎-elim met short (eq-or-lt-of-le (first-most (needAt s (s .width)) 0 (s .cells) zero-le))
-    where
-      met : shortCell s (s .cells) ≡ s .cells → (shortCell s (s .cells) ≡ c) × (leftAt s (s .width) c ≡ m) × (0 < m)
-      met q =
-          let h = greedy-plans (omega arith) in
-          let p = h .1 in
-          let z : _≡_ {A = ℕ} 0 1 = cc in
-          absurd (omega arith)
-
-      short : shortCell s (s .cells) < s .cells → (shortCell s (s .cells) ≡ c) × (leftAt s (s .width) c ≡ m) × (0 < m)
-      short l =
-          let o = greedy-short l in
-          let a : shortCell s (s .cells) ≡ c = cc in
-          let b : leftAt s (s .width) (shortCell s (s .cells)) ≡ m = cc in
-          let some = ltb-true 0 (leftAt s (s .width) (shortCell s (s .cells))) (first-passes (needAt s (s .width)) 0 (s .cells) zero-le l) in
-          (a, ap (leftAt s (s .width)) (sym a) ∙ b, omega (arith, b, some))

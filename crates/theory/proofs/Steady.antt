@@ -1,7 +1,6 @@
 -- The word is the same while the same cells are in need. A stretch is m positions such that each cell that the first takes has as many fragments left as the stretch has
 -- usable positions: no cell runs out before its end, so by induction each usable position takes the first's cells, and a blocked one takes none and changes nothing.
 --     steady-takes, steady-left     what the positions of a stretch take, and what it leaves
---     open-all                      where no position of it is blocked
 -- Assumes nothing.
 use mathlib.Core.Path.{_≡_, refl, sym, ap, ap₂, _∙_}
 use mathlib.Core.Bool.{Bool, true, false, _&&_}
@@ -14,7 +13,7 @@ use borrow.Author.Tests.{lt-ltb}
 use Rattle.laws.specs.Choice.{pick}
 use Rattle.laws.specs.Sum.{bit, sum, count}
 use Rattle.laws.proofs.Choice.{cases}
-use Rattle.laws.proofs.Sums.{sum-eq, count-below, count-all}
+use Rattle.laws.proofs.Sums.{count-below}
 use Rattle.theory.specs.Net.{Net}
 use Rattle.theory.specs.Positions.{chosen, leftAt, needAt, takes}
 use Rattle.theory.proofs.Chosen.{chosen-same}
@@ -75,7 +74,3 @@ module _ (s : Net) (n k m : ℕ) (enough : (i : ℕ) → i < n → chosen (s .cl
 
   pub steady-takes : (d : ℕ) → d < m → (i : ℕ) → i < n → takes s i (k + d) ≡ (s .usable (k + d) && chosen (s .clash) (needAt s k) i)
   steady-takes d l i b = same-takes d l (steady-left d (omega arith)) i b
-
--- where no position of the stretch is blocked, all are open
-pub open-all : (s : Net) (k m : ℕ) → ((d : ℕ) → d < m → s .usable (k + d) ≡ true) → openTo s k m ≡ m
-open-all s k m usable = sum-eq (λ e. bit (s .usable (k + e))) (λ _. 1) m (λ e g. ap bit (usable e g)) ∙ count-all m

@@ -108,7 +108,7 @@ shareWords share.OutOfRange = refusedLine 1 Nowhere
 shareWords share.BadFlow = refusedLine 15 Nowhere
 shareWords share.BigShare = refusedLine 16 Nowhere
 
--- how many changes the mender makes; none where the table is valid, which crate `mending` proves
+-- how many changes the mender makes; none exactly where the table is valid: `valid-unchanged` and `unchanged-valid` of crate `promises`
 unfoldable pub changesWords : ℕ → List ℕ
 changesWords number = pick (eqb number 0) unchangedLine (mendedLine number)
 

@@ -1,7 +1,7 @@
 -- A run of equal words, from p up to where another stands: all of them have a clash or none has, and each of their cells is counted as often as the run is long.
 -- Assumes nothing.
-use mathlib.Core.Path.{_≡_, refl, sym, ap, _∙_}
-use mathlib.Core.Bool.{Bool, true, false, not, true≢false}
+use mathlib.Core.Path.{_≡_, sym, ap, _∙_}
+use mathlib.Core.Bool.{Bool, false}
 use mathlib.Core.List.{List}
 use mathlib.Core.Logic.{⊎-elim}
 use Prim.Native.Nat.{ℕ, _+_, _-_, _≤_, _<_}
@@ -9,7 +9,7 @@ use native.Mathlib.Nat.{eq-or-lt-of-le}
 use native.Mathlib.Omega.{arith}
 use lib.Dec.{eqb}
 use lib.ListN.{getD, replicate, length-replicate, getD-replicate}
-use borrow.Author.Tests.{eqb-true}
+use borrow.Author.Tests.{eqb-true, not-false}
 use Rattle.laws.specs.Bits.{bitAt}
 use Rattle.laws.specs.Choice.{pick}
 use Rattle.laws.specs.Search.{first}
@@ -34,12 +34,8 @@ module _ (words : List ℕ) (p n to : ℕ) (inside : p < n) (run : to ≡ first 
   same-word : (j : ℕ) → p ≤ j → j < to → getD words j 0 ≡ getD words p 0
   same-word j l h =
       ⊎-elim (λ e. ap (λ (m : ℕ). getD words m 0) (sym e))
-      (λ g. eqb-true _ _ (was (eqb (getD words j 0) (getD words p 0)) (first-before (differs words p) (p + 1) n j (omega arith) (omega arith))))
+      (λ g. eqb-true _ _ (not-false (eqb (getD words j 0) (getD words p 0)) (first-before (differs words p) (p + 1) n j (omega arith) (omega arith))))
       (eq-or-lt-of-le l)
-    where
-      was : (b : Bool) → not b ≡ false → b ≡ true
-      was true e = refl
-      was false e = absurd (true≢false e)
 
   -- a run with no clash is passed
   pub run-passed : (clash : ℕ → Bool) {x : ℕ} → x ≡ first (λ k. clash (getD words k 0)) p n → clash (getD words p 0) ≡ false

@@ -1,9 +1,6 @@
 -- `why::over_words` meets its contract: the cell that is over, and then the cells that share the air there. The load test names a cell of the site. Assumes nothing.
-use Prim.Native.Nat.{_+_, _-_, _≤_, _<_}
-use mathlib.Core.Path.{_≡_, sym, ap, _∙_}
+use Prim.Native.Nat.{_-_, _≤_, _<_}
 use native.Mathlib.Omega.{arith}
-use lib.Seq.{sets}
-use lib.ListN.{length}
 use Rattle.text.proofs.Writing.{begun, stored, finished}
 use Rattle.site.proofs.Faults.{fine-sized}
 use Rattle.judges.proofs.Meaning.{over-means}
