@@ -1,10 +1,17 @@
--- Each contract of crate `bestset` leaves one possible answer and one possible content of what is lent, by its equalities alone. Made by tools/surface from the source.
+-- For any arguments one answer and one content of what is lent meet the contract, and no other, in crate `bestset`: by its equalities alone. Made by tools/surface from the source.
 -- Assumes nothing.
-use mathlib.Core.Path.{_≡_, sym, _∙_}
+use mathlib.Core.Path.{_≡_, refl}
 use mathlib.Core.List.{List}
 use Prim.Native.Nat.{ℕ}
+use Rattle.bestset.specs.Code.{bestIn}
 use Rattle.contracts.specs.BestsetSays.{BestsetBestSet}
 
 -- bestset::best_set
-pub bestsetBestSet-one : (room : ℕ) (clash : List ℕ) (cell : List ℕ) (share : List ℕ) (value : List ℕ) (count : ℕ) (r q : ℕ) → BestsetBestSet room clash cell share value count r → BestsetBestSet room clash cell share value count q → (r ≡ q)
-bestsetBestSet-one room clash cell share value count r q says also = says .answer ∙ sym (also .answer)
+pub bestsetBestSet-one : (room : ℕ) (clash : List ℕ) (cell : List ℕ) (share : List ℕ) (value : List ℕ) (count : ℕ)
+    → (r : ℕ) × (BestsetBestSet room clash cell share value count r)
+    × ((q : ℕ) → BestsetBestSet room clash cell share value count q → (q ≡ r))
+bestsetBestSet-one room clash cell share value count = (
+  bestIn room clash cell share value count,
+  record { answer = refl },
+  λ q says. says .answer,
+)

@@ -1,107 +1,291 @@
--- Each contract of crate `capi` leaves one possible answer and one possible content of what is lent, by its equalities alone. Made by tools/surface from the source.
+-- For any arguments one answer and one content of what is lent meet the contract, and no other, in crate `capi`: by its equalities alone. Made by tools/surface from the source.
 -- Assumes nothing.
-use mathlib.Core.Path.{_≡_, sym, _∙_}
+use mathlib.Core.Path.{_≡_, refl}
 use mathlib.Core.List.{List}
 use Prim.Native.Nat.{ℕ}
+use Rattle.admission.specs.Admit.{admitAnswer}
+use Rattle.admission.specs.Given.{admitGiven}
+use Rattle.checker.specs.Check.{checkAnswer}
+use Rattle.checker.specs.Given.{checkGiven}
 use Rattle.contracts.specs.CapiSays.{DuggAdmit, DuggChain, DuggCheck, DuggCheckWords, DuggClash, DuggClearReach, DuggFault, DuggLeast, DuggLoadTest, DuggMend, DuggPlan, DuggPlanWords, DuggReadPlan, DuggReadSheet, DuggReadSite, DuggSetLoad, DuggSetReach, DuggShare, DuggShareRepeated, DuggToBytes, DuggToWords, DuggWritePlan, DuggWriteSheet, DuggWriteSite}
 use Rattle.flowlist.specs.declared.Flow.{Flow}
+use Rattle.judges.specs.Given.{chainGiven, leastGiven, loadGiven}
+use Rattle.judges.specs.Judges.{chainAnswer, leastAnswer, loadAnswer}
+use Rattle.mender.specs.Given.{mendGiven}
+use Rattle.mender.specs.Mend.{mendAnswer, mendList, mendTable}
+use Rattle.planfile.specs.Given.{planWrittenGiven}
+use Rattle.planfile.specs.Read.{planTableRead, readPlan}
+use Rattle.planfile.specs.Write.{planOut, planWritten}
+use Rattle.planner.specs.Given.{planGiven}
+use Rattle.planner.specs.Plan.{planAnswer, planTable}
+use Rattle.shares.specs.Given.{shareGiven}
+use Rattle.shares.specs.Share.{defaultRepeats, shareOf}
+use Rattle.sheet.specs.Given.{sheetWrittenGiven}
+use Rattle.sheet.specs.Read.{readSheet}
+use Rattle.sheet.specs.Write.{sheetOut, sheetWritten}
+use Rattle.site.specs.Edit.{clearReachOf, setLoadOf, setReachOf}
+use Rattle.site.specs.Given.{clashGiven, faultGiven}
+use Rattle.site.specs.Reach.{clashAnswer}
+use Rattle.site.specs.Record.{faultOf}
 use Rattle.site.specs.declared.Site.{Site}
+use Rattle.sitefile.specs.Given.{siteWrittenGiven}
+use Rattle.sitefile.specs.Read.{readSite}
+use Rattle.sitefile.specs.Write.{siteOut, siteWritten}
+use Rattle.told.specs.Told.{told, toldEdited, toldPlanRead, toldSheetRead, toldSiteRead}
 use Rattle.told.specs.declared.Answer.{Answer}
 use Rattle.told.specs.declared.EditedSite.{EditedSite}
 use Rattle.told.specs.declared.PlanReadC.{PlanReadC}
+use Rattle.wordtable.specs.Check.{checkWordsAnswer}
+use Rattle.wordtable.specs.Forms.{formAnswer, toBytes, toWords}
+use Rattle.wordtable.specs.Given.{formGiven}
+use Rattle.wordtable.specs.Plan.{planWords, planWordsAnswer}
 
 -- capi::dugg_fault
-pub duggFault-one : (site : Site) (r q : Answer) → DuggFault site r → DuggFault site q → (r ≡ q)
-duggFault-one site r q says also = says .answer ∙ sym (also .answer)
+pub duggFault-one : (site : Site)
+    → (r : Answer) × (DuggFault site r)
+    × ((q : Answer) → DuggFault site q → (q ≡ r))
+duggFault-one site = (
+  told (faultGiven (faultOf site)),
+  record { answer = refl },
+  λ q says. says .answer,
+)
 
 -- capi::dugg_clash
-pub duggClash-one : (site : Site) (a : ℕ) (b : ℕ) (r q : Answer) → DuggClash site a b r → DuggClash site a b q → (r ≡ q)
-duggClash-one site a b r q says also = says .answer ∙ sym (also .answer)
+pub duggClash-one : (site : Site) (a : ℕ) (b : ℕ)
+    → (r : Answer) × (DuggClash site a b r)
+    × ((q : Answer) → DuggClash site a b q → (q ≡ r))
+duggClash-one site a b = (
+  told (clashGiven (clashAnswer site a b)),
+  record { answer = refl },
+  λ q says. says .answer,
+)
 
 -- capi::dugg_set_load
-pub duggSetLoad-one : (site : Site) (cell : ℕ) (load : ℕ) (r q : EditedSite) → DuggSetLoad site cell load r → DuggSetLoad site cell load q → (r ≡ q)
-duggSetLoad-one site cell load r q says also = says .answer ∙ sym (also .answer)
+pub duggSetLoad-one : (site : Site) (cell : ℕ) (load : ℕ)
+    → (r : EditedSite) × (DuggSetLoad site cell load r)
+    × ((q : EditedSite) → DuggSetLoad site cell load q → (q ≡ r))
+duggSetLoad-one site cell load = (
+  toldEdited (setLoadOf site cell load),
+  record { answer = refl },
+  λ q says. says .answer,
+)
 
 -- capi::dugg_set_reach
-pub duggSetReach-one : (site : Site) (from : ℕ) (to : ℕ) (r q : EditedSite) → DuggSetReach site from to r → DuggSetReach site from to q → (r ≡ q)
-duggSetReach-one site from to r q says also = says .answer ∙ sym (also .answer)
+pub duggSetReach-one : (site : Site) (from : ℕ) (to : ℕ)
+    → (r : EditedSite) × (DuggSetReach site from to r)
+    × ((q : EditedSite) → DuggSetReach site from to q → (q ≡ r))
+duggSetReach-one site from to = (
+  toldEdited (setReachOf site from to),
+  record { answer = refl },
+  λ q says. says .answer,
+)
 
 -- capi::dugg_clear_reach
-pub duggClearReach-one : (site : Site) (from : ℕ) (to : ℕ) (r q : EditedSite) → DuggClearReach site from to r → DuggClearReach site from to q → (r ≡ q)
-duggClearReach-one site from to r q says also = says .answer ∙ sym (also .answer)
+pub duggClearReach-one : (site : Site) (from : ℕ) (to : ℕ)
+    → (r : EditedSite) × (DuggClearReach site from to r)
+    × ((q : EditedSite) → DuggClearReach site from to q → (q ≡ r))
+duggClearReach-one site from to = (
+  toldEdited (clearReachOf site from to),
+  record { answer = refl },
+  λ q says. says .answer,
+)
 
 -- capi::dugg_load_test
-pub duggLoadTest-one : (site : Site) (r q : Answer) → DuggLoadTest site r → DuggLoadTest site q → (r ≡ q)
-duggLoadTest-one site r q says also = says .answer ∙ sym (also .answer)
+pub duggLoadTest-one : (site : Site)
+    → (r : Answer) × (DuggLoadTest site r)
+    × ((q : Answer) → DuggLoadTest site q → (q ≡ r))
+duggLoadTest-one site = (
+  told (loadGiven (loadAnswer site)),
+  record { answer = refl },
+  λ q says. says .answer,
+)
 
 -- capi::dugg_chain
-pub duggChain-one : (site : Site) (r q : Answer) → DuggChain site r → DuggChain site q → (r ≡ q)
-duggChain-one site r q says also = says .answer ∙ sym (also .answer)
+pub duggChain-one : (site : Site)
+    → (r : Answer) × (DuggChain site r)
+    × ((q : Answer) → DuggChain site q → (q ≡ r))
+duggChain-one site = (
+  told (chainGiven (chainAnswer site)),
+  record { answer = refl },
+  λ q says. says .answer,
+)
 
 -- capi::dugg_least
-pub duggLeast-one : (site : Site) (r q : Answer) → DuggLeast site r → DuggLeast site q → (r ≡ q)
-duggLeast-one site r q says also = says .answer ∙ sym (also .answer)
+pub duggLeast-one : (site : Site)
+    → (r : Answer) × (DuggLeast site r)
+    × ((q : Answer) → DuggLeast site q → (q ≡ r))
+duggLeast-one site = (
+  told (leastGiven (leastAnswer site)),
+  record { answer = refl },
+  λ q says. says .answer,
+)
 
 -- capi::dugg_plan
-pub duggPlan-one : (site : Site) (table : List ℕ) (r q : Answer) (table′ table″ : List ℕ) → DuggPlan site table r table′ → DuggPlan site table q table″ → (r ≡ q) × (table′ ≡ table″)
-duggPlan-one site table r q table′ table″ says also = (says .answer ∙ sym (also .answer), says .table-after ∙ sym (also .table-after))
+pub duggPlan-one : (site : Site) (table : List ℕ)
+    → (r : Answer) × (table′ : List ℕ) × (DuggPlan site table r table′)
+    × ((q : Answer) (table″ : List ℕ) → DuggPlan site table q table″ → (q ≡ r) × (table″ ≡ table′))
+duggPlan-one site table = (
+  told (planGiven (planAnswer site table)),
+  planTable site table,
+  record { answer = refl; table-after = refl },
+  λ q table″ says. (says .answer, says .table-after),
+)
 
 -- capi::dugg_check
-pub duggCheck-one : (site : Site) (table : List ℕ) (r q : Answer) → DuggCheck site table r → DuggCheck site table q → (r ≡ q)
-duggCheck-one site table r q says also = says .answer ∙ sym (also .answer)
+pub duggCheck-one : (site : Site) (table : List ℕ)
+    → (r : Answer) × (DuggCheck site table r)
+    × ((q : Answer) → DuggCheck site table q → (q ≡ r))
+duggCheck-one site table = (
+  told (checkGiven (checkAnswer site table)),
+  record { answer = refl },
+  λ q says. says .answer,
+)
 
 -- capi::dugg_plan_words
-pub duggPlanWords-one : (site : Site) (words : List ℕ) (r q : Answer) (words′ words″ : List ℕ) → DuggPlanWords site words r words′ → DuggPlanWords site words q words″ → (r ≡ q) × (words′ ≡ words″)
-duggPlanWords-one site words r q words′ words″ says also = (says .answer ∙ sym (also .answer), says .words-after ∙ sym (also .words-after))
+pub duggPlanWords-one : (site : Site) (words : List ℕ)
+    → (r : Answer) × (words′ : List ℕ) × (DuggPlanWords site words r words′)
+    × ((q : Answer) (words″ : List ℕ) → DuggPlanWords site words q words″ → (q ≡ r) × (words″ ≡ words′))
+duggPlanWords-one site words = (
+  told (planGiven (planWordsAnswer site words)),
+  planWords site words,
+  record { answer = refl; words-after = refl },
+  λ q words″ says. (says .answer, says .words-after),
+)
 
 -- capi::dugg_check_words
-pub duggCheckWords-one : (site : Site) (words : List ℕ) (r q : Answer) → DuggCheckWords site words r → DuggCheckWords site words q → (r ≡ q)
-duggCheckWords-one site words r q says also = says .answer ∙ sym (also .answer)
+pub duggCheckWords-one : (site : Site) (words : List ℕ)
+    → (r : Answer) × (DuggCheckWords site words r)
+    × ((q : Answer) → DuggCheckWords site words q → (q ≡ r))
+duggCheckWords-one site words = (
+  told (checkGiven (checkWordsAnswer site words)),
+  record { answer = refl },
+  λ q says. says .answer,
+)
 
 -- capi::dugg_to_words
-pub duggToWords-one : (site : Site) (table : List ℕ) (words : List ℕ) (r q : Answer) (words′ words″ : List ℕ) → DuggToWords site table words r words′ → DuggToWords site table words q words″ → (r ≡ q) × (words′ ≡ words″)
-duggToWords-one site table words r q words′ words″ says also = (says .answer ∙ sym (also .answer), says .words-after ∙ sym (also .words-after))
+pub duggToWords-one : (site : Site) (table : List ℕ) (words : List ℕ)
+    → (r : Answer) × (words′ : List ℕ) × (DuggToWords site table words r words′)
+    × ((q : Answer) (words″ : List ℕ) → DuggToWords site table words q words″ → (q ≡ r) × (words″ ≡ words′))
+duggToWords-one site table words = (
+  told (formGiven (formAnswer site table words)),
+  toWords site table words,
+  record { answer = refl; words-after = refl },
+  λ q words″ says. (says .answer, says .words-after),
+)
 
 -- capi::dugg_to_bytes
-pub duggToBytes-one : (site : Site) (words : List ℕ) (table : List ℕ) (r q : Answer) (table′ table″ : List ℕ) → DuggToBytes site words table r table′ → DuggToBytes site words table q table″ → (r ≡ q) × (table′ ≡ table″)
-duggToBytes-one site words table r q table′ table″ says also = (says .answer ∙ sym (also .answer), says .table-after ∙ sym (also .table-after))
+pub duggToBytes-one : (site : Site) (words : List ℕ) (table : List ℕ)
+    → (r : Answer) × (table′ : List ℕ) × (DuggToBytes site words table r table′)
+    × ((q : Answer) (table″ : List ℕ) → DuggToBytes site words table q table″ → (q ≡ r) × (table″ ≡ table′))
+duggToBytes-one site words table = (
+  told (formGiven (formAnswer site table words)),
+  toBytes site words table,
+  record { answer = refl; table-after = refl },
+  λ q table″ says. (says .answer, says .table-after),
+)
 
 -- capi::dugg_mend
-pub duggMend-one : (site : Site) (table : List ℕ) (changes : List ℕ) (r q : Answer) (table′ table″ : List ℕ) (changes′ changes″ : List ℕ) → DuggMend site table changes r table′ changes′ → DuggMend site table changes q table″ changes″ → (r ≡ q) × (table′ ≡ table″) × (changes′ ≡ changes″)
-duggMend-one site table changes r q table′ table″ changes′ changes″ says also = (says .answer ∙ sym (also .answer), says .table-after ∙ sym (also .table-after), says .changes-after ∙ sym (also .changes-after))
+pub duggMend-one : (site : Site) (table : List ℕ) (changes : List ℕ)
+    → (r : Answer) × (table′ : List ℕ) × (changes′ : List ℕ) × (DuggMend site table changes r table′ changes′)
+    × ((q : Answer) (table″ : List ℕ) (changes″ : List ℕ) → DuggMend site table changes q table″ changes″ → (q ≡ r) × (table″ ≡ table′) × (changes″ ≡ changes′))
+duggMend-one site table changes = (
+  told (mendGiven (mendAnswer site table changes)),
+  mendTable site table changes,
+  mendList site table changes,
+  record { answer = refl; table-after = refl; changes-after = refl },
+  λ q table″ changes″ says. (says .answer, says .table-after, says .changes-after),
+)
 
 -- capi::dugg_share
-pub duggShare-one : (slots : ℕ) (burst : ℕ) (period : ℕ) (r q : Answer) → DuggShare slots burst period r → DuggShare slots burst period q → (r ≡ q)
-duggShare-one slots burst period r q says also = says .answer ∙ sym (also .answer)
+pub duggShare-one : (slots : ℕ) (burst : ℕ) (period : ℕ)
+    → (r : Answer) × (DuggShare slots burst period r)
+    × ((q : Answer) → DuggShare slots burst period q → (q ≡ r))
+duggShare-one slots burst period = (
+  told (shareGiven (shareOf slots burst period defaultRepeats)),
+  record { answer = refl },
+  λ q says. says .answer,
+)
 
 -- capi::dugg_share_repeated
-pub duggShareRepeated-one : (slots : ℕ) (burst : ℕ) (period : ℕ) (repeats : ℕ) (r q : Answer) → DuggShareRepeated slots burst period repeats r → DuggShareRepeated slots burst period repeats q → (r ≡ q)
-duggShareRepeated-one slots burst period repeats r q says also = says .answer ∙ sym (also .answer)
+pub duggShareRepeated-one : (slots : ℕ) (burst : ℕ) (period : ℕ) (repeats : ℕ)
+    → (r : Answer) × (DuggShareRepeated slots burst period repeats r)
+    × ((q : Answer) → DuggShareRepeated slots burst period repeats q → (q ≡ r))
+duggShareRepeated-one slots burst period repeats = (
+  told (shareGiven (shareOf slots burst period repeats)),
+  record { answer = refl },
+  λ q says. says .answer,
+)
 
 -- capi::dugg_read_site
-pub duggReadSite-one : (bytes : List ℕ) (r q : EditedSite) → DuggReadSite bytes r → DuggReadSite bytes q → (r ≡ q)
-duggReadSite-one bytes r q says also = says .answer ∙ sym (also .answer)
+pub duggReadSite-one : (bytes : List ℕ)
+    → (r : EditedSite) × (DuggReadSite bytes r)
+    × ((q : EditedSite) → DuggReadSite bytes q → (q ≡ r))
+duggReadSite-one bytes = (
+  toldSiteRead (readSite bytes),
+  record { answer = refl },
+  λ q says. says .answer,
+)
 
 -- capi::dugg_write_site
-pub duggWriteSite-one : (site : Site) (out : List ℕ) (r q : Answer) (out′ out″ : List ℕ) → DuggWriteSite site out r out′ → DuggWriteSite site out q out″ → (r ≡ q) × (out′ ≡ out″)
-duggWriteSite-one site out r q out′ out″ says also = (says .answer ∙ sym (also .answer), says .out-after ∙ sym (also .out-after))
+pub duggWriteSite-one : (site : Site) (out : List ℕ)
+    → (r : Answer) × (out′ : List ℕ) × (DuggWriteSite site out r out′)
+    × ((q : Answer) (out″ : List ℕ) → DuggWriteSite site out q out″ → (q ≡ r) × (out″ ≡ out′))
+duggWriteSite-one site out = (
+  told (siteWrittenGiven (siteWritten site out)),
+  siteOut site out,
+  record { answer = refl; out-after = refl },
+  λ q out″ says. (says .answer, says .out-after),
+)
 
 -- capi::dugg_read_plan
-pub duggReadPlan-one : (bytes : List ℕ) (table : List ℕ) (r q : PlanReadC) (table′ table″ : List ℕ) → DuggReadPlan bytes table r table′ → DuggReadPlan bytes table q table″ → (r ≡ q) × (table′ ≡ table″)
-duggReadPlan-one bytes table r q table′ table″ says also = (says .answer ∙ sym (also .answer), says .table-after ∙ sym (also .table-after))
+pub duggReadPlan-one : (bytes : List ℕ) (table : List ℕ)
+    → (r : PlanReadC) × (table′ : List ℕ) × (DuggReadPlan bytes table r table′)
+    × ((q : PlanReadC) (table″ : List ℕ) → DuggReadPlan bytes table q table″ → (q ≡ r) × (table″ ≡ table′))
+duggReadPlan-one bytes table = (
+  toldPlanRead (readPlan bytes table),
+  planTableRead bytes table,
+  record { answer = refl; table-after = refl },
+  λ q table″ says. (says .answer, says .table-after),
+)
 
 -- capi::dugg_write_plan
-pub duggWritePlan-one : (site : Site) (table : List ℕ) (out : List ℕ) (r q : Answer) (out′ out″ : List ℕ) → DuggWritePlan site table out r out′ → DuggWritePlan site table out q out″ → (r ≡ q) × (out′ ≡ out″)
-duggWritePlan-one site table out r q out′ out″ says also = (says .answer ∙ sym (also .answer), says .out-after ∙ sym (also .out-after))
+pub duggWritePlan-one : (site : Site) (table : List ℕ) (out : List ℕ)
+    → (r : Answer) × (out′ : List ℕ) × (DuggWritePlan site table out r out′)
+    × ((q : Answer) (out″ : List ℕ) → DuggWritePlan site table out q out″ → (q ≡ r) × (out″ ≡ out′))
+duggWritePlan-one site table out = (
+  told (planWrittenGiven (planWritten site table out)),
+  planOut site table out,
+  record { answer = refl; out-after = refl },
+  λ q out″ says. (says .answer, says .out-after),
+)
 
 -- capi::dugg_read_sheet
-pub duggReadSheet-one : (bytes : List ℕ) (slots : ℕ) (channels : ℕ) (r q : EditedSite) → DuggReadSheet bytes slots channels r → DuggReadSheet bytes slots channels q → (r ≡ q)
-duggReadSheet-one bytes slots channels r q says also = says .answer ∙ sym (also .answer)
+pub duggReadSheet-one : (bytes : List ℕ) (slots : ℕ) (channels : ℕ)
+    → (r : EditedSite) × (DuggReadSheet bytes slots channels r)
+    × ((q : EditedSite) → DuggReadSheet bytes slots channels q → (q ≡ r))
+duggReadSheet-one bytes slots channels = (
+  toldSheetRead (readSheet bytes slots channels),
+  record { answer = refl },
+  λ q says. says .answer,
+)
 
 -- capi::dugg_write_sheet
-pub duggWriteSheet-one : (site : Site) (out : List ℕ) (r q : Answer) (out′ out″ : List ℕ) → DuggWriteSheet site out r out′ → DuggWriteSheet site out q out″ → (r ≡ q) × (out′ ≡ out″)
-duggWriteSheet-one site out r q out′ out″ says also = (says .answer ∙ sym (also .answer), says .out-after ∙ sym (also .out-after))
+pub duggWriteSheet-one : (site : Site) (out : List ℕ)
+    → (r : Answer) × (out′ : List ℕ) × (DuggWriteSheet site out r out′)
+    × ((q : Answer) (out″ : List ℕ) → DuggWriteSheet site out q out″ → (q ≡ r) × (out″ ≡ out′))
+duggWriteSheet-one site out = (
+  told (sheetWrittenGiven (sheetWritten site out)),
+  sheetOut site out,
+  record { answer = refl; out-after = refl },
+  λ q out″ says. (says .answer, says .out-after),
+)
 
 -- capi::dugg_admit
-pub duggAdmit-one : (site : Site) (flows : List Flow) (r q : Answer) → DuggAdmit site flows r → DuggAdmit site flows q → (r ≡ q)
-duggAdmit-one site flows r q says also = says .answer ∙ sym (also .answer)
+pub duggAdmit-one : (site : Site) (flows : List Flow)
+    → (r : Answer) × (DuggAdmit site flows r)
+    × ((q : Answer) → DuggAdmit site flows q → (q ≡ r))
+duggAdmit-one site flows = (
+  told (admitGiven (admitAnswer site flows)),
+  record { answer = refl },
+  λ q says. says .answer,
+)

@@ -1,18 +1,39 @@
--- Each contract of crate `chainwords` leaves one possible answer and one possible content of what is lent, by its equalities alone. Made by tools/surface from the source.
+-- For any arguments one answer and one content of what is lent meet the contract, and no other, in crate `chainwords`: by its equalities alone. Made by tools/surface from the source.
 -- Assumes nothing.
-use mathlib.Core.Path.{_≡_, sym, _∙_}
+use mathlib.Core.Path.{_≡_, refl}
 use mathlib.Core.List.{List}
 use Prim.Native.Nat.{ℕ}
+use Rattle.chainwords.specs.Chain.{chainIn}
 use Rattle.contracts.specs.ChainwordsSays.{ChainwordsBreakOf, ChainwordsFirstBreak, ChainwordsGap}
+use Rattle.laws.specs.Bits.{bitAt, bitIn}
+use Rattle.theory.specs.Verdict.{breakOf, firstBreak, gap}
 
 -- chainwords::gap
-pub chainwordsGap-one : (row : ℕ) (who : ℕ) (a : ℕ) (c : ℕ) (r q : ℕ) → ChainwordsGap row who a c r → ChainwordsGap row who a c q → (r ≡ q)
-chainwordsGap-one row who a c r q says also = says .answer ∙ sym (also .answer)
+pub chainwordsGap-one : (row : ℕ) (who : ℕ) (a : ℕ) (c : ℕ)
+    → (r : ℕ) × (ChainwordsGap row who a c r)
+    × ((q : ℕ) → ChainwordsGap row who a c q → (q ≡ r))
+chainwordsGap-one row who a c = (
+  gap (chainIn c (λ _. bitAt row)) (bitAt who) a c,
+  record { answer = refl },
+  λ q says. says .answer,
+)
 
 -- chainwords::break_of
-pub chainwordsBreakOf-one : (row : ℕ) (who : ℕ) (a : ℕ) (cells : ℕ) (r q : ℕ) → ChainwordsBreakOf row who a cells r → ChainwordsBreakOf row who a cells q → (r ≡ q)
-chainwordsBreakOf-one row who a cells r q says also = says .answer ∙ sym (also .answer)
+pub chainwordsBreakOf-one : (row : ℕ) (who : ℕ) (a : ℕ) (cells : ℕ)
+    → (r : ℕ) × (ChainwordsBreakOf row who a cells r)
+    × ((q : ℕ) → ChainwordsBreakOf row who a cells q → (q ≡ r))
+chainwordsBreakOf-one row who a cells = (
+  breakOf (chainIn cells (λ _. bitAt row)) (bitAt who) a,
+  record { answer = refl },
+  λ q says. says .answer,
+)
 
 -- chainwords::first_break
-pub chainwordsFirstBreak-one : (clash : List ℕ) (who : ℕ) (cells : ℕ) (r q : ℕ) → ChainwordsFirstBreak clash who cells r → ChainwordsFirstBreak clash who cells q → (r ≡ q)
-chainwordsFirstBreak-one clash who cells r q says also = says .answer ∙ sym (also .answer)
+pub chainwordsFirstBreak-one : (clash : List ℕ) (who : ℕ) (cells : ℕ)
+    → (r : ℕ) × (ChainwordsFirstBreak clash who cells r)
+    × ((q : ℕ) → ChainwordsFirstBreak clash who cells q → (q ≡ r))
+chainwordsFirstBreak-one clash who cells = (
+  firstBreak (chainIn cells (bitIn clash)) (bitAt who),
+  record { answer = refl },
+  λ q says. says .answer,
+)

@@ -31,3 +31,4 @@ pub mod FlowwordsOne
 pub mod WhyOne
 pub mod ToldOne
 pub mod CapiOne
+pub mod Every

@@ -1,11 +1,21 @@
--- Each contract of crate `refusals` leaves one possible answer and one possible content of what is lent, by its equalities alone. Made by tools/surface from the source.
+-- For any arguments one answer and one content of what is lent meet the contract, and no other, in crate `refusals`: by its equalities alone. Made by tools/surface from the source.
 -- Assumes nothing.
-use mathlib.Core.Path.{_≡_, sym, _∙_}
+use mathlib.Core.Path.{_≡_, refl}
 use mathlib.Core.List.{List}
-use Prim.Native.Nat.{ℕ}
+use Prim.Native.Nat.{_+_, ℕ}
 use Rattle.contracts.specs.RefusalsSays.{RefusalsRefused}
+use Rattle.refusals.specs.Words.{refusedLine}
 use Rattle.refusals.specs.declared.Place.{Place}
+use lib.ListN.{length}
+use lib.Seq.{sets}
 
 -- refusals::refused
-pub refusalsRefused-one : (out : List ℕ) (at : ℕ) (number : ℕ) (place : Place) (r q : ℕ) (out′ out″ : List ℕ) → RefusalsRefused out at number place r out′ → RefusalsRefused out at number place q out″ → (r ≡ q) × (out′ ≡ out″)
-refusalsRefused-one out at number place r q out′ out″ says also = (says .answer ∙ sym (also .answer), says .out-after ∙ sym (also .out-after))
+pub refusalsRefused-one : (out : List ℕ) (at : ℕ) (number : ℕ) (place : Place)
+    → (r : ℕ) × (out′ : List ℕ) × (RefusalsRefused out at number place r out′)
+    × ((q : ℕ) (out″ : List ℕ) → RefusalsRefused out at number place q out″ → (q ≡ r) × (out″ ≡ out′))
+refusalsRefused-one out at number place = (
+  at + length (refusedLine number place),
+  sets out at (refusedLine number place),
+  record { answer = refl; out-after = refl },
+  λ q out″ says. (says .answer, says .out-after),
+)

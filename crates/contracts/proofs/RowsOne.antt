@@ -1,18 +1,41 @@
--- Each contract of crate `rows` leaves one possible answer and one possible content of what is lent, by its equalities alone. Made by tools/surface from the source.
+-- For any arguments one answer and one content of what is lent meet the contract, and no other, in crate `rows`: by its equalities alone. Made by tools/surface from the source.
 -- Assumes nothing.
-use mathlib.Core.Path.{_≡_, sym, _∙_}
+use mathlib.Core.Path.{_≡_, refl}
 use mathlib.Core.List.{List}
-use Prim.Native.Nat.{ℕ}
+use Prim.Native.Nat.{_*_, ℕ}
 use Rattle.contracts.specs.RowsSays.{RowsClear, RowsFillRow, RowsForbidRow}
+use Rattle.laws.specs.Part.{part, put}
+use Rattle.theory.specs.Greedy.{fill, forbid, unmet}
+use Rattle.theory.specs.Net.{unblocked}
+use lib.ListN.{length, replicate}
 
 -- rows::fill_row
-pub rowsFillRow-one : (row : List ℕ) (slots : ℕ) (channels : ℕ) (load : ℕ) (r q : ℕ) (row′ row″ : List ℕ) → RowsFillRow row slots channels load r row′ → RowsFillRow row slots channels load q row″ → (r ≡ q) × (row′ ≡ row″)
-rowsFillRow-one row slots channels load r q row′ row″ says also = (says .answer ∙ sym (also .answer), says .row-after ∙ sym (also .row-after))
+pub rowsFillRow-one : (row : List ℕ) (slots : ℕ) (channels : ℕ) (load : ℕ)
+    → (r : ℕ) × (row′ : List ℕ) × (RowsFillRow row slots channels load r row′)
+    × ((q : ℕ) (row″ : List ℕ) → RowsFillRow row slots channels load q row″ → (q ≡ r) × (row″ ≡ row′))
+rowsFillRow-one row slots channels load = (
+  unmet unblocked 0 load row,
+  fill unblocked 0 load row,
+  record { answer = refl; row-after = refl },
+  λ q row″ says. (says .answer, says .row-after),
+)
 
 -- rows::forbid_row
-pub rowsForbidRow-one : (table : List ℕ) (n : ℕ) (j : ℕ) (i : ℕ) (table′ table″ : List ℕ) → RowsForbidRow table n j i table′ → RowsForbidRow table n j i table″ → (table′ ≡ table″)
-rowsForbidRow-one table n j i table′ table″ says also = says .table-after ∙ sym (also .table-after)
+pub rowsForbidRow-one : (table : List ℕ) (n : ℕ) (j : ℕ) (i : ℕ)
+    → (table′ : List ℕ) × (RowsForbidRow table n j i table′)
+    × ((table″ : List ℕ) → RowsForbidRow table n j i table″ → (table″ ≡ table′))
+rowsForbidRow-one table n j i = (
+  put (i * n) n (forbid (part (j * n) n table) (part (i * n) n table)) table,
+  record { table-after = refl },
+  λ table″ says. says .table-after,
+)
 
 -- rows::clear
-pub rowsClear-one : (bytes : List ℕ) (bytes′ bytes″ : List ℕ) → RowsClear bytes bytes′ → RowsClear bytes bytes″ → (bytes′ ≡ bytes″)
-rowsClear-one bytes bytes′ bytes″ says also = says .bytes-after ∙ sym (also .bytes-after)
+pub rowsClear-one : (bytes : List ℕ)
+    → (bytes′ : List ℕ) × (RowsClear bytes bytes′)
+    × ((bytes″ : List ℕ) → RowsClear bytes bytes″ → (bytes″ ≡ bytes′))
+rowsClear-one bytes = (
+  replicate (length bytes) 0,
+  record { bytes-after = refl },
+  λ bytes″ says. says .bytes-after,
+)

@@ -1,17 +1,32 @@
--- Each contract of crate `sheet` leaves one possible answer and one possible content of what is lent, by its equalities alone. Made by tools/surface from the source.
+-- For any arguments one answer and one content of what is lent meet the contract, and no other, in crate `sheet`: by its equalities alone. Made by tools/surface from the source.
 -- Assumes nothing.
-use mathlib.Core.Path.{_≡_, sym, _∙_}
+use mathlib.Core.Path.{_≡_, refl}
 use mathlib.Core.List.{List}
 use Prim.Native.Nat.{ℕ}
 use Rattle.contracts.specs.SheetSays.{ReadSheet, WriteSheet}
+use Rattle.sheet.specs.Read.{readSheet}
+use Rattle.sheet.specs.Write.{sheetOut, sheetWritten}
 use Rattle.sheet.specs.declared.SheetRead.{SheetRead}
 use Rattle.sheet.specs.declared.SheetWritten.{SheetWritten}
 use Rattle.site.specs.declared.Site.{Site}
 
 -- sheet::read_sheet
-pub readSheet-one : (bytes : List ℕ) (slots : ℕ) (channels : ℕ) (r q : SheetRead) → ReadSheet bytes slots channels r → ReadSheet bytes slots channels q → (r ≡ q)
-readSheet-one bytes slots channels r q says also = says .answer ∙ sym (also .answer)
+pub readSheet-one : (bytes : List ℕ) (slots : ℕ) (channels : ℕ)
+    → (r : SheetRead) × (ReadSheet bytes slots channels r)
+    × ((q : SheetRead) → ReadSheet bytes slots channels q → (q ≡ r))
+readSheet-one bytes slots channels = (
+  readSheet bytes slots channels,
+  record { answer = refl },
+  λ q says. says .answer,
+)
 
 -- sheet::write_sheet
-pub writeSheet-one : (site : Site) (out : List ℕ) (r q : SheetWritten) (out′ out″ : List ℕ) → WriteSheet site out r out′ → WriteSheet site out q out″ → (r ≡ q) × (out′ ≡ out″)
-writeSheet-one site out r q out′ out″ says also = (says .answer ∙ sym (also .answer), says .out-after ∙ sym (also .out-after))
+pub writeSheet-one : (site : Site) (out : List ℕ)
+    → (r : SheetWritten) × (out′ : List ℕ) × (WriteSheet site out r out′)
+    × ((q : SheetWritten) (out″ : List ℕ) → WriteSheet site out q out″ → (q ≡ r) × (out″ ≡ out′))
+writeSheet-one site out = (
+  sheetWritten site out,
+  sheetOut site out,
+  record { answer = refl; out-after = refl },
+  λ q out″ says. (says .answer, says .out-after),
+)

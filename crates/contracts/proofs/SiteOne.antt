@@ -1,47 +1,103 @@
--- Each contract of crate `site` leaves one possible answer and one possible content of what is lent, by its equalities alone. Made by tools/surface from the source.
+-- For any arguments one answer and one content of what is lent meet the contract, and no other, in crate `site`: by its equalities alone. Made by tools/surface from the source.
 -- Assumes nothing.
-use mathlib.Core.Path.{_≡_, sym, _∙_}
+use mathlib.Core.Path.{_≡_, refl}
 use mathlib.Core.Bool.{Bool}
 use mathlib.Core.List.{List}
 use Prim.Native.Nat.{ℕ}
 use Rattle.contracts.specs.SiteSays.{SiteClash, SiteClashRows, SiteClearReach, SiteFaultIn, SiteSetLoad, SiteSetReach, SiteZeros, SizeOk, Within}
+use Rattle.site.specs.Edit.{clearReachOf, setLoadOf, setReachOf}
+use Rattle.site.specs.Reach.{clashAnswer, clashRows}
+use Rattle.site.specs.Record.{faultOf, sizeOk, upTo, zeroSite}
 use Rattle.site.specs.declared.ClashAnswer.{ClashAnswer}
 use Rattle.site.specs.declared.Edited.{Edited}
 use Rattle.site.specs.declared.Fault.{Fault}
 use Rattle.site.specs.declared.Site.{Site}
 
 -- site::within
-pub within-one : (x : ℕ) (most : ℕ) (r q : Bool) → Within x most r → Within x most q → (r ≡ q)
-within-one x most r q says also = says .answer ∙ sym (also .answer)
+pub within-one : (x : ℕ) (most : ℕ)
+    → (r : Bool) × (Within x most r)
+    × ((q : Bool) → Within x most q → (q ≡ r))
+within-one x most = (
+  upTo most x,
+  record { answer = refl },
+  λ q says. says .answer,
+)
 
 -- site::size_ok
-pub sizeOk-one : (cells : ℕ) (slots : ℕ) (channels : ℕ) (r q : Bool) → SizeOk cells slots channels r → SizeOk cells slots channels q → (r ≡ q)
-sizeOk-one cells slots channels r q says also = says .answer ∙ sym (also .answer)
+pub sizeOk-one : (cells : ℕ) (slots : ℕ) (channels : ℕ)
+    → (r : Bool) × (SizeOk cells slots channels r)
+    × ((q : Bool) → SizeOk cells slots channels q → (q ≡ r))
+sizeOk-one cells slots channels = (
+  sizeOk cells slots channels,
+  record { answer = refl },
+  λ q says. says .answer,
+)
 
 -- site::Site::zeros
-pub siteZeros-one : (r q : Site) → SiteZeros r → SiteZeros q → (r ≡ q)
-siteZeros-one r q says also = says .answer ∙ sym (also .answer)
+pub siteZeros-one : (r : Site) × (SiteZeros r)
+    × ((q : Site) → SiteZeros q → (q ≡ r))
+siteZeros-one = (
+  zeroSite,
+  record { answer = refl },
+  λ q says. says .answer,
+)
 
 -- site::Site::fault_in
-pub siteFaultIn-one : (self : Site) (r q : Fault) → SiteFaultIn self r → SiteFaultIn self q → (r ≡ q)
-siteFaultIn-one self r q says also = says .answer ∙ sym (also .answer)
+pub siteFaultIn-one : (self : Site)
+    → (r : Fault) × (SiteFaultIn self r)
+    × ((q : Fault) → SiteFaultIn self q → (q ≡ r))
+siteFaultIn-one self = (
+  faultOf self,
+  record { answer = refl },
+  λ q says. says .answer,
+)
 
 -- site::Site::clash_rows
-pub siteClashRows-one : (self : Site) (r q : List ℕ) → SiteClashRows self r → SiteClashRows self q → (r ≡ q)
-siteClashRows-one self r q says also = says .answer ∙ sym (also .answer)
+pub siteClashRows-one : (self : Site)
+    → (r : List ℕ) × (SiteClashRows self r)
+    × ((q : List ℕ) → SiteClashRows self q → (q ≡ r))
+siteClashRows-one self = (
+  clashRows self,
+  record { answer = refl },
+  λ q says. says .answer,
+)
 
 -- site::Site::clash
-pub siteClash-one : (self : Site) (a : ℕ) (b : ℕ) (r q : ClashAnswer) → SiteClash self a b r → SiteClash self a b q → (r ≡ q)
-siteClash-one self a b r q says also = says .answer ∙ sym (also .answer)
+pub siteClash-one : (self : Site) (a : ℕ) (b : ℕ)
+    → (r : ClashAnswer) × (SiteClash self a b r)
+    × ((q : ClashAnswer) → SiteClash self a b q → (q ≡ r))
+siteClash-one self a b = (
+  clashAnswer self a b,
+  record { answer = refl },
+  λ q says. says .answer,
+)
 
 -- site::Site::set_load
-pub siteSetLoad-one : (self : Site) (cell : ℕ) (load : ℕ) (r q : Edited) → SiteSetLoad self cell load r → SiteSetLoad self cell load q → (r ≡ q)
-siteSetLoad-one self cell load r q says also = says .answer ∙ sym (also .answer)
+pub siteSetLoad-one : (self : Site) (cell : ℕ) (load : ℕ)
+    → (r : Edited) × (SiteSetLoad self cell load r)
+    × ((q : Edited) → SiteSetLoad self cell load q → (q ≡ r))
+siteSetLoad-one self cell load = (
+  setLoadOf self cell load,
+  record { answer = refl },
+  λ q says. says .answer,
+)
 
 -- site::Site::set_reach
-pub siteSetReach-one : (self : Site) (from : ℕ) (to : ℕ) (r q : Edited) → SiteSetReach self from to r → SiteSetReach self from to q → (r ≡ q)
-siteSetReach-one self from to r q says also = says .answer ∙ sym (also .answer)
+pub siteSetReach-one : (self : Site) (from : ℕ) (to : ℕ)
+    → (r : Edited) × (SiteSetReach self from to r)
+    × ((q : Edited) → SiteSetReach self from to q → (q ≡ r))
+siteSetReach-one self from to = (
+  setReachOf self from to,
+  record { answer = refl },
+  λ q says. says .answer,
+)
 
 -- site::Site::clear_reach
-pub siteClearReach-one : (self : Site) (from : ℕ) (to : ℕ) (r q : Edited) → SiteClearReach self from to r → SiteClearReach self from to q → (r ≡ q)
-siteClearReach-one self from to r q says also = says .answer ∙ sym (also .answer)
+pub siteClearReach-one : (self : Site) (from : ℕ) (to : ℕ)
+    → (r : Edited) × (SiteClearReach self from to r)
+    × ((q : Edited) → SiteClearReach self from to q → (q ≡ r))
+siteClearReach-one self from to = (
+  clearReachOf self from to,
+  record { answer = refl },
+  λ q says. says .answer,
+)

@@ -1,10 +1,17 @@
--- Each contract of crate `square` leaves one possible answer and one possible content of what is lent, by its equalities alone. Made by tools/surface from the source.
+-- For any arguments one answer and one content of what is lent meet the contract, and no other, in crate `square`: by its equalities alone. Made by tools/surface from the source.
 -- Assumes nothing.
-use mathlib.Core.Path.{_≡_, sym, _∙_}
+use mathlib.Core.Path.{_≡_, refl}
 use mathlib.Core.List.{List}
 use Prim.Native.Nat.{ℕ}
 use Rattle.contracts.specs.SquareSays.{SquareTurned}
+use Rattle.square.specs.Turned.{turned}
 
 -- square::turned
-pub squareTurned-one : (rows : List ℕ) (r q : List ℕ) → SquareTurned rows r → SquareTurned rows q → (r ≡ q)
-squareTurned-one rows r q says also = says .answer ∙ sym (also .answer)
+pub squareTurned-one : (rows : List ℕ)
+    → (r : List ℕ) × (SquareTurned rows r)
+    × ((q : List ℕ) → SquareTurned rows q → (q ≡ r))
+squareTurned-one rows = (
+  turned rows,
+  record { answer = refl },
+  λ q says. says .answer,
+)

@@ -1,11 +1,25 @@
--- Each contract of crate `stretches` leaves one possible answer and one possible content of what is lent, by its equalities alone. Made by tools/surface from the source.
+-- For any arguments one answer and one content of what is lent meet the contract, and no other, in crate `stretches`: by its equalities alone. Made by tools/surface from the source.
 -- Assumes nothing.
-use mathlib.Core.Path.{_≡_, sym, _∙_}
-use mathlib.Core.List.{List}
+use mathlib.Core.Path.{_≡_, refl}
+use mathlib.Core.List.{List, _++_}
 use Prim.Native.Nat.{ℕ}
 use Rattle.contracts.specs.StretchesSays.{StretchesPlanStretches}
+use Rattle.laws.specs.Bits.{bitIn}
+use Rattle.site.specs.Reach.{netIn}
+use Rattle.stretches.specs.Stretches.{stoodOf}
 use Rattle.stretches.specs.declared.Stood.{Stood}
+use Rattle.theory.specs.Greedy.{greedy}
+use Rattle.theory.specs.Net.{unblocked}
+use Rattle.words.specs.Words.{outWords}
+use lib.ListN.{drop}
 
 -- stretches::plan_stretches
-pub stretchesPlanStretches-one : (words : List ℕ) (clash : List ℕ) (loads : List ℕ) (cells : ℕ) (n : ℕ) (r q : Stood) (words′ words″ : List ℕ) → StretchesPlanStretches words clash loads cells n r words′ → StretchesPlanStretches words clash loads cells n q words″ → (r ≡ q) × (words′ ≡ words″)
-stretchesPlanStretches-one words clash loads cells n r q words′ words″ says also = (says .answer ∙ sym (also .answer), says .words-after ∙ sym (also .words-after))
+pub stretchesPlanStretches-one : (words : List ℕ) (clash : List ℕ) (loads : List ℕ) (cells : ℕ) (n : ℕ)
+    → (r : Stood) × (words′ : List ℕ) × (StretchesPlanStretches words clash loads cells n r words′)
+    × ((q : Stood) (words″ : List ℕ) → StretchesPlanStretches words clash loads cells n q words″ → (q ≡ r) × (words″ ≡ words′))
+stretchesPlanStretches-one words clash loads cells n = (
+  stoodOf (greedy (netIn cells n loads (bitIn clash) unblocked)),
+  outWords cells n (greedy (netIn cells n loads (bitIn clash) unblocked)) ++ drop n words,
+  record { answer = refl; words-after = refl },
+  λ q words″ says. (says .answer, says .words-after),
+)

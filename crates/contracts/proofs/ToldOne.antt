@@ -1,107 +1,240 @@
--- Each contract of crate `told` leaves one possible answer and one possible content of what is lent, by its equalities alone. Made by tools/surface from the source.
+-- For any arguments one answer and one content of what is lent meet the contract, and no other, in crate `told`: by its equalities alone. Made by tools/surface from the source.
 -- Assumes nothing.
-use mathlib.Core.Path.{_≡_, sym, _∙_}
+use mathlib.Core.Path.{_≡_, refl}
+use Rattle.admission.specs.Given.{admitGiven}
 use Rattle.admission.specs.declared.AdmitAnswer.{AdmitAnswer}
+use Rattle.checker.specs.Given.{checkGiven}
 use Rattle.checker.specs.declared.CheckAnswer.{CheckAnswer}
 use Rattle.contracts.specs.ToldSays.{ToldAdmitAnswer, ToldChainAnswer, ToldCheckAnswer, ToldClashAnswer, ToldEditedAnswer, ToldFaultAnswer, ToldFormAnswer, ToldLeastAnswer, ToldLoadAnswer, ToldMendAnswer, ToldPlanAnswer, ToldPlanRead, ToldPlanWritten, ToldReadAnswer, ToldShareAnswer, ToldSheetAnswer, ToldSheetRead, ToldSheetWritten, ToldSiteRead, ToldSiteWritten}
+use Rattle.judges.specs.Given.{chainGiven, leastGiven, loadGiven}
 use Rattle.judges.specs.declared.ChainAnswer.{ChainAnswer}
 use Rattle.judges.specs.declared.LeastAnswer.{LeastAnswer}
 use Rattle.judges.specs.declared.LoadAnswer.{LoadAnswer}
+use Rattle.mender.specs.Given.{mendGiven}
 use Rattle.mender.specs.declared.MendAnswer.{MendAnswer}
+use Rattle.planfile.specs.Given.{planWrittenGiven}
 use Rattle.planfile.specs.declared.PlanRead.{PlanRead}
 use Rattle.planfile.specs.declared.PlanWritten.{PlanWritten}
+use Rattle.planner.specs.Given.{planGiven}
 use Rattle.planner.specs.declared.PlanAnswer.{PlanAnswer}
+use Rattle.records.specs.Given.{readGiven}
 use Rattle.records.specs.declared.ReadAnswer.{ReadAnswer}
+use Rattle.shares.specs.Given.{shareGiven}
 use Rattle.shares.specs.declared.ShareAnswer.{ShareAnswer}
+use Rattle.sheet.specs.Given.{sheetGiven, sheetWrittenGiven}
 use Rattle.sheet.specs.declared.SheetAnswer.{SheetAnswer}
 use Rattle.sheet.specs.declared.SheetRead.{SheetRead}
 use Rattle.sheet.specs.declared.SheetWritten.{SheetWritten}
+use Rattle.site.specs.Given.{clashGiven, faultGiven}
 use Rattle.site.specs.declared.ClashAnswer.{ClashAnswer}
 use Rattle.site.specs.declared.Edited.{Edited}
 use Rattle.site.specs.declared.Fault.{Fault}
+use Rattle.sitefile.specs.Given.{siteWrittenGiven}
 use Rattle.sitefile.specs.declared.SiteRead.{SiteRead}
 use Rattle.sitefile.specs.declared.SiteWritten.{SiteWritten}
+use Rattle.told.specs.Told.{told, toldEdited, toldPlanRead, toldSheetRead, toldSiteRead}
 use Rattle.told.specs.declared.Answer.{Answer}
 use Rattle.told.specs.declared.EditedSite.{EditedSite}
 use Rattle.told.specs.declared.PlanReadC.{PlanReadC}
+use Rattle.wordtable.specs.Given.{formGiven}
 use Rattle.wordtable.specs.declared.FormAnswer.{FormAnswer}
 
 -- told::fault_answer
-pub toldFaultAnswer-one : (said : Fault) (r q : Answer) → ToldFaultAnswer said r → ToldFaultAnswer said q → (r ≡ q)
-toldFaultAnswer-one said r q says also = says .answer ∙ sym (also .answer)
+pub toldFaultAnswer-one : (said : Fault)
+    → (r : Answer) × (ToldFaultAnswer said r)
+    × ((q : Answer) → ToldFaultAnswer said q → (q ≡ r))
+toldFaultAnswer-one said = (
+  told (faultGiven said),
+  record { answer = refl },
+  λ q says. says .answer,
+)
 
 -- told::clash_answer
-pub toldClashAnswer-one : (said : ClashAnswer) (r q : Answer) → ToldClashAnswer said r → ToldClashAnswer said q → (r ≡ q)
-toldClashAnswer-one said r q says also = says .answer ∙ sym (also .answer)
+pub toldClashAnswer-one : (said : ClashAnswer)
+    → (r : Answer) × (ToldClashAnswer said r)
+    × ((q : Answer) → ToldClashAnswer said q → (q ≡ r))
+toldClashAnswer-one said = (
+  told (clashGiven said),
+  record { answer = refl },
+  λ q says. says .answer,
+)
 
 -- told::load_answer
-pub toldLoadAnswer-one : (said : LoadAnswer) (r q : Answer) → ToldLoadAnswer said r → ToldLoadAnswer said q → (r ≡ q)
-toldLoadAnswer-one said r q says also = says .answer ∙ sym (also .answer)
+pub toldLoadAnswer-one : (said : LoadAnswer)
+    → (r : Answer) × (ToldLoadAnswer said r)
+    × ((q : Answer) → ToldLoadAnswer said q → (q ≡ r))
+toldLoadAnswer-one said = (
+  told (loadGiven said),
+  record { answer = refl },
+  λ q says. says .answer,
+)
 
 -- told::chain_answer
-pub toldChainAnswer-one : (said : ChainAnswer) (r q : Answer) → ToldChainAnswer said r → ToldChainAnswer said q → (r ≡ q)
-toldChainAnswer-one said r q says also = says .answer ∙ sym (also .answer)
+pub toldChainAnswer-one : (said : ChainAnswer)
+    → (r : Answer) × (ToldChainAnswer said r)
+    × ((q : Answer) → ToldChainAnswer said q → (q ≡ r))
+toldChainAnswer-one said = (
+  told (chainGiven said),
+  record { answer = refl },
+  λ q says. says .answer,
+)
 
 -- told::least_answer
-pub toldLeastAnswer-one : (said : LeastAnswer) (r q : Answer) → ToldLeastAnswer said r → ToldLeastAnswer said q → (r ≡ q)
-toldLeastAnswer-one said r q says also = says .answer ∙ sym (also .answer)
+pub toldLeastAnswer-one : (said : LeastAnswer)
+    → (r : Answer) × (ToldLeastAnswer said r)
+    × ((q : Answer) → ToldLeastAnswer said q → (q ≡ r))
+toldLeastAnswer-one said = (
+  told (leastGiven said),
+  record { answer = refl },
+  λ q says. says .answer,
+)
 
 -- told::plan_answer
-pub toldPlanAnswer-one : (said : PlanAnswer) (r q : Answer) → ToldPlanAnswer said r → ToldPlanAnswer said q → (r ≡ q)
-toldPlanAnswer-one said r q says also = says .answer ∙ sym (also .answer)
+pub toldPlanAnswer-one : (said : PlanAnswer)
+    → (r : Answer) × (ToldPlanAnswer said r)
+    × ((q : Answer) → ToldPlanAnswer said q → (q ≡ r))
+toldPlanAnswer-one said = (
+  told (planGiven said),
+  record { answer = refl },
+  λ q says. says .answer,
+)
 
 -- told::check_answer
-pub toldCheckAnswer-one : (said : CheckAnswer) (r q : Answer) → ToldCheckAnswer said r → ToldCheckAnswer said q → (r ≡ q)
-toldCheckAnswer-one said r q says also = says .answer ∙ sym (also .answer)
+pub toldCheckAnswer-one : (said : CheckAnswer)
+    → (r : Answer) × (ToldCheckAnswer said r)
+    × ((q : Answer) → ToldCheckAnswer said q → (q ≡ r))
+toldCheckAnswer-one said = (
+  told (checkGiven said),
+  record { answer = refl },
+  λ q says. says .answer,
+)
 
 -- told::form_answer
-pub toldFormAnswer-one : (said : FormAnswer) (r q : Answer) → ToldFormAnswer said r → ToldFormAnswer said q → (r ≡ q)
-toldFormAnswer-one said r q says also = says .answer ∙ sym (also .answer)
+pub toldFormAnswer-one : (said : FormAnswer)
+    → (r : Answer) × (ToldFormAnswer said r)
+    × ((q : Answer) → ToldFormAnswer said q → (q ≡ r))
+toldFormAnswer-one said = (
+  told (formGiven said),
+  record { answer = refl },
+  λ q says. says .answer,
+)
 
 -- told::mend_answer
-pub toldMendAnswer-one : (said : MendAnswer) (r q : Answer) → ToldMendAnswer said r → ToldMendAnswer said q → (r ≡ q)
-toldMendAnswer-one said r q says also = says .answer ∙ sym (also .answer)
+pub toldMendAnswer-one : (said : MendAnswer)
+    → (r : Answer) × (ToldMendAnswer said r)
+    × ((q : Answer) → ToldMendAnswer said q → (q ≡ r))
+toldMendAnswer-one said = (
+  told (mendGiven said),
+  record { answer = refl },
+  λ q says. says .answer,
+)
 
 -- told::share_answer
-pub toldShareAnswer-one : (said : ShareAnswer) (r q : Answer) → ToldShareAnswer said r → ToldShareAnswer said q → (r ≡ q)
-toldShareAnswer-one said r q says also = says .answer ∙ sym (also .answer)
+pub toldShareAnswer-one : (said : ShareAnswer)
+    → (r : Answer) × (ToldShareAnswer said r)
+    × ((q : Answer) → ToldShareAnswer said q → (q ≡ r))
+toldShareAnswer-one said = (
+  told (shareGiven said),
+  record { answer = refl },
+  λ q says. says .answer,
+)
 
 -- told::read_answer
-pub toldReadAnswer-one : (said : ReadAnswer) (r q : Answer) → ToldReadAnswer said r → ToldReadAnswer said q → (r ≡ q)
-toldReadAnswer-one said r q says also = says .answer ∙ sym (also .answer)
+pub toldReadAnswer-one : (said : ReadAnswer)
+    → (r : Answer) × (ToldReadAnswer said r)
+    × ((q : Answer) → ToldReadAnswer said q → (q ≡ r))
+toldReadAnswer-one said = (
+  told (readGiven said),
+  record { answer = refl },
+  λ q says. says .answer,
+)
 
 -- told::site_written
-pub toldSiteWritten-one : (said : SiteWritten) (r q : Answer) → ToldSiteWritten said r → ToldSiteWritten said q → (r ≡ q)
-toldSiteWritten-one said r q says also = says .answer ∙ sym (also .answer)
+pub toldSiteWritten-one : (said : SiteWritten)
+    → (r : Answer) × (ToldSiteWritten said r)
+    × ((q : Answer) → ToldSiteWritten said q → (q ≡ r))
+toldSiteWritten-one said = (
+  told (siteWrittenGiven said),
+  record { answer = refl },
+  λ q says. says .answer,
+)
 
 -- told::plan_written
-pub toldPlanWritten-one : (said : PlanWritten) (r q : Answer) → ToldPlanWritten said r → ToldPlanWritten said q → (r ≡ q)
-toldPlanWritten-one said r q says also = says .answer ∙ sym (also .answer)
+pub toldPlanWritten-one : (said : PlanWritten)
+    → (r : Answer) × (ToldPlanWritten said r)
+    × ((q : Answer) → ToldPlanWritten said q → (q ≡ r))
+toldPlanWritten-one said = (
+  told (planWrittenGiven said),
+  record { answer = refl },
+  λ q says. says .answer,
+)
 
 -- told::sheet_answer
-pub toldSheetAnswer-one : (said : SheetAnswer) (r q : Answer) → ToldSheetAnswer said r → ToldSheetAnswer said q → (r ≡ q)
-toldSheetAnswer-one said r q says also = says .answer ∙ sym (also .answer)
+pub toldSheetAnswer-one : (said : SheetAnswer)
+    → (r : Answer) × (ToldSheetAnswer said r)
+    × ((q : Answer) → ToldSheetAnswer said q → (q ≡ r))
+toldSheetAnswer-one said = (
+  told (sheetGiven said),
+  record { answer = refl },
+  λ q says. says .answer,
+)
 
 -- told::sheet_written
-pub toldSheetWritten-one : (said : SheetWritten) (r q : Answer) → ToldSheetWritten said r → ToldSheetWritten said q → (r ≡ q)
-toldSheetWritten-one said r q says also = says .answer ∙ sym (also .answer)
+pub toldSheetWritten-one : (said : SheetWritten)
+    → (r : Answer) × (ToldSheetWritten said r)
+    × ((q : Answer) → ToldSheetWritten said q → (q ≡ r))
+toldSheetWritten-one said = (
+  told (sheetWrittenGiven said),
+  record { answer = refl },
+  λ q says. says .answer,
+)
 
 -- told::admit_answer
-pub toldAdmitAnswer-one : (said : AdmitAnswer) (r q : Answer) → ToldAdmitAnswer said r → ToldAdmitAnswer said q → (r ≡ q)
-toldAdmitAnswer-one said r q says also = says .answer ∙ sym (also .answer)
+pub toldAdmitAnswer-one : (said : AdmitAnswer)
+    → (r : Answer) × (ToldAdmitAnswer said r)
+    × ((q : Answer) → ToldAdmitAnswer said q → (q ≡ r))
+toldAdmitAnswer-one said = (
+  told (admitGiven said),
+  record { answer = refl },
+  λ q says. says .answer,
+)
 
 -- told::edited_answer
-pub toldEditedAnswer-one : (e : Edited) (r q : EditedSite) → ToldEditedAnswer e r → ToldEditedAnswer e q → (r ≡ q)
-toldEditedAnswer-one e r q says also = says .answer ∙ sym (also .answer)
+pub toldEditedAnswer-one : (e : Edited)
+    → (r : EditedSite) × (ToldEditedAnswer e r)
+    × ((q : EditedSite) → ToldEditedAnswer e q → (q ≡ r))
+toldEditedAnswer-one e = (
+  toldEdited e,
+  record { answer = refl },
+  λ q says. says .answer,
+)
 
 -- told::site_read
-pub toldSiteRead-one : (e : SiteRead) (r q : EditedSite) → ToldSiteRead e r → ToldSiteRead e q → (r ≡ q)
-toldSiteRead-one e r q says also = says .answer ∙ sym (also .answer)
+pub toldSiteRead-one : (e : SiteRead)
+    → (r : EditedSite) × (ToldSiteRead e r)
+    × ((q : EditedSite) → ToldSiteRead e q → (q ≡ r))
+toldSiteRead-one e = (
+  toldSiteRead e,
+  record { answer = refl },
+  λ q says. says .answer,
+)
 
 -- told::sheet_read
-pub toldSheetRead-one : (e : SheetRead) (r q : EditedSite) → ToldSheetRead e r → ToldSheetRead e q → (r ≡ q)
-toldSheetRead-one e r q says also = says .answer ∙ sym (also .answer)
+pub toldSheetRead-one : (e : SheetRead)
+    → (r : EditedSite) × (ToldSheetRead e r)
+    × ((q : EditedSite) → ToldSheetRead e q → (q ≡ r))
+toldSheetRead-one e = (
+  toldSheetRead e,
+  record { answer = refl },
+  λ q says. says .answer,
+)
 
 -- told::plan_read
-pub toldPlanRead-one : (e : PlanRead) (r q : PlanReadC) → ToldPlanRead e r → ToldPlanRead e q → (r ≡ q)
-toldPlanRead-one e r q says also = says .answer ∙ sym (also .answer)
+pub toldPlanRead-one : (e : PlanRead)
+    → (r : PlanReadC) × (ToldPlanRead e r)
+    × ((q : PlanReadC) → ToldPlanRead e q → (q ≡ r))
+toldPlanRead-one e = (
+  toldPlanRead e,
+  record { answer = refl },
+  λ q says. says .answer,
+)

@@ -31,3 +31,4 @@ pub mod FlowwordsSays
 pub mod WhySays
 pub mod ToldSays
 pub mod CapiSays
+pub mod Every

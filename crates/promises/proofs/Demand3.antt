@@ -38,10 +38,10 @@ eases second first h = record {
 }
 
 -- "If any valid plan of the first exists, however found, the planner plans the second." Over the valid-table definition.
-pub demand-three-sites : (first second : Site) → Accepted first → Accepted second → Easier second first → Chained (netOf second) (counted second)
+pub demand-three-sites : (first second : Site) → Accepted second → Easier second first → Chained (netOf second) (counted second)
     → (found : List ℕ) → Valid (netOf first) (reserved (positions first) found)
     → (lent : List ℕ) → LongEnough second lent → planGiven (planAnswer second lent) ≡ done
-demand-three-sites first second _ fine easier ch found v lent long =
+demand-three-sites first second fine easier ch found v lent long =
     plan-number second lent .1 (done-means second lent .1 (
       accepted-number second .0 fine,
       long,
@@ -56,7 +56,7 @@ pub demand-three-calls : (first second : Site) → Easier second first → chain
 demand-three-calls first second easier ch found ok lent long =
     let c = judge-is-chained second .0 ch in
     let v = check-is-valid first found .0 ok in
-    demand-three-sites first second (v .0) (c .0) easier (c .1) found (v .2) lent long
+    demand-three-sites first second (c .0) easier (c .1) found (v .2) lent long
 
 -- "On a chained site the load test holds exactly when the planner plans"
 pub chained-exact : (s : Site) → chainGiven (chainAnswer s) ≡ done → (lent : List ℕ) → LongEnough s lent

@@ -12,3 +12,5 @@ pub mod Admission
 pub mod Words
 pub mod Mending
 pub mod InC
+pub mod Untouched
+pub mod Top

@@ -3,9 +3,10 @@
 use mathlib.Core.Path.{_≡_}
 use mathlib.Core.Bool.{true}
 use mathlib.Core.List.{List}
-use Prim.Native.Nat.{ℕ, _≤_, _<_}
+use Prim.Native.Nat.{ℕ, _+_, _≤_, _<_}
 use lib.ListN.{length}
-use Rattle.laws.specs.Sum.{count}
+use Rattle.laws.specs.Choice.{pick}
+use Rattle.laws.specs.Sum.{count, sum}
 use Rattle.theory.specs.Greedy.{reserved}
 use Rattle.site.specs.Record.{positions, loadAt, faultOf, size}
 use Rattle.site.specs.Reach.{clashOf}
@@ -38,6 +39,16 @@ pub record Easier (second first : Site) : Type 0 where
   pub as-many-channel-slots : positions first ≤ positions second
   pub no-greater-load : (i : ℕ) → i < second .cells → loadAt second i ≤ loadAt first i
   pub no-new-clash : (a c : ℕ) → a < second .cells → c < second .cells → clashOf second a c ≡ true → clashOf first a c ≡ true
+
+-- "A site is chained when, for every clashing pair a < c, each b strictly between clashes with a, the EARLIER cell." W2: "the chain rule is about cells with
+-- load above 0 only, as a, b and c".
+abbrev pub ChainedSite : Site → Type 0
+ChainedSite s =
+    (a b c : ℕ) → a < b → b < c → c < s .cells → 0 < loadAt s a → 0 < loadAt s b → 0 < loadAt s c → clashOf s a c ≡ true → clashOf s a b ≡ true
+
+-- "for each cell, its load plus the loads of its lower-numbered clashing cells is at most N (000, claim C1)." W2: "the load test skips cells with load 0".
+abbrev pub ClaimOne : Site → Type 0
+ClaimOne s = (i : ℕ) → i < s .cells → 0 < loadAt s i → loadAt s i + sum (λ j. pick (clashOf s j i) (loadAt s j) 0) i ≤ positions s
 
 -- "a site with the same cells, loads and reach": its slots and channels may be others
 pub record Alike (other site : Site) : Type 0 where

@@ -3,3 +3,5 @@ pub mod Numbers
 pub mod Leaves
 pub mod Demands
 pub mod Desk
+pub mod Untouched
+pub mod Top

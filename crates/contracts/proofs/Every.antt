@@ -1,0 +1,75 @@
+-- Every call of the product has one answer: crate by crate. Made by tools/surface from the source. Assumes nothing.
+use Rattle.contracts.proofs.AdmissionOne.{admit-one, decide-one, shareIn-one}
+use Rattle.contracts.proofs.CapiOne.{duggAdmit-one, duggChain-one, duggCheck-one, duggCheckWords-one, duggClash-one, duggClearReach-one, duggFault-one, duggLeast-one, duggLoadTest-one, duggMend-one, duggPlan-one, duggPlanWords-one, duggReadPlan-one, duggReadSheet-one, duggReadSite-one, duggSetLoad-one, duggSetReach-one, duggShare-one, duggShareRepeated-one, duggToBytes-one, duggToWords-one, duggWritePlan-one, duggWriteSheet-one, duggWriteSite-one}
+use Rattle.contracts.proofs.CheckerOne.{check-one}
+use Rattle.contracts.proofs.FlowsheetOne.{readFlows-one}
+use Rattle.contracts.proofs.JudgesOne.{chain-one, least-one, loadTest-one}
+use Rattle.contracts.proofs.MenderOne.{mend-one, mendOnly-one}
+use Rattle.contracts.proofs.PlanfileOne.{readPlan-one, writePlan-one}
+use Rattle.contracts.proofs.PlannerOne.{plan-one}
+use Rattle.contracts.proofs.SharesOne.{share-one, shareOf-one}
+use Rattle.contracts.proofs.SheetOne.{readSheet-one, writeSheet-one}
+use Rattle.contracts.proofs.SiteOne.{siteClash-one, siteClashRows-one, siteClearReach-one, siteFaultIn-one, siteSetLoad-one, siteSetReach-one, siteZeros-one, sizeOk-one, within-one}
+use Rattle.contracts.proofs.SitefileOne.{readSite-one, writeSite-one}
+use Rattle.contracts.proofs.WordtableOne.{checkWords-one, planWords-one, toBytes-one, toWords-one}
+use Rattle.contracts.specs.Every.{EveryCall}
+
+pub every-call : EveryCall
+every-call = record {
+  within = within-one;
+  sizeOk = sizeOk-one;
+  siteZeros = siteZeros-one;
+  siteFaultIn = siteFaultIn-one;
+  siteClashRows = siteClashRows-one;
+  siteClash = siteClash-one;
+  siteSetLoad = siteSetLoad-one;
+  siteSetReach = siteSetReach-one;
+  siteClearReach = siteClearReach-one;
+  loadTest = loadTest-one;
+  chain = chain-one;
+  least = least-one;
+  plan = plan-one;
+  check = check-one;
+  planWords = planWords-one;
+  checkWords = checkWords-one;
+  toWords = toWords-one;
+  toBytes = toBytes-one;
+  mend = mend-one;
+  mendOnly = mendOnly-one;
+  shareOf = shareOf-one;
+  share = share-one;
+  shareIn = shareIn-one;
+  decide = decide-one;
+  admit = admit-one;
+  readSite = readSite-one;
+  writeSite = writeSite-one;
+  readPlan = readPlan-one;
+  writePlan = writePlan-one;
+  readSheet = readSheet-one;
+  writeSheet = writeSheet-one;
+  readFlows = readFlows-one;
+  duggFault = duggFault-one;
+  duggClash = duggClash-one;
+  duggSetLoad = duggSetLoad-one;
+  duggSetReach = duggSetReach-one;
+  duggClearReach = duggClearReach-one;
+  duggLoadTest = duggLoadTest-one;
+  duggChain = duggChain-one;
+  duggLeast = duggLeast-one;
+  duggPlan = duggPlan-one;
+  duggCheck = duggCheck-one;
+  duggPlanWords = duggPlanWords-one;
+  duggCheckWords = duggCheckWords-one;
+  duggToWords = duggToWords-one;
+  duggToBytes = duggToBytes-one;
+  duggMend = duggMend-one;
+  duggShare = duggShare-one;
+  duggShareRepeated = duggShareRepeated-one;
+  duggReadSite = duggReadSite-one;
+  duggWriteSite = duggWriteSite-one;
+  duggReadPlan = duggReadPlan-one;
+  duggWritePlan = duggWritePlan-one;
+  duggReadSheet = duggReadSheet-one;
+  duggWriteSheet = duggWriteSheet-one;
+  duggAdmit = duggAdmit-one;
+}

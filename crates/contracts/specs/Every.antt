@@ -1,0 +1,271 @@
+-- Every call of the product: for any arguments one answer and one content of what is lent meet its contract, and no other. None has a `requires`. Made by tools/surface from the source.
+use mathlib.Core.Path.{_≡_}
+use mathlib.Core.Bool.{Bool}
+use mathlib.Core.List.{List}
+use Prim.Native.Nat.{ℕ}
+use Rattle.admission.specs.declared.AdmitAnswer.{AdmitAnswer}
+use Rattle.checker.specs.declared.CheckAnswer.{CheckAnswer}
+use Rattle.contracts.specs.AdmissionSays.{Admit, Decide, ShareIn}
+use Rattle.contracts.specs.CapiSays.{DuggAdmit, DuggChain, DuggCheck, DuggCheckWords, DuggClash, DuggClearReach, DuggFault, DuggLeast, DuggLoadTest, DuggMend, DuggPlan, DuggPlanWords, DuggReadPlan, DuggReadSheet, DuggReadSite, DuggSetLoad, DuggSetReach, DuggShare, DuggShareRepeated, DuggToBytes, DuggToWords, DuggWritePlan, DuggWriteSheet, DuggWriteSite}
+use Rattle.contracts.specs.CheckerSays.{Check}
+use Rattle.contracts.specs.FlowsheetSays.{ReadFlows}
+use Rattle.contracts.specs.JudgesSays.{Chain, Least, LoadTest}
+use Rattle.contracts.specs.MenderSays.{Mend, MendOnly}
+use Rattle.contracts.specs.PlanfileSays.{ReadPlan, WritePlan}
+use Rattle.contracts.specs.PlannerSays.{Plan}
+use Rattle.contracts.specs.SharesSays.{Share, ShareOf}
+use Rattle.contracts.specs.SheetSays.{ReadSheet, WriteSheet}
+use Rattle.contracts.specs.SiteSays.{SiteClash, SiteClashRows, SiteClearReach, SiteFaultIn, SiteSetLoad, SiteSetReach, SiteZeros, SizeOk, Within}
+use Rattle.contracts.specs.SitefileSays.{ReadSite, WriteSite}
+use Rattle.contracts.specs.WordtableSays.{CheckWords, PlanWords, ToBytes, ToWords}
+use Rattle.flowlist.specs.declared.Flow.{Flow}
+use Rattle.flowlist.specs.declared.FlowList.{FlowList}
+use Rattle.flowsheet.specs.declared.FlowsRead.{FlowsRead}
+use Rattle.judges.specs.declared.ChainAnswer.{ChainAnswer}
+use Rattle.judges.specs.declared.LeastAnswer.{LeastAnswer}
+use Rattle.judges.specs.declared.LoadAnswer.{LoadAnswer}
+use Rattle.mender.specs.declared.MendAnswer.{MendAnswer}
+use Rattle.planfile.specs.declared.PlanRead.{PlanRead}
+use Rattle.planfile.specs.declared.PlanWritten.{PlanWritten}
+use Rattle.planner.specs.declared.PlanAnswer.{PlanAnswer}
+use Rattle.shares.specs.declared.Fragments.{Fragments}
+use Rattle.shares.specs.declared.Repeats.{Repeats}
+use Rattle.shares.specs.declared.ShareAnswer.{ShareAnswer}
+use Rattle.shares.specs.declared.Slots.{Slots}
+use Rattle.sheet.specs.declared.SheetRead.{SheetRead}
+use Rattle.sheet.specs.declared.SheetWritten.{SheetWritten}
+use Rattle.site.specs.declared.ClashAnswer.{ClashAnswer}
+use Rattle.site.specs.declared.Edited.{Edited}
+use Rattle.site.specs.declared.Fault.{Fault}
+use Rattle.site.specs.declared.Site.{Site}
+use Rattle.sitefile.specs.declared.SiteRead.{SiteRead}
+use Rattle.sitefile.specs.declared.SiteWritten.{SiteWritten}
+use Rattle.told.specs.declared.Answer.{Answer}
+use Rattle.told.specs.declared.EditedSite.{EditedSite}
+use Rattle.told.specs.declared.PlanReadC.{PlanReadC}
+use Rattle.wordtable.specs.declared.FormAnswer.{FormAnswer}
+
+pub record EveryCall : Type 0 where
+  -- site::within
+  pub within : (x : ℕ) (most : ℕ)
+      → (r : Bool) × (Within x most r)
+      × ((q : Bool) → Within x most q → (q ≡ r))
+  -- site::size_ok
+  pub sizeOk : (cells : ℕ) (slots : ℕ) (channels : ℕ)
+      → (r : Bool) × (SizeOk cells slots channels r)
+      × ((q : Bool) → SizeOk cells slots channels q → (q ≡ r))
+  -- site::Site::zeros
+  pub siteZeros : (r : Site) × (SiteZeros r)
+      × ((q : Site) → SiteZeros q → (q ≡ r))
+  -- site::Site::fault_in
+  pub siteFaultIn : (self : Site)
+      → (r : Fault) × (SiteFaultIn self r)
+      × ((q : Fault) → SiteFaultIn self q → (q ≡ r))
+  -- site::Site::clash_rows
+  pub siteClashRows : (self : Site)
+      → (r : List ℕ) × (SiteClashRows self r)
+      × ((q : List ℕ) → SiteClashRows self q → (q ≡ r))
+  -- site::Site::clash
+  pub siteClash : (self : Site) (a : ℕ) (b : ℕ)
+      → (r : ClashAnswer) × (SiteClash self a b r)
+      × ((q : ClashAnswer) → SiteClash self a b q → (q ≡ r))
+  -- site::Site::set_load
+  pub siteSetLoad : (self : Site) (cell : ℕ) (load : ℕ)
+      → (r : Edited) × (SiteSetLoad self cell load r)
+      × ((q : Edited) → SiteSetLoad self cell load q → (q ≡ r))
+  -- site::Site::set_reach
+  pub siteSetReach : (self : Site) (from : ℕ) (to : ℕ)
+      → (r : Edited) × (SiteSetReach self from to r)
+      × ((q : Edited) → SiteSetReach self from to q → (q ≡ r))
+  -- site::Site::clear_reach
+  pub siteClearReach : (self : Site) (from : ℕ) (to : ℕ)
+      → (r : Edited) × (SiteClearReach self from to r)
+      × ((q : Edited) → SiteClearReach self from to q → (q ≡ r))
+  -- judges::load_test
+  pub loadTest : (site : Site)
+      → (r : LoadAnswer) × (LoadTest site r)
+      × ((q : LoadAnswer) → LoadTest site q → (q ≡ r))
+  -- judges::chain
+  pub chain : (site : Site)
+      → (r : ChainAnswer) × (Chain site r)
+      × ((q : ChainAnswer) → Chain site q → (q ≡ r))
+  -- judges::least
+  pub least : (site : Site)
+      → (r : LeastAnswer) × (Least site r)
+      × ((q : LeastAnswer) → Least site q → (q ≡ r))
+  -- planner::plan
+  pub plan : (site : Site) (table : List ℕ)
+      → (r : PlanAnswer) × (table′ : List ℕ) × (Plan site table r table′)
+      × ((q : PlanAnswer) (table″ : List ℕ) → Plan site table q table″ → (q ≡ r) × (table″ ≡ table′))
+  -- checker::check
+  pub check : (site : Site) (table : List ℕ)
+      → (r : CheckAnswer) × (Check site table r)
+      × ((q : CheckAnswer) → Check site table q → (q ≡ r))
+  -- wordtable::plan_words
+  pub planWords : (site : Site) (words : List ℕ)
+      → (r : PlanAnswer) × (words′ : List ℕ) × (PlanWords site words r words′)
+      × ((q : PlanAnswer) (words″ : List ℕ) → PlanWords site words q words″ → (q ≡ r) × (words″ ≡ words′))
+  -- wordtable::check_words
+  pub checkWords : (site : Site) (words : List ℕ)
+      → (r : CheckAnswer) × (CheckWords site words r)
+      × ((q : CheckAnswer) → CheckWords site words q → (q ≡ r))
+  -- wordtable::to_words
+  pub toWords : (site : Site) (table : List ℕ) (words : List ℕ)
+      → (r : FormAnswer) × (words′ : List ℕ) × (ToWords site table words r words′)
+      × ((q : FormAnswer) (words″ : List ℕ) → ToWords site table words q words″ → (q ≡ r) × (words″ ≡ words′))
+  -- wordtable::to_bytes
+  pub toBytes : (site : Site) (words : List ℕ) (table : List ℕ)
+      → (r : FormAnswer) × (table′ : List ℕ) × (ToBytes site words table r table′)
+      × ((q : FormAnswer) (table″ : List ℕ) → ToBytes site words table q table″ → (q ≡ r) × (table″ ≡ table′))
+  -- mender::mend
+  pub mend : (site : Site) (table : List ℕ) (changes : List ℕ)
+      → (r : MendAnswer) × (table′ : List ℕ) × (changes′ : List ℕ) × (Mend site table changes r table′ changes′)
+      × ((q : MendAnswer) (table″ : List ℕ) (changes″ : List ℕ) → Mend site table changes q table″ changes″ → (q ≡ r) × (table″ ≡ table′) × (changes″ ≡ changes′))
+  -- mender::mend_only
+  pub mendOnly : (site : Site) (table : List ℕ)
+      → (r : MendAnswer) × (table′ : List ℕ) × (MendOnly site table r table′)
+      × ((q : MendAnswer) (table″ : List ℕ) → MendOnly site table q table″ → (q ≡ r) × (table″ ≡ table′))
+  -- shares::share_of
+  pub shareOf : (slots : Slots) (burst : Fragments) (period : Slots) (repeats : Repeats)
+      → (r : ShareAnswer) × (ShareOf slots burst period repeats r)
+      × ((q : ShareAnswer) → ShareOf slots burst period repeats q → (q ≡ r))
+  -- shares::share
+  pub share : (slots : Slots) (burst : Fragments) (period : Slots)
+      → (r : ShareAnswer) × (Share slots burst period r)
+      × ((q : ShareAnswer) → Share slots burst period q → (q ≡ r))
+  -- admission::share_in
+  pub shareIn : (slots : ℕ) (f : Flow)
+      → (r : ShareAnswer) × (ShareIn slots f r)
+      × ((q : ShareAnswer) → ShareIn slots f q → (q ≡ r))
+  -- admission::decide
+  pub decide : (site : Site) (l : FlowList) (count : ℕ)
+      → (r : AdmitAnswer) × (Decide site l count r)
+      × ((q : AdmitAnswer) → Decide site l count q → (q ≡ r))
+  -- admission::admit
+  pub admit : (site : Site) (flows : List Flow)
+      → (r : AdmitAnswer) × (Admit site flows r)
+      × ((q : AdmitAnswer) → Admit site flows q → (q ≡ r))
+  -- sitefile::read_site
+  pub readSite : (bytes : List ℕ)
+      → (r : SiteRead) × (ReadSite bytes r)
+      × ((q : SiteRead) → ReadSite bytes q → (q ≡ r))
+  -- sitefile::write_site
+  pub writeSite : (site : Site) (out : List ℕ)
+      → (r : SiteWritten) × (out′ : List ℕ) × (WriteSite site out r out′)
+      × ((q : SiteWritten) (out″ : List ℕ) → WriteSite site out q out″ → (q ≡ r) × (out″ ≡ out′))
+  -- planfile::read_plan
+  pub readPlan : (bytes : List ℕ) (table : List ℕ)
+      → (r : PlanRead) × (table′ : List ℕ) × (ReadPlan bytes table r table′)
+      × ((q : PlanRead) (table″ : List ℕ) → ReadPlan bytes table q table″ → (q ≡ r) × (table″ ≡ table′))
+  -- planfile::write_plan
+  pub writePlan : (site : Site) (table : List ℕ) (out : List ℕ)
+      → (r : PlanWritten) × (out′ : List ℕ) × (WritePlan site table out r out′)
+      × ((q : PlanWritten) (out″ : List ℕ) → WritePlan site table out q out″ → (q ≡ r) × (out″ ≡ out′))
+  -- sheet::read_sheet
+  pub readSheet : (bytes : List ℕ) (slots : ℕ) (channels : ℕ)
+      → (r : SheetRead) × (ReadSheet bytes slots channels r)
+      × ((q : SheetRead) → ReadSheet bytes slots channels q → (q ≡ r))
+  -- sheet::write_sheet
+  pub writeSheet : (site : Site) (out : List ℕ)
+      → (r : SheetWritten) × (out′ : List ℕ) × (WriteSheet site out r out′)
+      × ((q : SheetWritten) (out″ : List ℕ) → WriteSheet site out q out″ → (q ≡ r) × (out″ ≡ out′))
+  -- flowsheet::read_flows
+  pub readFlows : (bytes : List ℕ)
+      → (r : FlowsRead) × (ReadFlows bytes r)
+      × ((q : FlowsRead) → ReadFlows bytes q → (q ≡ r))
+  -- capi::dugg_fault
+  pub duggFault : (site : Site)
+      → (r : Answer) × (DuggFault site r)
+      × ((q : Answer) → DuggFault site q → (q ≡ r))
+  -- capi::dugg_clash
+  pub duggClash : (site : Site) (a : ℕ) (b : ℕ)
+      → (r : Answer) × (DuggClash site a b r)
+      × ((q : Answer) → DuggClash site a b q → (q ≡ r))
+  -- capi::dugg_set_load
+  pub duggSetLoad : (site : Site) (cell : ℕ) (load : ℕ)
+      → (r : EditedSite) × (DuggSetLoad site cell load r)
+      × ((q : EditedSite) → DuggSetLoad site cell load q → (q ≡ r))
+  -- capi::dugg_set_reach
+  pub duggSetReach : (site : Site) (from : ℕ) (to : ℕ)
+      → (r : EditedSite) × (DuggSetReach site from to r)
+      × ((q : EditedSite) → DuggSetReach site from to q → (q ≡ r))
+  -- capi::dugg_clear_reach
+  pub duggClearReach : (site : Site) (from : ℕ) (to : ℕ)
+      → (r : EditedSite) × (DuggClearReach site from to r)
+      × ((q : EditedSite) → DuggClearReach site from to q → (q ≡ r))
+  -- capi::dugg_load_test
+  pub duggLoadTest : (site : Site)
+      → (r : Answer) × (DuggLoadTest site r)
+      × ((q : Answer) → DuggLoadTest site q → (q ≡ r))
+  -- capi::dugg_chain
+  pub duggChain : (site : Site)
+      → (r : Answer) × (DuggChain site r)
+      × ((q : Answer) → DuggChain site q → (q ≡ r))
+  -- capi::dugg_least
+  pub duggLeast : (site : Site)
+      → (r : Answer) × (DuggLeast site r)
+      × ((q : Answer) → DuggLeast site q → (q ≡ r))
+  -- capi::dugg_plan
+  pub duggPlan : (site : Site) (table : List ℕ)
+      → (r : Answer) × (table′ : List ℕ) × (DuggPlan site table r table′)
+      × ((q : Answer) (table″ : List ℕ) → DuggPlan site table q table″ → (q ≡ r) × (table″ ≡ table′))
+  -- capi::dugg_check
+  pub duggCheck : (site : Site) (table : List ℕ)
+      → (r : Answer) × (DuggCheck site table r)
+      × ((q : Answer) → DuggCheck site table q → (q ≡ r))
+  -- capi::dugg_plan_words
+  pub duggPlanWords : (site : Site) (words : List ℕ)
+      → (r : Answer) × (words′ : List ℕ) × (DuggPlanWords site words r words′)
+      × ((q : Answer) (words″ : List ℕ) → DuggPlanWords site words q words″ → (q ≡ r) × (words″ ≡ words′))
+  -- capi::dugg_check_words
+  pub duggCheckWords : (site : Site) (words : List ℕ)
+      → (r : Answer) × (DuggCheckWords site words r)
+      × ((q : Answer) → DuggCheckWords site words q → (q ≡ r))
+  -- capi::dugg_to_words
+  pub duggToWords : (site : Site) (table : List ℕ) (words : List ℕ)
+      → (r : Answer) × (words′ : List ℕ) × (DuggToWords site table words r words′)
+      × ((q : Answer) (words″ : List ℕ) → DuggToWords site table words q words″ → (q ≡ r) × (words″ ≡ words′))
+  -- capi::dugg_to_bytes
+  pub duggToBytes : (site : Site) (words : List ℕ) (table : List ℕ)
+      → (r : Answer) × (table′ : List ℕ) × (DuggToBytes site words table r table′)
+      × ((q : Answer) (table″ : List ℕ) → DuggToBytes site words table q table″ → (q ≡ r) × (table″ ≡ table′))
+  -- capi::dugg_mend
+  pub duggMend : (site : Site) (table : List ℕ) (changes : List ℕ)
+      → (r : Answer) × (table′ : List ℕ) × (changes′ : List ℕ) × (DuggMend site table changes r table′ changes′)
+      × ((q : Answer) (table″ : List ℕ) (changes″ : List ℕ) → DuggMend site table changes q table″ changes″ → (q ≡ r) × (table″ ≡ table′) × (changes″ ≡ changes′))
+  -- capi::dugg_share
+  pub duggShare : (slots : ℕ) (burst : ℕ) (period : ℕ)
+      → (r : Answer) × (DuggShare slots burst period r)
+      × ((q : Answer) → DuggShare slots burst period q → (q ≡ r))
+  -- capi::dugg_share_repeated
+  pub duggShareRepeated : (slots : ℕ) (burst : ℕ) (period : ℕ) (repeats : ℕ)
+      → (r : Answer) × (DuggShareRepeated slots burst period repeats r)
+      × ((q : Answer) → DuggShareRepeated slots burst period repeats q → (q ≡ r))
+  -- capi::dugg_read_site
+  pub duggReadSite : (bytes : List ℕ)
+      → (r : EditedSite) × (DuggReadSite bytes r)
+      × ((q : EditedSite) → DuggReadSite bytes q → (q ≡ r))
+  -- capi::dugg_write_site
+  pub duggWriteSite : (site : Site) (out : List ℕ)
+      → (r : Answer) × (out′ : List ℕ) × (DuggWriteSite site out r out′)
+      × ((q : Answer) (out″ : List ℕ) → DuggWriteSite site out q out″ → (q ≡ r) × (out″ ≡ out′))
+  -- capi::dugg_read_plan
+  pub duggReadPlan : (bytes : List ℕ) (table : List ℕ)
+      → (r : PlanReadC) × (table′ : List ℕ) × (DuggReadPlan bytes table r table′)
+      × ((q : PlanReadC) (table″ : List ℕ) → DuggReadPlan bytes table q table″ → (q ≡ r) × (table″ ≡ table′))
+  -- capi::dugg_write_plan
+  pub duggWritePlan : (site : Site) (table : List ℕ) (out : List ℕ)
+      → (r : Answer) × (out′ : List ℕ) × (DuggWritePlan site table out r out′)
+      × ((q : Answer) (out″ : List ℕ) → DuggWritePlan site table out q out″ → (q ≡ r) × (out″ ≡ out′))
+  -- capi::dugg_read_sheet
+  pub duggReadSheet : (bytes : List ℕ) (slots : ℕ) (channels : ℕ)
+      → (r : EditedSite) × (DuggReadSheet bytes slots channels r)
+      × ((q : EditedSite) → DuggReadSheet bytes slots channels q → (q ≡ r))
+  -- capi::dugg_write_sheet
+  pub duggWriteSheet : (site : Site) (out : List ℕ)
+      → (r : Answer) × (out′ : List ℕ) × (DuggWriteSheet site out r out′)
+      × ((q : Answer) (out″ : List ℕ) → DuggWriteSheet site out q out″ → (q ≡ r) × (out″ ≡ out′))
+  -- capi::dugg_admit
+  pub duggAdmit : (site : Site) (flows : List Flow)
+      → (r : Answer) × (DuggAdmit site flows r)
+      × ((q : Answer) → DuggAdmit site flows q → (q ≡ r))
