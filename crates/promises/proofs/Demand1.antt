@@ -1,13 +1,13 @@
 -- Demand 1, what a call leaves in lent memory, by the number it gives back. Answer and memory go the same way through the same tests, so each is read off at the values of
 -- the tests. And the verdicts refuse only as the record's fault says. Assumes nothing.
-use mathlib.Core.Path.{_≡_, refl}
+use mathlib.Core.Path.{_≡_, refl, ap}
 use mathlib.Core.Bool.{Bool, true, false, not}
 use mathlib.Core.List.{List, [], _∷_, _++_}
 use Prim.Native.Nat.{ℕ, _≤_}
 use native.Mathlib.Omega.{arith}
 use lib.Dec.{ltb, leb}
 use borrow.Author.Tests.{ltb-true, ltb-false, le-leb, lt-leb}
-use lib.ListN.{length, drop}
+use lib.ListN.{length, drop, replicate}
 use lib.Seq.{drop-at}
 use Rattle.laws.specs.Choice.{pick}
 use Rattle.theory.specs.Greedy.{Outcome, planned, noRoom, greedy}
@@ -50,21 +50,23 @@ use Rattle.promises.specs.Leaves.{PlannerLeaves, ReaderLeaves, WriterLea
 plan-untouched : (n : ℕ) (t : List ℕ) (number : ℕ) → (number ≡ 0 → ⊥) → (number ≡ 5 → ⊥) → PlannerLeaves n t number t
 plan-untouched n t number z f = record { if-done = λ e. absurd (z e); if-no-room = λ e. absurd (f e); if-refused = λ _ _. refl }
 
-plan-left : (n : ℕ) (t : List ℕ) (f : Fault) (short : Bool) (o : Outcome) → ((u : List ℕ) → o ≡ planned u → length u ≡ n)
-    → PlannerLeaves n t (planGiven (pick (isFine f) (pick short planner.TableShort (answerOf o)) (planner.Refused f)) .number)
-    (pick (isFine f) (pick short t (tableOf n o ++ drop n t)) t)
-plan-left n t Fine true o h = plan-untouched n t 4 (λ e. omega arith) (λ e. omega arith)
-plan-left n t Fine false (planned u) h =
-    record { if-done = λ _. drop-at u (drop n t) n (h u refl); if-no-room = λ e. absurd (omega arith); if-refused = λ z _. absurd (z refl) }
-plan-left n t Fine false (noRoom c m) h =
-    record { if-done = λ e. absurd (omega arith); if-no-room = λ _. refl; if-refused = λ _ f. absurd (f refl) }
-plan-left n t Size short o h = plan-untouched n t 1 (λ e. omega arith) (λ e. omega arith)
-plan-left n t (Load k) short o h = plan-untouched n t 2 (λ e. omega arith) (λ e. omega arith)
-plan-left n t (Reach k) short o h = plan-untouched n t 3 (λ e. omega arith) (λ e. omega arith)
+-- in either form of a table: what an outcome lays down has n places, and a cell without room leaves them 0
+module _ (n : ℕ) (t : List ℕ) (laid : Outcome → List ℕ) (idle : (c m : ℕ) → laid (noRoom c m) ≡ replicate n 0) where
+  pub plan-left : (f : Fault) (short : Bool) (o : Outcome) → ((u : List ℕ) → o ≡ planned u → length (laid (planned u)) ≡ n)
+      → PlannerLeaves n t (planGiven (pick (isFine f) (pick short planner.TableShort (answerOf o)) (planner.Refused f)) .number)
+      (pick (isFine f) (pick short t (laid o ++ drop n t)) t)
+  plan-left Fine true o h = plan-untouched n t 4 (λ e. omega arith) (λ e. omega arith)
+  plan-left Fine false (planned u) h =
+      record { if-done = λ _. drop-at (laid (planned u)) (drop n t) n (h u refl); if-no-room = λ e. absurd (omega arith); if-refused = λ z _. absurd (z refl) }
+  plan-left Fine false (noRoom c m) h =
+      record { if-done = λ e. absurd (omega arith); if-no-room = λ _. ap (λ (x : List ℕ). x ++ drop n t) (idle c m); if-refused = λ _ f. absurd (f refl) }
+  plan-left Size short o h = plan-untouched n t 1 (λ e. omega arith) (λ e. omega arith)
+  plan-left (Load k) short o h = plan-untouched n t 2 (λ e. omega arith) (λ e. omega arith)
+  plan-left (Reach k) short o h = plan-untouched n t 3 (λ e. omega arith) (λ e. omega arith)
 
 pub plan-leaves : (s : Site) (t : List ℕ) → PlannerLeaves (size s) t (planGiven (planAnswer s t) .number) (planTable s t)
 unfolding planAnswer planTable
-plan-leaves s t = plan-left (size s) t (faultOf s) (ltb (length t) (size s)) (greedy (netOf s)) (planned-size (netOf s))
+plan-leaves s t = plan-left (size s) t (tableOf (size s)) (λ _ _. refl) (faultOf s) (ltb (length t) (size s)) (greedy (netOf s)) (planned-size (netOf s))
 
 -- ---- the plan reader
 

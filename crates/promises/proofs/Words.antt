@@ -3,7 +3,8 @@
 use mathlib.Core.Path.{_≡_, refl, sym, ap, _∙_}
 use mathlib.Core.Bool.{Bool, true, false}
 use mathlib.Core.List.{List, [], _++_}
-use Prim.Native.Nat.{ℕ, _+_, _*_, _%_, _^_, _<_}
+use mathlib.Core.Logic.{_↔_}
+use Prim.Native.Nat.{ℕ, _+_, _*_, _/_, _%_, _^_, _<_}
 use native.Mathlib.Nat.{le-of-eq}
 use native.Mathlib.Omega.{arith}
 use lib.Dec.{ltb}
@@ -36,13 +37,18 @@ use Rattle.wordtable.specs.Plan.{planWordsAnswer, planWords}
 use Rattle.wordtable.specs.Check.{checkWordsAnswer}
 use Rattle.wordtable.specs.Forms.{lentShort, formAnswer, toWords, toBytes}
 use Rattle.wordtable.specs.Given.{formGiven}
+use Rattle.wordtable.specs.declared.FormAnswer.the-variants as form
 use Rattle.wordtable.proofs.Given.{check-words-proper}
 use Rattle.wordtable.proofs.Rows.{bytes-long}
 use Rattle.wordtable.proofs.Ways.{table-short, words-short}
-use Rattle.wordtable.proofs.Same.{bytes-at, check-bytes, check-table, plan-answer-same, plan-words-are, there-and-back, back-and-there, check-above, bytes-above}
+use Rattle.wordtable.proofs.Same.{bytes-at, check-bytes, check-table, plan-answer-same, plan-words-are, plan-kept-long}
+use Rattle.wordtable.proofs.Same.{there-and-back, back-and-there, check-above, bytes-above}
+use Rattle.wordtable.proofs.Plain.{word-plain, word-low, byte-plain}
 use Rattle.promises.specs.Numbers.{done, refused}
+use Rattle.promises.specs.Leaves.{PlannerLeaves, ReaderLeaves}
 use Rattle.promises.specs.Demands.{Accepted, LongEnough, WordsEnough, Easier}
 use Rattle.promises.proofs.Numbers.{accepted-number}
+use Rattle.promises.proofs.Demand1.{plan-left}
 use Rattle.promises.proofs.Demand3.{demand-three-calls}
 
 -- ---- the two forms say the same, for every record; of the refusals only 4 is about what is lent
@@ -71,6 +77,28 @@ module _ (s : Site) (words table : List ℕ) (enough : WordsEnough s words) (lon
   pub words-there-and-back : Accepted s → (lent : List ℕ) → WordsEnough s lent
       → toWords s (toBytes s words table) lent ≡ listOf (λ k. getD words k 0 % 2 ^ s .cells) (positions s) ++ drop (positions s) lent
   words-there-and-back ok lent h = back-and-there s table words long enough (accepted-number s .0 ok) lent h
+
+  -- ---- the order of words and bits, in plain arithmetic; cells and positions from 0
+
+  module _ (ok : Accepted s) (i k : ℕ) (cell : i < s .cells) (position : k < positions s) where
+    -- "one 32-bit word for each position, bit i-1 set when cell i transmits": word k has bit i exactly when the table's byte at i N + k is 1
+    pub word-has : getD (toWords s table words) k 0 / 2 ^ i % 2 ≡ 1 ↔ getD table (i * positions s + k) 0 ≡ 1
+    word-has = word-plain s table words long enough (accepted-number s .0 ok) i k cell position
+
+    -- of the word planner's words and the planner's bytes, too
+    pub planned-has : getD (planWords s words) k 0 / 2 ^ i % 2 ≡ 1 ↔ getD (planTable s table) (i * positions s + k) 0 ≡ 1
+    planned-has =
+        let fine = accepted-number s .0 ok in
+        let kept = plan-kept-long s table words long enough fine in
+        rw (plan-words-same .1) (word-plain s (planTable s table) words (omega (arith, kept)) enough fine i k cell position)
+
+    -- and the byte of a table of words is that bit
+    pub byte-is : getD (toBytes s words table) (i * positions s + k) 0 ≡ getD words k 0 / 2 ^ i % 2
+    byte-is = byte-plain s table words long enough (accepted-number s .0 ok) i k cell position
+
+  -- "bits above I are .. written as 0"
+  pub above-written : Accepted s → (k : ℕ) → k < positions s → getD (toWords s table words) k 0 < 2 ^ s .cells
+  above-written ok = word-low s table words long enough (accepted-number s .0 ok)
 
 -- "bits above I are read as silence": words that are the same below I have one answer and one table
 pub above-silent : (s : Site) (one other : List ℕ) → length one ≡ length other
@@ -134,6 +162,36 @@ past-untouched s words table = (
   past (faultOf s) (lentShort s table words) (wordsOf (s .cells) (positions s) (reserved (positions s) table)) words (positions s)
       (length-list (wordAt (s .cells) (reserved (positions s) table)) (positions s)),
   past (faultOf s) (lentShort s table words) (bytesOf (s .cells) (positions s) (sendsAt words)) table (size s) (bytes-long (s .cells) (positions s) (sendsAt words)),
+)
+
+-- ---- what is lent after a call, by the number given back
+
+-- "5 leaves N words of 0": done leaves the words past N as they were, and every other refusal all of them
+pub plan-words-leaves : (s : Site) (words : List ℕ) → PlannerLeaves (positions s) words (planGiven (planWordsAnswer s words) .number) (planWords s words)
+unfolding planWordsAnswer planWords
+plan-words-leaves s words =
+    plan-left (positions s) words (outWords (s .cells) (positions s)) (λ _ _. refl) (faultOf s) (ltb (length words) (positions s)) (greedy (netOf s))
+    (λ u _. out-long (s .cells) (positions s) (planned u))
+
+form-left : (n : ℕ) (f : Fault) (short : Bool) (front lent : List ℕ) → length front ≡ n
+    → ReaderLeaves n lent (formGiven (pick (isFine f) (pick short form.TableShort form.Done) (form.Refused f)) .number)
+    (pick (isFine f) (pick short lent (front ++ drop n lent)) lent)
+form-left n Fine true front lent e = record { if-done = λ _. refl; if-refused = λ _. refl }
+form-left n Fine false front lent e = record { if-done = λ _. drop-at front (drop n lent) n e; if-refused = λ z. absurd (z refl) }
+form-left n Size short front lent e = record { if-done = λ _. refl; if-refused = λ _. refl }
+form-left n (Load k) short front lent e = record { if-done = λ _. refl; if-refused = λ _. refl }
+form-left n (Reach k) short front lent e = record { if-done = λ _. refl; if-refused = λ _. refl }
+
+-- the changes of form: no refusal writes
+pub forms-leave : (s : Site) (words table : List ℕ)
+    → ReaderLeaves (positions s) words (formGiven (formAnswer s table words) .number) (toWords s table words)
+    × ReaderLeaves (size s) table (formGiven (formAnswer s table words) .number) (toBytes s words table)
+unfolding formAnswer toWords toBytes
+forms-leave s words table = (
+  form-left (positions s) (faultOf s) (lentShort s table words) (wordsOf (s .cells) (positions s) (reserved (positions s) table)) words
+      (length-list (wordAt (s .cells) (reserved (positions s) table)) (positions s)),
+  form-left (size s) (faultOf s) (lentShort s table words) (bytesOf (s .cells) (positions s) (sendsAt words)) table
+      (bytes-long (s .cells) (positions s) (sendsAt words)),
 )
 
 -- ---- demand 3

@@ -1,9 +1,10 @@
--- The desk examples P1 to P12 of document 01, and two sites with a spare cell for W2, as site records, and what each is said to come to, in numbers. "Loads are listed by cell.
--- .. where no file gives the reach, the lower cell reaches the higher. Where only N is given, T=N and F=1." Proved in proofs/Desk.antt, in one theorem.
+-- The desk examples P1 to P12 of document 01, and sites with a spare cell for W2, as site records, and what each is said to come to, in numbers; for W6 words,
+-- for W7 mended tables. "Loads are listed by cell. .. where no file gives the reach, the lower cell reaches the higher. Where only N is given, T=N and F=1."
+-- Proved in proofs/Desk.antt, in one theorem.
 use mathlib.Core.List.{List, [], _∷_, _++_}
 use Prim.Native.Nat.{ℕ, zero, suc, _+_}
 use lib.ListN.{length, replicate}
-use Rattle.site.specs.Record.{siteOf, size}
+use Rattle.site.specs.Record.{siteOf, positions, size}
 use Rattle.site.specs.Given.{Given}
 use Rattle.site.specs.declared.Site.{Site}
 use Rattle.planner.specs.Plan.{planAnswer, planTable}
@@ -12,6 +13,12 @@ use Rattle.judges.specs.Judges.{loadAnswer, chainAnswer, leastAnswer}
 use Rattle.judges.specs.Given.{loadGiven, chainGiven, leastGiven}
 use Rattle.checker.specs.Check.{checkAnswer}
 use Rattle.checker.specs.Given.{checkGiven}
+use Rattle.wordtable.specs.Plan.{planWordsAnswer, planWords}
+use Rattle.wordtable.specs.Check.{checkWordsAnswer}
+use Rattle.wordtable.specs.Forms.{formAnswer, toWords, toBytes}
+use Rattle.wordtable.specs.Given.{formGiven}
+use Rattle.mender.specs.Mend.{mendAnswer, mendTable, mendList}
+use Rattle.mender.specs.Given.{mendGiven}
 use Rattle.promises.specs.Numbers.{done, doneWith, refused}
 
 -- a list filled up with zeros to n
@@ -41,6 +48,10 @@ P3 = siteWith 2 1 (1 ∷ 1 ∷ 1 ∷ []) (4 ∷ 4 ∷ [])
 abbrev pub P3spare : Site
 P3spare = siteWith 2 1 (2 ∷ 1 ∷ 0 ∷ []) (4 ∷ 4 ∷ [])
 
+-- three cells in a row, 1 and 3 clash and 2 clashes with neither: with loads 1, 1, 1 not chained; the first is a spare here
+abbrev pub spareFirst : Site
+spareFirst = siteWith 2 1 (0 ∷ 1 ∷ 1 ∷ []) (4 ∷ [])
+
 abbrev pub P4 : Site
 P4 = siteWith 2 1 (1 ∷ 1 ∷ 1 ∷ 1 ∷ []) (4 ∷ 8 ∷ 8 ∷ [])
 
@@ -54,10 +65,15 @@ P7 = siteWith 2 1 (1 ∷ 0 ∷ 1 ∷ 1 ∷ 1 ∷ []) (8 ∷ 4 ∷ 16 ∷ 16 ∷ 
 abbrev pub alone : ℕ → Site
 alone load = siteWith 1 1 (load ∷ []) []
 
--- what a call gives back, and for the planner also what it leaves in the table
+-- two cells that clash, N = 2, a fragment each
+abbrev pub pair : Site
+pair = siteWith 2 1 (1 ∷ 1 ∷ []) (2 ∷ [])
+
+-- what a call gives back, and what it leaves in the table or the words; for the mender also in the list
 pub data Reply : Type 0 where
   gives : Given → Reply
   leaves : Given → List ℕ → Reply
+  mends : Given → List ℕ → List ℕ → Reply
 
 -- the planner on a table of 9s that is one byte longer than the site's: the last 9 must stay
 abbrev pub nines : Site → List ℕ
@@ -77,6 +93,27 @@ leastCall s = gives (leastGiven (leastAnswer s))
 
 abbrev pub checkCall : Site → List ℕ → Reply
 checkCall s table = gives (checkGiven (checkAnswer s table))
+
+-- W6: the word planner on words of 9s, one more than the site's; and the changes of form, into 9s
+abbrev pub nineWords : Site → List ℕ
+nineWords s = replicate (positions s + 1) 9
+
+abbrev pub planWordsCall : Site → Reply
+planWordsCall s = leaves (planGiven (planWordsAnswer s (nineWords s))) (planWords s (nineWords s))
+
+abbrev pub checkWordsCall : Site → List ℕ → Reply
+checkWordsCall s words = gives (checkGiven (checkWordsAnswer s words))
+
+abbrev pub toWordsCall : Site → List ℕ → Reply
+toWordsCall s table = leaves (formGiven (formAnswer s table (nineWords s))) (toWords s table (nineWords s))
+
+abbrev pub toBytesCall : Site → List ℕ → Reply
+toBytesCall s words = leaves (formGiven (formAnswer s (nines s) words)) (toBytes s words (nines s))
+
+-- W7: the mender on a table, with a list of so many 9s
+abbrev pub mendCall : Site → List ℕ → ℕ → Reply
+mendCall s table room =
+    mends (mendGiven (mendAnswer s table (replicate room 9))) (mendTable s table (replicate room 9)) (mendList s table (replicate room 9))
 
 -- "The planner's refusal 5 leaves the first IN bytes 0"
 abbrev pub allIdle : Site → List ℕ
@@ -139,4 +176,26 @@ deskTable =
     ∷ leastCall P1spare ⇒ gives (doneWith (6 ∷ 0 ∷ []))
     ∷ leastCall P2 ⇒ gives (doneWith (7 ∷ 0 ∷ []))
     ∷ leastCall P3 ⇒ gives (doneWith (3 ∷ 1 ∷ []))
+    -- off the chain it is the greatest demand, and not all loads, which come to 5 and 4: cell 5 of P6 and of P7 asks for its own and those of cells 3 and 4
+    ∷ leastCall P6 ⇒ gives (doneWith (3 ∷ 1 ∷ []))
+    ∷ leastCall P7 ⇒ gives (doneWith (3 ∷ 1 ∷ []))
+    -- W2, a spare as a: cells 1 and 3 clash and 2 clashes with neither, but cell 1 has load 0: chained.
+    ∷ chainCall spareFirst ⇒ gives done
+    -- W6, P1 as words: cells 1 and 3 at positions 0 to 3, cell 1 alone at 4, cell 2 at 5
+    ∷ planWordsCall P1 ⇒ leaves done (5 ∷ 5 ∷ 5 ∷ 5 ∷ 1 ∷ 2 ∷ 9 ∷ [])
+    ∷ checkWordsCall P1 (5 ∷ 5 ∷ 5 ∷ 5 ∷ 1 ∷ 2 ∷ []) ⇒ gives done
+    -- of P1's plan 1 alone sets a bit; and the other way every other byte is 0, with bits above the third cell silent
+    ∷ toWordsCall P1 (1 ∷ 1 ∷ 1 ∷ 1 ∷ 1 ∷ 0 ∷ 2 ∷ 2 ∷ 2 ∷ 2 ∷ 2 ∷ 1 ∷ 1 ∷ 1 ∷ 1 ∷ 1 ∷ 0 ∷ 2 ∷ []) ⇒ leaves done (5 ∷ 5 ∷ 5 ∷ 5 ∷ 1 ∷ 2 ∷ 9 ∷ [])
+    ∷ toBytesCall P1 (5 ∷ 5 ∷ 13 ∷ 5 ∷ 1 ∷ 2 ∷ []) ⇒ leaves done (1 ∷ 1 ∷ 1 ∷ 1 ∷ 1 ∷ 0 ∷ 0 ∷ 0 ∷ 0 ∷ 0 ∷ 0 ∷ 1 ∷ 1 ∷ 1 ∷ 1 ∷ 1 ∷ 0 ∷ 0 ∷ 9 ∷ [])
+    -- P2 as words: refusal 5, cell 2, short 1, and N words of 0
+    ∷ planWordsCall P2 ⇒ leaves (refused 5 (2 ∷ 1 ∷ [])) (0 ∷ 0 ∷ 0 ∷ 0 ∷ 0 ∷ 0 ∷ 9 ∷ [])
+    -- W7, P9's table: cell 3 gives position 5 up and takes 0; a list with room for one change only is refused with the number of both
+    ∷ mendCall P1 (1 ∷ 1 ∷ 1 ∷ 1 ∷ 1 ∷ 0 ∷ 0 ∷ 0 ∷ 0 ∷ 0 ∷ 0 ∷ 1 ∷ 0 ∷ 0 ∷ 1 ∷ 1 ∷ 1 ∷ 1 ∷ []) 9
+    ⇒ mends (doneWith (2 ∷ [])) (1 ∷ 1 ∷ 1 ∷ 1 ∷ 1 ∷ 0 ∷ 0 ∷ 0 ∷ 0 ∷ 0 ∷ 0 ∷ 1 ∷ 1 ∷ 0 ∷ 1 ∷ 1 ∷ 1 ∷ 0 ∷ []) (3 ∷ 0 ∷ 0 ∷ 1 ∷ 3 ∷ 5 ∷ 1 ∷ 0 ∷ 9 ∷ [])
+    ∷ mendCall P1 (1 ∷ 1 ∷ 1 ∷ 1 ∷ 1 ∷ 0 ∷ 0 ∷ 0 ∷ 0 ∷ 0 ∷ 0 ∷ 1 ∷ 0 ∷ 0 ∷ 1 ∷ 1 ∷ 1 ∷ 1 ∷ []) 7
+    ⇒ mends (refused 13 (2 ∷ [])) (1 ∷ 1 ∷ 1 ∷ 1 ∷ 1 ∷ 0 ∷ 0 ∷ 0 ∷ 0 ∷ 0 ∷ 0 ∷ 1 ∷ 0 ∷ 0 ∷ 1 ∷ 1 ∷ 1 ∷ 1 ∷ []) (9 ∷ 9 ∷ 9 ∷ 9 ∷ 9 ∷ 9 ∷ 9 ∷ [])
+    -- only an earlier cell's reservations stand in the way: cell 1 adds position 0, the lowest, where the later cell 2 stands, and cell 2 gives way
+    ∷ mendCall pair (0 ∷ 0 ∷ 1 ∷ 0 ∷ []) 12 ⇒ mends (doneWith (3 ∷ [])) (1 ∷ 0 ∷ 0 ∷ 1 ∷ []) (1 ∷ 0 ∷ 0 ∷ 1 ∷ 2 ∷ 0 ∷ 1 ∷ 0 ∷ 2 ∷ 1 ∷ 0 ∷ 1 ∷ [])
+    -- P4's idle table: refusal 5, cell 4, short 1, and nothing is written
+    ∷ mendCall P4 (0 ∷ 0 ∷ 0 ∷ 0 ∷ 0 ∷ 0 ∷ 0 ∷ 0 ∷ []) 4 ⇒ mends (refused 5 (4 ∷ 1 ∷ [])) (0 ∷ 0 ∷ 0 ∷ 0 ∷ 0 ∷ 0 ∷ 0 ∷ 0 ∷ []) (9 ∷ 9 ∷ 9 ∷ 9 ∷ [])
     ∷ []

@@ -6,4 +6,5 @@ pub mod Judged
 pub mod Rows
 pub mod Ways
 pub mod Same
+pub mod Plain
 pub mod Given

@@ -2,6 +2,7 @@
 -- cells and positions of the site; the verdict and the forms look no further.
 --     check-bytes, check-table      the word checker's answer is the checker's, over the bytes of the words, and over the table of which they are the words
 --     plan-answer-same, plan-words-are      the word planner's answer is the planner's, and its words are those of the planner's table
+--     words-say      the words of a table send where it does
 --     there-and-back, back-and-there      a table changed into words and back; words changed into a table and back
 --     check-above, bytes-above      bits above I do not matter
 -- Assumes nothing.
@@ -106,7 +107,7 @@ module _ (s : Site) (t w : List ℕ) (table : size s ≤ length t) (words : posi
       (cases (isFine (faultOf s)))
 
   module _ (fine : faultOf s ≡ Fine) where
-    words-say : (i k : ℕ) → i < s .cells → k < positions s → sendsAt (toWords s t w) i k ≡ reserved (positions s) t i k
+    pub words-say : (i k : ℕ) → i < s .cells → k < positions s → sendsAt (toWords s t w) i k ≡ reserved (positions s) t i k
     words-say i k l h =
         ap (λ (x : List ℕ). sendsAt x i k) (done-words s t w fine table words) ∙ words-send (s .cells) (positions s) (reserved (positions s) t) (drop (positions s) w) i k l h
 
@@ -164,6 +165,11 @@ module _ (s : Site) (t w : List ℕ) (table : size s ≤ length t) (words : posi
   out-long (planned p) e = planned-size (netOf s) p e
   out-long (noRoom c m) e = length-replicate (size s) 0
 
+  pub plan-kept-long : faultOf s ≡ Fine → length (planTable s t) ≡ length t
+  plan-kept-long e =
+      ap length (run-table s t e table)
+      ∙ front-long (tableOf (size s) (greedy (netOf s))) t (size s) (out-long (greedy (netOf s)) refl) table
+
   out-words : (o : Outcome) (x : List ℕ) → greedy (netOf s) ≡ o
       → outWords (s .cells) (positions s) o ≡ wordsOf (s .cells) (positions s) (reserved (positions s) (tableOf (size s) o ++ x))
   out-words (planned p) x e =
@@ -191,11 +197,10 @@ module _ (s : Site) (t w : List ℕ) (table : size s ≤ length t) (words : posi
       went : faultOf s ≡ Fine → planWords s w ≡ toWords s (planTable s t) w
       went e =
           let is = run-table s t e table in
-          let long : length (planTable s t) ≡ length t = ap length is ∙ front-long (tableOf (size s) (greedy (netOf s))) t (size s) (out-long (greedy (netOf s)) refl) table in
           run-words e
           ∙ ap (λ (b : List ℕ). b ++ drop (positions s) w)
           (out-words (greedy (netOf s)) (drop (size s) t) refl ∙ ap (λ (x : List ℕ). wordsOf (s .cells) (positions s) (reserved (positions s) x)) (sym is))
-          ∙ sym (done-words s (planTable s t) w e (omega (arith, long)) words)
+          ∙ sym (done-words s (planTable s t) w e (omega (arith, plan-kept-long e)) words)
 
       not-gone : isFine (faultOf s) ≡ false → planWords s w ≡ toWords s (planTable s t) w
       not-gone e = untouched e ∙ sym (refused-words s (planTable s t) w (faultOf s) refl e)
