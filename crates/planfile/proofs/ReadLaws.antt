@@ -23,7 +23,8 @@ use Rattle.records.proofs.Laws as records
 use Rattle.records.proofs.Reasons.{andThen, first-append}
 use Rattle.records.proofs.Head.{head-read, head-sizes}
 use Rattle.planfile.specs.Bits.{bytesFor, bitsFrom, leftOver}
-use Rattle.planfile.specs.Read.{planAt, bodyIn, endIn, planReadAnswer, refusedPlan, planReadOf, readPlan, planTableRead, HeadRead}
+use Rattle.planfile.specs.Read.{planAt, bodyIn, endIn, planReadAnswer, refusedPlan, planReadOf, readPlan, planTableRead}
+use Rattle.planfile.specs.Loop.{HeadRead}
 use Rattle.planfile.proofs.Bits.{length-bits}
 
 -- the plan record's own reasons, and those past it: "plan 14. Then 12, then 4."

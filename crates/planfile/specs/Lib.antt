@@ -2,5 +2,6 @@
 pub mod Bits
 pub mod Block
 pub mod Read
+pub mod Loop
 pub mod Write
 pub mod Given

@@ -1,13 +1,12 @@
 -- The plan file as it is read. "A plan file is kinds 1, 4." Its reader's refusals stand in one list, in the order of document 01; the answer is the first that applies.
 use Prim.Native.Nat.{ℕ, _+_}
 use mathlib.Core.List.{List, [], _∷_, _++_}
-use mathlib.Core.Path.{_≡_}
 use lib.ListN.{length, drop}
 use lib.Dec.{ltb}
 use Rattle.laws.specs.Choice.{pick}
 use Rattle.records.specs.Layout.{bodyAt, recordEnd}
 use Rattle.records.specs.Reasons.{Reason, reason, firstReason, isDone, recordReasons, endReason}
-use Rattle.records.specs.Head.{cellsIn, slotsIn, channelsIn, entriesIn, afterHead, headReasons, headAnswer}
+use Rattle.records.specs.Head.{cellsIn, slotsIn, channelsIn, entriesIn, afterHead, headReasons}
 use Rattle.records.specs.declared.Length.the-variants.{Exact}
 use Rattle.records.specs.declared.ReadAnswer.{ReadAnswer}
 use Rattle.records.specs.declared.ReadAnswer.the-variants.{Done, Refused}
@@ -57,10 +56,3 @@ readPlan s table = planReadOf (cellsIn s) (slotsIn s) (channelsIn s) (planReadAn
 unfoldable pub planTableRead : List ℕ → List ℕ → List ℕ
 planTableRead s table =
     pick (isDone (planReadAnswer s table)) (bitsFrom (bodyIn s) 0 (entriesIn s) ++ drop (entriesIn s) table) table
-
--- what the reader of kind 4 is given: a good head, and its numbers
-pub record HeadRead (s : List ℕ) (cells slots channels : ℕ) : Type 0 where
-  pub read : headAnswer s ≡ Done
-  pub cells-are : cells ≡ cellsIn s
-  pub slots-are : slots ≡ slotsIn s
-  pub channels-are : channels ≡ channelsIn s

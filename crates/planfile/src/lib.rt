@@ -19,7 +19,8 @@ ghost use lib.Seq.{sets};
 ghost use Rattle.site.specs.Record.{entries};
 ghost use Rattle.planfile.specs.Bits.{bytesFor, one, bitsFrom, leftOver, ones, packedFrom};
 ghost use Rattle.planfile.specs.Block.{Runs, Below, Joined};
-ghost use Rattle.planfile.specs.Read.{HeadRead, refusedPlan, readPlan, planTableRead};
+ghost use Rattle.planfile.specs.Read.{refusedPlan, readPlan, planTableRead};
+ghost use Rattle.planfile.specs.Loop.{HeadRead};
 ghost use Rattle.planfile.specs.Write.{planWritten, planOut};
 
 // What a plan read gives: I, T and F, or three zeros beside a refusal.

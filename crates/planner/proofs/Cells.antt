@@ -16,7 +16,8 @@ use Rattle.theory.proofs.Loops.{run-next, run-stop, run-stays}
 use Rattle.theory.proofs.Row.{row-length, row-short}
 use Rattle.theory.proofs.Run.{run-begins}
 use Rattle.theory.proofs.Exact.{greedy-fair}
-use Rattle.planner.specs.Plan.{tableOf, netBy, marksIn, rowPlanned, rowShort, PlannedTo}
+use Rattle.planner.specs.Plan.{tableOf}
+use Rattle.planner.specs.Loop.{netBy, marksIn, rowPlanned, rowShort, PlannedTo}
 use Rattle.planner.proofs.Marked.{marked-take, marked-alike}
 
 -- cell i, with its load, over the table t

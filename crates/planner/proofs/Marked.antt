@@ -15,7 +15,7 @@ use Rattle.laws.proofs.Grid.{row-before}
 use Rattle.theory.specs.Net.{Net, unblocked}
 use Rattle.theory.specs.Greedy.{forbid, marked, fill, unmet}
 use Rattle.theory.proofs.Row.{marked-length}
-use Rattle.planner.specs.Plan.{netBy}
+use Rattle.planner.specs.Loop.{netBy}
 
 -- only the rows before are looked at
 pub marked-take : (s : Net) (i : ℕ) (t : List ℕ) → i * s .width ≤ length t → (j : ℕ) → j ≤ i → marked s (take (i * s .width) t) i j ≡ marked s t i j

@@ -1,3 +1,4 @@
 -- The definitions of crate `planner`, module by module.
 pub mod Plan
+pub mod Loop
 pub mod Given

@@ -1,16 +1,13 @@
 -- What the planner answers and what it leaves in the lent table, for any site and any table.
 use Prim.Native.Nat.{ℕ, _+_, _*_}
-use mathlib.Core.Path.{_≡_}
-use mathlib.Core.Bool.{Bool}
-use mathlib.Core.List.{List, [], _++_}
+use mathlib.Core.List.{List, _++_}
 use lib.Dec.{ltb}
-use lib.ListN.{length, take, drop, replicate}
+use lib.ListN.{length, drop, replicate}
 use Rattle.laws.specs.Choice.{pick}
-use Rattle.laws.specs.Part.{put}
-use Rattle.theory.specs.Net.{Net, unblocked}
-use Rattle.theory.specs.Greedy.{marked, fill, unmet, row, run, Outcome, planned, noRoom, greedy}
+use Rattle.theory.specs.Net.{Net}
+use Rattle.theory.specs.Greedy.{Outcome, planned, noRoom, greedy}
 use Rattle.site.specs.Record.{size, faultOf, isFine}
-use Rattle.site.specs.Reach.{netIn, netOf}
+use Rattle.site.specs.Reach.{netOf}
 use Rattle.site.specs.declared.Site.{Site}
 use Rattle.planner.specs.declared.PlanAnswer.{PlanAnswer}
 use Rattle.planner.specs.declared.PlanAnswer.the-variants.{Done, TableShort, NoRoom, Refused}
@@ -36,23 +33,3 @@ planAnswer s t = pick (isFine (faultOf s)) (pick (ltb (length t) (size s)) Table
 -- "The planner's refusal 5 leaves the first IN bytes 0; no other refusal writes. Table bytes past IN .. are never written."
 unfoldable pub planTable : Site → List ℕ → List ℕ
 planTable s t = pick (isFine (faultOf s)) (pick (ltb (length t) (size s)) t (leaves (netOf s) t)) t
-
--- the planning problem of so many cells and positions, with these loads and who clashes: no position is blocked
-abbrev pub netBy : ℕ → ℕ → List ℕ → (ℕ → ℕ → Bool) → Net
-netBy cells n loads clash = netIn cells n loads clash unblocked
-
--- row i of t as the earlier clashing rows leave it, all idle at first: n positions, by who clashes
-abbrev pub marksIn : ℕ → (ℕ → ℕ → Bool) → List ℕ → ℕ → List ℕ
-marksIn n clash t i = marked (netBy 0 n [] clash) t i i
-
--- t with row i planned: "Each takes its idle positions in rising position until its load is met"
-abbrev pub rowPlanned : ℕ → (ℕ → ℕ → Bool) → ℕ → ℕ → List ℕ → List ℕ
-rowPlanned n clash i load t = put (i * n) n (fill unblocked 0 load (marksIn n clash t i)) t
-
--- how many of its fragments find no room there
-abbrev pub rowShort : ℕ → (ℕ → ℕ → Bool) → ℕ → ℕ → List ℕ → ℕ
-rowShort n clash i load t = unmet unblocked 0 load (marksIn n clash t i)
-
--- the greedy rows of the first i cells stand at the start of t
-abbrev pub PlannedTo : Net → ℕ → List ℕ → Type 0
-PlannedTo s i t = run s (row s) i ≡ planned (take (i * s .width) t)

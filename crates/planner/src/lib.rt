@@ -7,7 +7,8 @@ ghost use lib.ListN.{length, getD, take, replicate};
 ghost use Rattle.laws.specs.Bits.{bitIn};
 ghost use Rattle.laws.specs.Part.{part, put};
 ghost use Rattle.theory.specs.Greedy.{greedy};
-ghost use Rattle.planner.specs.Plan.{planAnswer, planTable, answerOf, leaves, netBy, marksIn, rowPlanned, rowShort, PlannedTo};
+ghost use Rattle.planner.specs.Plan.{planAnswer, planTable, answerOf, leaves};
+ghost use Rattle.planner.specs.Loop.{netBy, marksIn, rowPlanned, rowShort, PlannedTo};
 ghost use Rattle.planner.specs.declared.PlanAnswer.the-variants.{Done};
 
 // What the planner answers: done; 4, the table is short; 5, a cell's number and how many of its fragments found no room; or what is wrong with the record.

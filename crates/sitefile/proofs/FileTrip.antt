@@ -25,7 +25,8 @@ use Rattle.site.specs.Record.{sizeOk, siteOf}
 use Rattle.site.specs.declared.Site.{Site}
 use Rattle.site.proofs.Faults.{Sizes, sizes, sizes-is}
 use Rattle.sitefile.specs.Reasons.{loadsAt, reachAt, loadsReasons, pairReasons}
-use Rattle.sitefile.specs.Read.{none, loadsIn, reachIn, siteIn, siteAnswer, pairsReadOf, pairsRead}
+use Rattle.sitefile.specs.Read.{none, loadsIn, reachIn, siteIn, siteAnswer}
+use Rattle.sitefile.specs.Loop.{pairsReadOf, pairsRead}
 use Rattle.sitefile.specs.Write.{pairBytes, siteBytes}
 use Rattle.sitefile.specs.declared.PairsRead.{PairsRead}
 use Rattle.sitefile.proofs.WriteLaws.{pair-bytes-even}

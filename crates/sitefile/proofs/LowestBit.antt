@@ -12,7 +12,8 @@ use lib.Bits.{bitAnd, and-step, and-self}
 use lib.Count.{trailingZeros, under}
 use borrow.Author.Tests.{eq-eqb, ne-eqb}
 use Rattle.laws.proofs.Stores.{sets-append}
-use Rattle.sitefile.specs.Pairs.{pairOf, rowFrom, pairsFrom}
+use Rattle.sitefile.specs.Pairs.{pairOf, pairsFrom}
+use Rattle.sitefile.specs.Loop.{rowFrom}
 use Rattle.sitefile.proofs.RowLaws.{pair-set, pair-clear, left-half, row-end, rows-end}
 
 -- ---- the number without its lowest bit, from bit b on

@@ -18,7 +18,8 @@ use Rattle.laws.specs.Choice.{pick}
 use Rattle.site.specs.Record.{upTo}
 use Rattle.site.proofs.Faults.{UpTo, up-to, up-to-is}
 use Rattle.sitefile.specs.Pairs.{pairOk, place, mark}
-use Rattle.sitefile.specs.Read.{none, noRows}
+use Rattle.sitefile.specs.Read.{none}
+use Rattle.sitefile.specs.Loop.{noRows}
 use Rattle.sitefile.specs.declared.PairsRead.{PairsRead}
 use Rattle.records.specs.declared.ReadAnswer.the-variants.{Done, Refused}
 use Rattle.records.proofs.Laws.{drop-two}

@@ -14,7 +14,8 @@ use Rattle.records.specs.Reasons.{firstReason}
 use Rattle.records.specs.declared.ReadAnswer.the-variants.{Refused}
 use Rattle.sitefile.specs.Pairs.{pairOk, place, mark, marks}
 use Rattle.sitefile.specs.Reasons.{rises, pairReasons}
-use Rattle.sitefile.specs.Read.{none, noRows, pairsReadOf, pairsRead}
+use Rattle.sitefile.specs.Read.{none}
+use Rattle.sitefile.specs.Loop.{noRows, pairsReadOf, pairsRead}
 use Rattle.sitefile.proofs.PairLaws.{PairOk, pair-ok, readPairs}
 
 -- a place that is not below the one after the last pair rises from that pair

@@ -12,7 +12,8 @@ use lib.Pow.{pow-pos}
 use borrow.Author.Tests.{eq-eqb, ne-eqb, le-leb, leb-true}
 use Rattle.laws.specs.Choice.{pick}
 use Rattle.sitefile.specs.Pairs.{pairOk, place, mark, pairOf, pairsFrom}
-use Rattle.sitefile.specs.Read.{none, noRows}
+use Rattle.sitefile.specs.Read.{none}
+use Rattle.sitefile.specs.Loop.{noRows}
 use Rattle.records.specs.declared.ReadAnswer.{ReadAnswer}
 use Rattle.records.specs.declared.ReadAnswer.the-variants.{Done, Refused}
 use Rattle.sitefile.specs.Write.{pairBytes}

@@ -12,7 +12,8 @@ use Rattle.records.specs.declared.ReadAnswer.{ReadAnswer}
 use Rattle.records.specs.declared.ReadAnswer.the-variants.{Done, Refused}
 use Rattle.records.proofs.Reasons.{andThen}
 use Rattle.sitefile.specs.Reasons.{loadsAt, reachAt, loadsReasons, pairReasons}
-use Rattle.sitefile.specs.Read.{reachIn, siteAnswer, noRows, pairsReadOf, pairsRead, reachRead}
+use Rattle.sitefile.specs.Read.{reachIn, siteAnswer}
+use Rattle.sitefile.specs.Loop.{noRows, pairsReadOf, pairsRead, reachRead}
 use Rattle.sitefile.specs.declared.PairsRead.{PairsRead}
 use Rattle.sitefile.proofs.Reasons.{lastReasons, last-parts, site-parts}
 

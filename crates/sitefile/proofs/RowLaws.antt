@@ -15,7 +15,8 @@ use Rattle.laws.specs.Choice.{pick}
 use Rattle.laws.specs.Bits.{bitAt}
 use Rattle.laws.proofs.Bits.{bit-above, none-left}
 use Rattle.laws.proofs.Stores.{sets-append}
-use Rattle.sitefile.specs.Pairs.{pairOf, rowFrom, pairsFrom}
+use Rattle.sitefile.specs.Pairs.{pairOf, pairsFrom}
+use Rattle.sitefile.specs.Loop.{rowFrom}
 
 -- the bytes of one place
 module _ (row q : ℕ) where

@@ -3,5 +3,6 @@ pub mod Held
 pub mod Pairs
 pub mod Reasons
 pub mod Read
+pub mod Loop
 pub mod Write
 pub mod Given

@@ -30,11 +30,7 @@ marks rows (f ∷ t ∷ r) = marks (mark rows (place f t)) r
 unfoldable pub pairOf : ℕ → ℕ → List ℕ
 pairOf row q = pick (bitAt row (q % 32)) ((q / 32 + 1) ∷ (q % 32 + 1) ∷ []) []
 
--- the bytes of the pairs at n places from q on: of one row, and of all
-unfoldable pub rowFrom : ℕ → ℕ → ℕ → List ℕ
-rowFrom row q zero = []
-rowFrom row q (suc n) = pairOf row q ++ rowFrom row (q + 1) n
-
+-- the bytes of the pairs at n places from q on
 unfoldable pub pairsFrom : List ℕ → ℕ → ℕ → List ℕ
 pairsFrom rows q zero = []
 pairsFrom rows q (suc n) = pairOf (getD rows (q / 32) 0) q ++ pairsFrom rows (q + 1) n

@@ -22,8 +22,10 @@ ghost use lib.Seq.{sets};
 ghost use Rattle.laws.specs.Bits.{setBit};
 ghost use Rattle.records.specs.Bytes.{words};
 ghost use Rattle.records.specs.Write.{laidOver};
-ghost use Rattle.sitefile.specs.Pairs.{pairOk, place, rowFrom};
-ghost use Rattle.sitefile.specs.Read.{loadsIn, noRows, pairsRead, reachRead, refusedSite, readSite};
+ghost use Rattle.sitefile.specs.Pairs.{pairOk, place};
+ghost use Rattle.sitefile.specs.Loop.{rowFrom};
+ghost use Rattle.sitefile.specs.Read.{loadsIn, refusedSite, readSite};
+ghost use Rattle.sitefile.specs.Loop.{noRows, pairsRead, reachRead};
 ghost use Rattle.sitefile.specs.Write.{siteBytes, pairBytes, written, siteWritten, siteOut};
 
 // What a site read gives: the site, or a site of zeros beside the refusal.

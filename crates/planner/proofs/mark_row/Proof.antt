@@ -9,7 +9,7 @@ use lib.ListN.{length}
 use Rattle.planner.proofs.Marked.{marks, marks-long, marks-none, marks-yes, marks-no}
 use Rattle.planner.proofs.mark_row.Statement.{statement}
 use Rattle.laws.specs.Bits.{bitIn}
-use Rattle.planner.specs.Plan.{netBy}
+use Rattle.planner.specs.Loop.{netBy}
 use Rattle.planner.proofs.mark_row.Tie as tie
 
 abbrev Inv-loop : tie.InvT-loop

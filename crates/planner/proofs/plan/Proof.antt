@@ -12,7 +12,8 @@ use Rattle.site.specs.Record.{positions, size, faultOf}
 use Rattle.site.specs.Reach.{netOf}
 use Rattle.site.specs.declared.Fault.the-variants.{Fine}
 use Rattle.site.proofs.Faults.{not-fine, fine-sized, few-positions, few-bytes}
-use Rattle.planner.specs.Plan.{answerOf, leaves, netBy}
+use Rattle.planner.specs.Plan.{answerOf, leaves}
+use Rattle.planner.specs.Loop.{netBy}
 use Rattle.planner.proofs.Answer.{refused-answer, refused-table, short-answer, short-table, run-answer, run-table}
 use Rattle.planner.proofs.Cells.{no-rows}
 use Rattle.planner.proofs.plan.Statement.{statement}

@@ -10,7 +10,8 @@ use lib.ListN.{length, getD, drop}
 use lib.Seq.{length-take-le, length-front}
 use Rattle.laws.specs.Bits.{bitIn}
 use Rattle.laws.proofs.Grid.{row-before}
-use Rattle.planner.specs.Plan.{answerOf, netBy, PlannedTo}
+use Rattle.planner.specs.Plan.{answerOf}
+use Rattle.planner.specs.Loop.{netBy, PlannedTo}
 use Rattle.planner.proofs.Cells.{more-long, more-drop, more-planned, more-short, end-done, end-short, rows-kept}
 use Rattle.planner.proofs.plan_from.Statement.{statement}
 use Rattle.planner.proofs.plan_from.Tie as tie

@@ -5,7 +5,7 @@ use borrow.Author.Needs.{needs}
 use Rattle.planner.proofs.Marked.{cleared-long, cleared-idle, row-filled, short-filled}
 use Rattle.planner.proofs.plan_row.Statement.{statement}
 use Rattle.laws.specs.Bits.{bitIn}
-use Rattle.planner.specs.Plan.{netBy}
+use Rattle.planner.specs.Loop.{netBy}
 use Rattle.planner.proofs.plan_row.Tie as tie
 
 mul-n : tie.Need-mul-n

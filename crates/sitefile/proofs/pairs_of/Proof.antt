@@ -9,7 +9,8 @@ use lib.ListN.{length, drop, getD, length-set}
 use borrow.Author.Tests.{not-true, not-false}
 use denote.Ref.{now}
 use Rattle.sitefile.specs.Pairs.{pairOk}
-use Rattle.sitefile.specs.Read.{none, pairsRead}
+use Rattle.sitefile.specs.Read.{none}
+use Rattle.sitefile.specs.Loop.{pairsRead}
 use Rattle.sitefile.proofs.PairLaws.{High, high-none, high-mark, pair-ok, PairOk, readPairs, pairs-done, pairs-named, pairs-rise, pairs-step}
 use Rattle.sitefile.proofs.PairReasons.{pairs-way}
 use Rattle.sitefile.proofs.pairs_of.Statement.{statement}

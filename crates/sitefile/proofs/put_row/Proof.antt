@@ -7,7 +7,7 @@ use native.Mathlib.Omega.{arith}
 use lib.Bits.{and-le-r}
 use lib.ListN.{length}
 use lib.Seq.{sets}
-use Rattle.sitefile.specs.Pairs.{rowFrom}
+use Rattle.sitefile.specs.Loop.{rowFrom}
 use Rattle.sitefile.proofs.LowestBit.{trailing-lt, row-empty, lowest-length, lowest-put}
 use Rattle.sitefile.proofs.put_row.Statement.{statement}
 use Rattle.sitefile.proofs.put_row.Tie as tie

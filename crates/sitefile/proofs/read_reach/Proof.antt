@@ -9,7 +9,7 @@ use Rattle.records.specs.Reasons.{firstReason, recordReasons}
 use Rattle.records.specs.declared.Length.the-variants.{Pairs}
 use Rattle.records.specs.declared.ReadAnswer.the-variants.{Done, Refused}
 use Rattle.records.proofs.Laws.{Opening, opened, opened-done, not-opened, within, body-is, ends}
-use Rattle.sitefile.specs.Read.{noRows, pairsRead}
+use Rattle.sitefile.specs.Loop.{noRows, pairsRead}
 use Rattle.sitefile.proofs.ReadLaws.{reach-stop, reach-bad, reach-more, reach-done}
 use Rattle.sitefile.proofs.read_reach.Statement.{statement}
 use Rattle.sitefile.proofs.read_reach.Tie as tie

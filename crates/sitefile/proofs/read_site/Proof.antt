@@ -15,7 +15,8 @@ use Rattle.records.specs.declared.ReadAnswer.the-variants.{Done}
 use Rattle.records.proofs.Laws.{Opening, opened, opened-done, not-opened, within, exact, body-is, ends}
 use Rattle.records.proofs.Head.{head-read, head-sizes}
 use Rattle.sitefile.specs.Reasons.{loadsAt, reachAt, loadsReasons}
-use Rattle.sitefile.specs.Read.{loadsIn, refusedSite, siteIn, reachRead}
+use Rattle.sitefile.specs.Read.{loadsIn, refusedSite, siteIn}
+use Rattle.sitefile.specs.Loop.{reachRead}
 use Rattle.sitefile.proofs.Reasons.{refuse, accept}
 use Rattle.sitefile.proofs.ReadLaws.{head-stop, loads-stop, site-is, rows-are}
 use Rattle.sitefile.proofs.read_site.Statement.{statement}
