@@ -5,7 +5,8 @@
 --     list-means         13: record and table are good and every cell stands
 --     untouched          any other answer than done leaves table and list as they were
 --     done-valid         a mended table is valid
---     test-done          where the load test holds, a list of 4 I N numbers is enough
+--     means-done, means-short    every cell stands: done where the list has room, else 13
+--     test-number        where the load test holds, there is a number of changes, and by it a call is done or 13
 -- Assumes nothing.
 use mathlib.Core.Path.{_≡_, refl, ap, _∙_, subst}
 use mathlib.Core.Bool.{Bool, true, false}
@@ -13,7 +14,7 @@ use mathlib.Core.List.{List}
 use mathlib.Core.Logic.{_↔_}
 use Prim.Native.Nat.{ℕ, _+_, _*_, _≤_, _<_}
 use native.Mathlib.Omega.{arith}
-use borrow.Author.Tests.{ltb-true, ltb-false, le-ltb}
+use borrow.Author.Tests.{ltb-true, ltb-false, le-ltb, lt-ltb}
 use lib.Dec.{ltb}
 use lib.ListN.{length}
 use lib.Seq.{sets}
@@ -139,6 +140,13 @@ module _ (s : Site) (u l : List ℕ) where
       ∙ ap (answerOf (netOf s) u l) e
       ∙ ap (λ (q : Bool). pick q (ListShort (numberOf (netOf s) u t)) (Done (numberOf (netOf s) u t))) (le-ltb (length l) (4 * numberOf (netOf s) u t) room)
 
+  pub means-short : faultOf s ≡ Fine → size s ≤ length u → (t : List ℕ) → mend (netOf s) u ≡ planned t → length l < 4 * numberOf (netOf s) u t
+      → mendAnswer s u l ≡ ListShort (numberOf (netOf s) u t)
+  means-short fine long t e over =
+      good-answer s u l fine long
+      ∙ ap (answerOf (netOf s) u l) e
+      ∙ ap (λ (q : Bool). pick q (ListShort (numberOf (netOf s) u t)) (Done (numberOf (netOf s) u t))) (lt-ltb (length l) (4 * numberOf (netOf s) u t) over)
+
   -- "then 5 (cell, fragments short)": the cell that is named is the first whose row leaves fragments over, and as many as are named
   pub short-means : (c m : ℕ) → mendAnswer s u l ≡ NoRoom c m
       → (faultOf s ≡ Fine) × (size s ≤ length u) × ((k : ℕ) × ((c ≡ k + 1) × Fails (netOf s) (stand (netOf s) u) (s .cells) k m))
@@ -166,11 +174,14 @@ module _ (s : Site) (u l : List ℕ) where
       let d = done-means n e in
       rw (d .table) (mended-valid (netOf s) u (d .stands) (d .mends) (d .long))
 
-  -- ---- the load test
+-- ---- the load test
 
-  pub test-done : (who : ℕ → Bool) → Covers (netOf s) who → faultOf s ≡ Fine → size s ≤ length u → 4 * size s ≤ length l → LoadTest (netOf s) who
-      → (n : ℕ) × (mendAnswer s u l ≡ Done n)
-  test-done who covers fine long room h =
-      let p = test-mends (netOf s) u who covers h in
-      let few = few-changes (reserved (positions s) (p .0)) (reserved (positions s) u) (positions s) (s .cells) in
-      (numberOf (netOf s) u (p .0), means-done fine long (p .0) (p .1) (omega arith))
+-- one number of changes for whatever list is lent, and no more than the table has bytes
+pub test-number : (s : Site) (u : List ℕ) (who : ℕ → Bool) → Covers (netOf s) who → faultOf s ≡ Fine → size s ≤ length u → LoadTest (netOf s) who
+    → (n : ℕ) × (n ≤ size s) × ((l : List ℕ) → (4 * n ≤ length l → mendAnswer s u l ≡ Done n) × (length l < 4 * n → mendAnswer s u l ≡ ListShort n))
+test-number s u who covers fine long h =
+    let p = test-mends (netOf s) u who covers h in (
+      numberOf (netOf s) u (p .0),
+      few-changes (reserved (positions s) (p .0)) (reserved (positions s) u) (positions s) (s .cells),
+      λ l. (means-done s u l fine long (p .0) (p .1), means-short s u l fine long (p .0) (p .1)),
+    )
