@@ -56,19 +56,19 @@ module _ (s : Net) (u l : List ℕ) where
 
   -- which way an answer was come by
   abbrev Way : Fault → Bool → Outcome → MendAnswer → Type 0
-  Way f b o (Done n) = (f ≡ Fine) × (b ≡ false) × ((t : List ℕ) × ((o ≡ planned t) × (n ≡ numberOf s u t) × (tooShort s u l t ≡ false)))
+  Way f b o (Done n) = (f ≡ Fine) × (b ≡ false) × ((t : List ℕ) × ((o ≡ planned t) × (n ≡ numberOf s u t) × (tooShort l (numberOf s u t) ≡ false)))
   Way f b o TableShort = (f ≡ Fine) × (b ≡ true)
   Way f b o (NoRoom c m) = (f ≡ Fine) × (b ≡ false) × ((k : ℕ) × ((c ≡ k + 1) × (o ≡ noRoom k m)))
-  Way f b o (ListShort n) = (f ≡ Fine) × (b ≡ false) × ((t : List ℕ) × ((o ≡ planned t) × (n ≡ numberOf s u t) × (tooShort s u l t ≡ true)))
+  Way f b o (ListShort n) = (f ≡ Fine) × (b ≡ false) × ((t : List ℕ) × ((o ≡ planned t) × (n ≡ numberOf s u t) × (tooShort l (numberOf s u t) ≡ true)))
   Way f b o (Refused g) = isFine g ≡ false
 
-  by-list : (t : List ℕ) (q : Bool) → tooShort s u l t ≡ q → Way Fine false (planned t) (pick q (ListShort (numberOf s u t)) (Done (numberOf s u t)))
+  by-list : (t : List ℕ) (q : Bool) → tooShort l (numberOf s u t) ≡ q → Way Fine false (planned t) (pick q (ListShort (numberOf s u t)) (Done (numberOf s u t)))
   by-list t true e = (refl, refl, (t, (refl, refl, e)))
   by-list t false e = (refl, refl, (t, (refl, refl, e)))
 
   way-of : (f : Fault) (b : Bool) (o : Outcome) → Way f b o (answerBy f b o)
   way-of Fine true o = (refl, refl)
-  way-of Fine false (planned t) = by-list t (tooShort s u l t) refl
+  way-of Fine false (planned t) = by-list t (tooShort l (numberOf s u t)) refl
   way-of Fine false (noRoom c m) = (refl, refl, (c, (refl, refl)))
   way-of Size b o = refl
   way-of (Load k) b o = refl
@@ -82,7 +82,7 @@ module _ (s : Net) (u l : List ℕ) where
   kept-by : (f : Fault) (b : Bool) (o : Outcome) → ((m : ℕ) → answerBy f b o ≡ Done m → ⊥)
       → (pick (isFine f) (pick b u (tableAfter s u l o)) u ≡ u) × (pick (isFine f) (pick b l (listAfter s u l o)) l ≡ l)
   kept-by Fine true o h = (refl, refl)
-  kept-by Fine false (planned t) h = list-kept (tooShort s u l t) (numberOf s u t) (overlay t u) (sets l 0 (listed s u t)) h
+  kept-by Fine false (planned t) h = list-kept (tooShort l (numberOf s u t)) (numberOf s u t) (overlay t u) (sets l 0 (listed s u t)) h
   kept-by Fine false (noRoom c m) h = (refl, refl)
   kept-by Size b o h = (refl, refl)
   kept-by (Load k) b o h = (refl, refl)
@@ -90,7 +90,7 @@ module _ (s : Net) (u l : List ℕ) where
 
   no-refusal : (b : Bool) (o : Outcome) (f : Fault) → pick b TableShort (answerOf s u l o) ≡ Refused f → ⊥
   no-refusal true o f e = let z : _≡_ {A = ℕ} 0 1 = cc in omega arith
-  no-refusal false (planned t) f e = neither (tooShort s u l t) e
+  no-refusal false (planned t) f e = neither (tooShort l (numberOf s u t)) e
     where
       neither : (q : Bool) → pick q (ListShort (numberOf s u t)) (Done (numberOf s u t)) ≡ Refused f → ⊥
       neither true e = let z : _≡_ {A = ℕ} 0 1 = cc in omega arith
