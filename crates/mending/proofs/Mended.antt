@@ -186,7 +186,8 @@ module _ (s : Net) (u t : List ℕ) (e : mend s u ≡ planned t) (i k : ℕ) (l 
   below q z j h = ap sends (getD-take (i * n) t (j * n + q) 0 (omega (arith, mul-le-mul-right n h, suc-mul j n)))
 
   taken-same : (q : ℕ) → q < n → taken s (reserved n rows) i q ≡ taken s (reserved n t) i q
-  taken-same q z = any-eq (λ j. s .clash j i && reserved n rows j q) (λ j. s .clash j i && reserved n t j q) i (λ j h. ap (λ b. s .clash j i && b) (below q z j h))
+  taken-same q z =
+      any-eq (λ j. s .clash j i && reserved n rows j q) (λ j. s .clash j i && reserved n t j q) i (λ j h. ap (λ b. s .clash j i && b) (below q z j h))
 
   abbrev wish : ℕ → Bool
   wish q = mine s u rows i q && reserved n u i q
@@ -219,7 +220,7 @@ module _ (s : Net) (u t : List ℕ) (e : mend s u ≡ planned t) (i k : ℕ) (l 
       )))
       (why (s .usable k) (taken s (reserved n rows) i k) (reserved n u i k) (ltb (count wish k) (s .load i)) (adds s u rows i k) (reserved n t i k) y o (stands k w) d)
 
-  -- A position of cell i that stands and was not reserved: it is free; the cell stands on every lower position that is; and it gives up nothing that it may keep.
+  -- A position of cell i that stands and was not reserved: it is free; the cell stands on every lower position that is; it gives up nothing that it may keep.
   free-same : (q : ℕ) → q < n → free s (reserved n rows) i q ≡ free s (reserved n t) i q
   free-same q z = ap (λ b. s .usable q && not b) (taken-same q z)
 

@@ -207,7 +207,7 @@ module _ (s : Site) (u l : List ℕ) where
         )))
         (rule.dropped-why (netOf s) u (d .stands) (d .mends) i k h w refl o (now-is i k h w ∙ c))
 
-    -- ---- "then add the lowest free positions": a position is added only where it is free, every lower free one is the cell's too, and nothing that it may keep is dropped
+    -- ---- "then add the lowest free positions": an added one is free, every lower free one is the cell's too, and nothing that it may keep is dropped
 
     free-same : (i k : ℕ) → i < s .cells → k < positions s → taken (netOf s) is i k ≡ false → free (netOf s) (reserved (positions s) (d .stands)) i k ≡ true
     free-same i k h w y = ap not (taken-same i k h w ∙ y)
