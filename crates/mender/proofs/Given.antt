@@ -52,7 +52,7 @@ either-proper : (t : Bool) (n : ℕ) → mendProper (pick t (ListShort n) (Done 
 either-proper t n = proper-either mendProper t (ListShort n) (Done n) refl refl
 
 run-proper : (s : Net) (u l : List ℕ) (o : Outcome) → mendProper (answerOf s u l o) ≡ true
-run-proper s u l (planned t) = either-proper (tooShort s u l t) (numberOf s u t)
+run-proper s u l (planned t) = either-proper (tooShort l (numberOf s u t)) (numberOf s u t)
 run-proper s u l (noRoom c m) = refl
 
 pub mend-proper : (s : Site) (u l : List ℕ) → mendProper (mendAnswer s u l) ≡ true

@@ -5,7 +5,8 @@
 --     list-means         13: record and table are good and every cell stands
 --     untouched          any other answer than done leaves table and list as they were
 --     done-valid         a mended table is valid
---     test-done          where the load test holds, a list of 4 I N numbers is enough
+--     means-done, means-short    every cell stands: done where the list has room, else 13
+--     test-number        where the load test holds, there is a number of changes, and by it a call is done or 13
 -- Assumes nothing.
 use mathlib.Core.Path.{_≡_, refl, ap, _∙_, subst}
 use mathlib.Core.Bool.{Bool, true, false}
@@ -13,7 +14,7 @@ use mathlib.Core.List.{List}
 use mathlib.Core.Logic.{_↔_}
 use Prim.Native.Nat.{ℕ, _+_, _*_, _≤_, _<_}
 use native.Mathlib.Omega.{arith}
-use borrow.Author.Tests.{ltb-true, ltb-false, le-ltb}
+use borrow.Author.Tests.{ltb-true, ltb-false, le-ltb, lt-ltb}
 use lib.Dec.{ltb}
 use lib.ListN.{length}
 use lib.Seq.{sets}
@@ -55,19 +56,19 @@ module _ (s : Net) (u l : List ℕ) where
 
   -- which way an answer was come by
   abbrev Way : Fault → Bool → Outcome → MendAnswer → Type 0
-  Way f b o (Done n) = (f ≡ Fine) × (b ≡ false) × ((t : List ℕ) × ((o ≡ planned t) × (n ≡ numberOf s u t) × (tooShort s u l t ≡ false)))
+  Way f b o (Done n) = (f ≡ Fine) × (b ≡ false) × ((t : List ℕ) × ((o ≡ planned t) × (n ≡ numberOf s u t) × (tooShort l (numberOf s u t) ≡ false)))
   Way f b o TableShort = (f ≡ Fine) × (b ≡ true)
   Way f b o (NoRoom c m) = (f ≡ Fine) × (b ≡ false) × ((k : ℕ) × ((c ≡ k + 1) × (o ≡ noRoom k m)))
-  Way f b o (ListShort n) = (f ≡ Fine) × (b ≡ false) × ((t : List ℕ) × ((o ≡ planned t) × (n ≡ numberOf s u t) × (tooShort s u l t ≡ true)))
+  Way f b o (ListShort n) = (f ≡ Fine) × (b ≡ false) × ((t : List ℕ) × ((o ≡ planned t) × (n ≡ numberOf s u t) × (tooShort l (numberOf s u t) ≡ true)))
   Way f b o (Refused g) = isFine g ≡ false
 
-  by-list : (t : List ℕ) (q : Bool) → tooShort s u l t ≡ q → Way Fine false (planned t) (pick q (ListShort (numberOf s u t)) (Done (numberOf s u t)))
+  by-list : (t : List ℕ) (q : Bool) → tooShort l (numberOf s u t) ≡ q → Way Fine false (planned t) (pick q (ListShort (numberOf s u t)) (Done (numberOf s u t)))
   by-list t true e = (refl, refl, (t, (refl, refl, e)))
   by-list t false e = (refl, refl, (t, (refl, refl, e)))
 
   way-of : (f : Fault) (b : Bool) (o : Outcome) → Way f b o (answerBy f b o)
   way-of Fine true o = (refl, refl)
-  way-of Fine false (planned t) = by-list t (tooShort s u l t) refl
+  way-of Fine false (planned t) = by-list t (tooShort l (numberOf s u t)) refl
   way-of Fine false (noRoom c m) = (refl, refl, (c, (refl, refl)))
   way-of Size b o = refl
   way-of (Load k) b o = refl
@@ -81,7 +82,7 @@ module _ (s : Net) (u l : List ℕ) where
   kept-by : (f : Fault) (b : Bool) (o : Outcome) → ((m : ℕ) → answerBy f b o ≡ Done m → ⊥)
       → (pick (isFine f) (pick b u (tableAfter s u l o)) u ≡ u) × (pick (isFine f) (pick b l (listAfter s u l o)) l ≡ l)
   kept-by Fine true o h = (refl, refl)
-  kept-by Fine false (planned t) h = list-kept (tooShort s u l t) (numberOf s u t) (overlay t u) (sets l 0 (listed s u t)) h
+  kept-by Fine false (planned t) h = list-kept (tooShort l (numberOf s u t)) (numberOf s u t) (overlay t u) (sets l 0 (listed s u t)) h
   kept-by Fine false (noRoom c m) h = (refl, refl)
   kept-by Size b o h = (refl, refl)
   kept-by (Load k) b o h = (refl, refl)
@@ -89,7 +90,7 @@ module _ (s : Net) (u l : List ℕ) where
 
   no-refusal : (b : Bool) (o : Outcome) (f : Fault) → pick b TableShort (answerOf s u l o) ≡ Refused f → ⊥
   no-refusal true o f e = let z : _≡_ {A = ℕ} 0 1 = cc in omega arith
-  no-refusal false (planned t) f e = neither (tooShort s u l t) e
+  no-refusal false (planned t) f e = neither (tooShort l (numberOf s u t)) e
     where
       neither : (q : Bool) → pick q (ListShort (numberOf s u t)) (Done (numberOf s u t)) ≡ Refused f → ⊥
       neither true e = let z : _≡_ {A = ℕ} 0 1 = cc in omega arith
@@ -139,6 +140,13 @@ module _ (s : Site) (u l : List ℕ) where
       ∙ ap (answerOf (netOf s) u l) e
       ∙ ap (λ (q : Bool). pick q (ListShort (numberOf (netOf s) u t)) (Done (numberOf (netOf s) u t))) (le-ltb (length l) (4 * numberOf (netOf s) u t) room)
 
+  pub means-short : faultOf s ≡ Fine → size s ≤ length u → (t : List ℕ) → mend (netOf s) u ≡ planned t → length l < 4 * numberOf (netOf s) u t
+      → mendAnswer s u l ≡ ListShort (numberOf (netOf s) u t)
+  means-short fine long t e over =
+      good-answer s u l fine long
+      ∙ ap (answerOf (netOf s) u l) e
+      ∙ ap (λ (q : Bool). pick q (ListShort (numberOf (netOf s) u t)) (Done (numberOf (netOf s) u t))) (lt-ltb (length l) (4 * numberOf (netOf s) u t) over)
+
   -- "then 5 (cell, fragments short)": the cell that is named is the first whose row leaves fragments over, and as many as are named
   pub short-means : (c m : ℕ) → mendAnswer s u l ≡ NoRoom c m
       → (faultOf s ≡ Fine) × (size s ≤ length u) × ((k : ℕ) × ((c ≡ k + 1) × Fails (netOf s) (stand (netOf s) u) (s .cells) k m))
@@ -166,11 +174,14 @@ module _ (s : Site) (u l : List ℕ) where
       let d = done-means n e in
       rw (d .table) (mended-valid (netOf s) u (d .stands) (d .mends) (d .long))
 
-  -- ---- the load test
+-- ---- the load test
 
-  pub test-done : (who : ℕ → Bool) → Covers (netOf s) who → faultOf s ≡ Fine → size s ≤ length u → 4 * size s ≤ length l → LoadTest (netOf s) who
-      → (n : ℕ) × (mendAnswer s u l ≡ Done n)
-  test-done who covers fine long room h =
-      let p = test-mends (netOf s) u who covers h in
-      let few = few-changes (reserved (positions s) (p .0)) (reserved (positions s) u) (positions s) (s .cells) in
-      (numberOf (netOf s) u (p .0), means-done fine long (p .0) (p .1) (omega arith))
+-- one number of changes for whatever list is lent, and no more than the table has bytes
+pub test-number : (s : Site) (u : List ℕ) (who : ℕ → Bool) → Covers (netOf s) who → faultOf s ≡ Fine → size s ≤ length u → LoadTest (netOf s) who
+    → (n : ℕ) × (n ≤ size s) × ((l : List ℕ) → (4 * n ≤ length l → mendAnswer s u l ≡ Done n) × (length l < 4 * n → mendAnswer s u l ≡ ListShort n))
+test-number s u who covers fine long h =
+    let p = test-mends (netOf s) u who covers h in (
+      numberOf (netOf s) u (p .0),
+      few-changes (reserved (positions s) (p .0)) (reserved (positions s) u) (positions s) (s .cells),
+      λ l. (means-done s u l fine long (p .0) (p .1), means-short s u l fine long (p .0) (p .1)),
+    )

@@ -39,30 +39,30 @@ module _ (s : Net) (u : List ℕ) where
   stoodOf (planned t) = All (numberOf t)
   stoodOf (noRoom c m) = Short (c + 1) m
 
+-- "13 with the number of changes where the list is too short": a change takes four numbers
+abbrev pub tooShort : List ℕ → ℕ → Bool
+tooShort l number = ltb (length l) (4 * number)
+
+-- what a list with no room for so many changes leaves, and what one with room does
+abbrev pub ifRoom : {A : Type 0} → List ℕ → ℕ → (short done : A) → A
+ifRoom l number short done = pick (tooShort l number) short done
+
 -- and l the list, as it is lent
 module _ (s : Net) (u l : List ℕ) where
-  -- "13 with the number of changes where the list is too short": a change takes four numbers
-  abbrev pub tooShort : List ℕ → Bool
-  tooShort t = ltb (length l) (4 * numberOf s u t)
-
   -- "then 5 (cell, fragments short), then 13 with the number of changes"; "It answers how many changes there are"
   abbrev pub answerOf : Outcome → MendAnswer
-  answerOf (planned t) = pick (tooShort t) (ListShort (numberOf s u t)) (Done (numberOf s u t))
+  answerOf (planned t) = ifRoom l (numberOf s u t) (ListShort (numberOf s u t)) (Done (numberOf s u t))
   answerOf (noRoom c m) = NoRoom (c + 1) m
 
   -- "the table is mended where it stands"; "all of them, 5 too, leave table and list untouched"
   abbrev pub tableAfter : Outcome → List ℕ
-  tableAfter (planned t) = pick (tooShort t) u (overlay t u)
+  tableAfter (planned t) = ifRoom l (numberOf s u t) u (overlay t u)
   tableAfter (noRoom c m) = u
 
   -- "Entries past the last change stay."
   abbrev pub listAfter : Outcome → List ℕ
-  listAfter (planned t) = pick (tooShort t) l (sets l 0 (listed s u t))
+  listAfter (planned t) = ifRoom l (numberOf s u t) l (sets l 0 (listed s u t))
   listAfter (noRoom c m) = l
-
--- what a list with no room for so many changes leaves, and what one with room does
-abbrev pub ifRoom : {A : Type 0} → List ℕ → ℕ → (short done : A) → A
-ifRoom l number short done = pick (ltb (length l) (4 * number)) short done
 
 -- a list with room for so many changes: four numbers each
 abbrev pub roomOf : ℕ → List ℕ

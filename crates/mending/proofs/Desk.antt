@@ -1,4 +1,4 @@
--- Desk examples: tables of document 01's P1, P2, P4 and P12, mended. Each line was compared with the second program.
+-- Desk examples: tables of document 01's P1, P2, P4 and P12, and one of a pair that clashes, mended. Both sides are computed.
 -- Assumes nothing.
 use mathlib.Core.Path.{_≡_, refl}
 use mathlib.Core.Bool.{Bool, true, false, _&&_, _||_}
@@ -53,6 +53,10 @@ P4 = net 2 (1 ∷ 1 ∷ 1 ∷ 1 ∷ []) (1 ~ 3 ∷ 2 ~ 4 ∷ 3 ~ 4 ∷ [])
 abbrev pub P12 : Net
 P12 = net 1 (2 ∷ []) []
 
+-- two cells that clash, a fragment each
+abbrev pub pair : Net
+pair = net 2 (1 ∷ 1 ∷ []) (1 ~ 2 ∷ [])
+
 pub record Line : Type 0 where
   pub asked : Mending
   pub says : Mending
@@ -74,6 +78,8 @@ lines =
     ∷ mending P4 (1 ∷ 0 ∷ 0 ∷ 1 ∷ 0 ∷ 1 ∷ 1 ∷ 0 ∷ []) ⇒ done (1 ∷ 0 ∷ 0 ∷ 1 ∷ 0 ∷ 1 ∷ 1 ∷ 0 ∷ []) []
     ∷ mending P4 (0 ∷ 0 ∷ 0 ∷ 0 ∷ 0 ∷ 0 ∷ 0 ∷ 0 ∷ []) ⇒ short 3 1
     ∷ mending P12 (1 ∷ []) ⇒ short 0 1
+    -- a later cell on the lowest free position is not in the way: cell 1 takes it, and cell 2 gives it up
+    ∷ mending pair (0 ∷ 0 ∷ 1 ∷ 0 ∷ []) ⇒ done (1 ∷ 0 ∷ 0 ∷ 1 ∷ []) (1 ∷ 0 ∷ 0 ∷ 1 ∷ 2 ∷ 0 ∷ 1 ∷ 0 ∷ 2 ∷ 1 ∷ 0 ∷ 1 ∷ [])
     ∷ []
 
 pub desk : map (λ l. l .asked) lines ≡ map (λ l. l .says) lines

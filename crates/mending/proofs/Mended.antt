@@ -4,10 +4,11 @@
 --     mends-test         in the class, a table mends only if the load test holds
 --     valid-mends        a valid table yields no change and stays byte for byte
 --     dropped-why        a reservation is dropped only where an earlier clashing cell stands, or the load is met before it
+--     added-why          a position is added only where it is free, where the cell stands on all that is free below it and keeps all that it may
 --     mended-follows     the changes, laid over the old table, give the mended one
 -- Assumes nothing.
 use mathlib.Core.Path.{_≡_, refl, sym, ap, _∙_}
-use mathlib.Core.Bool.{Bool, true, false, _&&_, _||_, not, and-eq-true-iff, and-false, false≢true}
+use mathlib.Core.Bool.{Bool, true, false, _&&_, _||_, not, and-eq-true-iff, and-false, false≢true, true≢false}
 use mathlib.Core.List.{List, [], _++_}
 use mathlib.Core.Logic.{_⊎_, inl, inr, ⊎-elim}
 use Prim.Native.Nat.{ℕ, zero, suc, _+_, _-_, _*_, _≤_, _<_}
@@ -22,14 +23,14 @@ use Rattle.laws.proofs.Any.{none-any, any-eq}
 use Rattle.laws.proofs.Choice.{refute}
 use Rattle.laws.proofs.Few.{few-count}
 use Rattle.laws.proofs.Sums.{sum-eq, sum-le, sum-below}
-use Rattle.theory.specs.Net.{Net, Valid, Covers, LoadTest, Class, taken}
+use Rattle.theory.specs.Net.{Net, Valid, Covers, LoadTest, Class, taken, free}
 use Rattle.theory.specs.Greedy.{sends, reserved, held, planned, close, shortage, next, run}
 use Rattle.theory.proofs.Row.{kept, added}
 use Rattle.theory.proofs.Run.{run-size, run-valid, run-at, test-runs}
 use Rattle.theory.proofs.Exact.{valid-agree, demand-three-test, eases-refl}
 use Rattle.mending.specs.Mend.{stand, mend, overlay}
 use Rattle.mending.specs.Changes.{changes, changeCount, follow}
-use Rattle.mending.proofs.Stand.{mine, keeps, adds, stand-one, stand-length, stand-fair}
+use Rattle.mending.proofs.Stand.{mine, keeps, adds, stand-one, stand-length, stand-fair, kept-all, add-lowest}
 use Rattle.mending.proofs.Overlay.{overlay-reserved}
 use Rattle.mending.proofs.Changes.{count-same, changes-none}
 use Rattle.mending.proofs.Follow.{follow-changes}
@@ -181,8 +182,12 @@ module _ (s : Net) (u t : List ℕ) (e : mend s u ≡ planned t) (i k : ℕ) (l 
   stands : (q : ℕ) → q < n → reserved n t i q ≡ (keeps s u rows i q || adds s u rows i q)
   stands q h = ap sends (run-at s (stand s u) (stand-fair s u) (s .cells) t e i q l h) ∙ stand-one s u rows i q h
 
-  below : (j : ℕ) → j < i → reserved n rows j k ≡ reserved n t j k
-  below j h = ap sends (getD-take (i * n) t (j * n + k) 0 (omega (arith, mul-le-mul-right n h, suc-mul j n)))
+  below : (q : ℕ) → q < n → (j : ℕ) → j < i → reserved n rows j q ≡ reserved n t j q
+  below q z j h = ap sends (getD-take (i * n) t (j * n + q) 0 (omega (arith, mul-le-mul-right n h, suc-mul j n)))
+
+  taken-same : (q : ℕ) → q < n → taken s (reserved n rows) i q ≡ taken s (reserved n t) i q
+  taken-same q z =
+      any-eq (λ j. s .clash j i && reserved n rows j q) (λ j. s .clash j i && reserved n t j q) i (λ j h. ap (λ b. s .clash j i && b) (below q z j h))
 
   abbrev wish : ℕ → Bool
   wish q = mine s u rows i q && reserved n u i q
@@ -204,10 +209,8 @@ module _ (s : Net) (u t : List ℕ) (e : mend s u ≡ planned t) (i k : ℕ) (l 
   pub dropped-why : s .usable k ≡ true → reserved (s .width) u i k ≡ true → reserved (s .width) t i k ≡ false
       → (taken s (reserved (s .width) t) i k ≡ true) ⊎ (s .load i ≤ count (λ q. reserved (s .width) u i q && reserved (s .width) t i q) k)
   dropped-why y o d =
-      let same : taken s (reserved n rows) i k ≡ taken s (reserved n t) i k =
-      any-eq (λ j. s .clash j i && reserved n rows j k) (λ j. s .clash j i && reserved n t j k) i (λ j h. ap (λ b. s .clash j i && b) (below j h)) in
       ⊎-elim
-      (λ (h : taken s (reserved n rows) i k ≡ true). inl (sym same ∙ h))
+      (λ (h : taken s (reserved n rows) i k ≡ true). inl (sym (taken-same k w) ∙ h))
       (λ (h : ltb (count wish k) (s .load i) ≡ false).
       inr (omega (
         arith,
@@ -216,3 +219,24 @@ module _ (s : Net) (u t : List ℕ) (e : mend s u ≡ planned t) (i k : ℕ) (l 
         sum-le (λ q. bit (keeps s u rows i q)) (λ q. bit (reserved n u i q && reserved n t i q)) k (λ q m. kept-both q (omega arith)),
       )))
       (why (s .usable k) (taken s (reserved n rows) i k) (reserved n u i k) (ltb (count wish k) (s .load i)) (adds s u rows i k) (reserved n t i k) y o (stands k w) d)
+
+  -- A position of cell i that stands and was not reserved: it is free; the cell stands on every lower position that is; it gives up nothing that it may keep.
+  free-same : (q : ℕ) → q < n → free s (reserved n rows) i q ≡ free s (reserved n t) i q
+  free-same q z = ap (λ b. s .usable q && not b) (taken-same q z)
+
+  new : (f o a b r : Bool) → r ≡ ((f && o && a) || b) → o ≡ false → r ≡ true → b ≡ true
+  new f true a b r h g d = absurd (true≢false g)
+  new true false a b r h g d = sym h ∙ d
+  new false false a b r h g d = sym h ∙ d
+
+  pub added-why : reserved (s .width) u i k ≡ false → reserved (s .width) t i k ≡ true
+      → (free s (reserved (s .width) t) i k ≡ true)
+      × ((q : ℕ) → q < k → free s (reserved (s .width) t) i q ≡ true → reserved (s .width) t i q ≡ true)
+      × ((q : ℕ) → q < s .width → free s (reserved (s .width) t) i q ≡ true → reserved (s .width) u i q ≡ true → reserved (s .width) t i q ≡ true)
+  added-why o d =
+      let f = mine s u rows i in
+      let a = new (f k) (reserved n u i k) _ (adds s u rows i k) (reserved n t i k) (stands k w) o d in (
+        sym (free-same k w) ∙ stand-fair s u .only rows i k w (sym (ap sends (run-at s (stand s u) (stand-fair s u) (s .cells) t e i k l w)) ∙ d),
+        λ q h y. stands q (omega arith) ∙ add-lowest f (reserved n u i) (s .load i) n k a q h (free-same q (omega arith) ∙ y),
+        λ q h y z. stands q h ∙ ap (λ b. b || adds s u rows i q) (kept-all f (reserved n u i) (s .load i) n k a q h (free-same q h ∙ y) z),
+      )

@@ -1,6 +1,7 @@
 -- The mender's rule is fair, so all of `Run` holds of it: a row that stands has the first of the old reservations that are free, then the first of the other free positions.
 --     stand-one      which positions stand
 --     stand-fair     as the theory asks of a rule
+--     kept-all, add-lowest    something is added only where all that may be kept is kept, and where all that is free below it stands
 --     mend-short, change-count, stand-cong    what is short, how many changes there are, and that only what is free counts
 -- Assumes nothing.
 use mathlib.Core.Path.{_≡_, refl, sym, ap, ap₂, _∙_}
@@ -16,8 +17,8 @@ use borrow.Author.Tests.{lt-ltb, ltb-true}
 use Rattle.laws.specs.Choice.{pick}
 use Rattle.laws.specs.Sum.{bit, count}
 use Rattle.laws.specs.Few.{firstFew}
-use Rattle.laws.proofs.Choice.{cases, both}
-use Rattle.laws.proofs.Sums.{sum-eq, sum-add, sum-below}
+use Rattle.laws.proofs.Choice.{cases, refute, both, both-is}
+use Rattle.laws.proofs.Sums.{sum-eq, sum-add, sum-below, sum-up}
 use Rattle.laws.proofs.Few.{few-count, few-eq}
 use Rattle.theory.specs.Net.{Net, taken, free}
 use Rattle.theory.specs.Greedy.{sends, reserved, held, marked}
@@ -57,6 +58,10 @@ one-way true false a false h = refl
 one-way false false a true h = refl
 one-way false false a false h = refl
 
+either-is : (a b : Bool) → b ≡ true → (a || b) ≡ true
+either-is true b h = refl
+either-is false b h = h
+
 -- of those with f, keep the first l that have o, and add the first of the others until there are l
 module _ (f o : ℕ → Bool) (l n : ℕ) where
   abbrev keep : ℕ → Bool
@@ -77,20 +82,35 @@ module _ (f o : ℕ → Bool) (l n : ℕ) where
         sum-add (λ k. bit (keep k)) (λ k. bit (f k && not (keep k))) n,
       )
 
-  -- something is added only where all that may be kept is kept, so it has no o
+  abbrev other : ℕ → Bool
+  other q = f q && not (keep q)
+
+  -- something is added only where all that may be kept is kept
+  pub kept-all : (k : ℕ) → add k ≡ true → (q : ℕ) → q < n → f q ≡ true → o q ≡ true → keep q ≡ true
+  kept-all k e q h a b =
+      let p = both (other k) (ltb (count other k) (l - count keep n)) e in
+      let left = ltb-true (count other k) (l - count keep n) (p .1) in
+      let all : count keep n ≡ min l (count (λ z. f z && o z) n) = few-count (λ z. f z && o z) l n in
+      both-is (f q && o q) (ltb (count (λ z. f z && o z) q) l) (both-is (f q) (o q) a b)
+      (lt-ltb (count (λ z. f z && o z) q) l (omega (arith, sum-below (λ z. bit (f z && o z)) q n h)))
+
+  -- so it has no o
   add-new : (k : ℕ) → k < n → add k ≡ true → o k ≡ false
-  add-new k h e = ⊎-elim (λ (y : o k ≡ true). absurd (never y)) (λ y. y) (cases (o k))
+  add-new k h e = refute (o k) (λ y.
+      let p = both (other k) (ltb (count other k) (l - count keep n)) e in
+      let q = both (f k) (not (keep k)) (p .0) in
+      true≢false (sym (q .1) ∙ ap not (kept-all k e k h (q .0) y)))
+
+  -- and where it is, all that is free below it stands: what is added is the lowest
+  pub add-lowest : (k : ℕ) → add k ≡ true → (q : ℕ) → q < k → f q ≡ true → standAt f o l n q ≡ true
+  add-lowest k e q h a = ⊎-elim (λ y. rw y) (λ y. either-is (keep q) (add q) (added y)) (cases (keep q))
     where
-      never : o k ≡ true → ⊥
-      never y =
-          let p = both (f k && not (keep k)) (ltb (count (λ q. f q && not (keep q)) k) (l - count keep n)) e in
-          let q = both (f k) (not (keep k)) (p .0) in
-          let all : count keep n ≡ min l (count (λ q. f q && o q) n) = few-count (λ q. f q && o q) l n in
-          let here : bit (f k && o k) ≡ 1 = rw (q .0, y) in
-          let left : 0 < l - count keep n = omega (arith, ltb-true (count (λ q. f q && not (keep q)) k) (l - count keep n) (p .1)) in
-          let few : ltb (count (λ q. f q && o q) k) l ≡ true = lt-ltb (count (λ q. f q && o q) k) l (omega (arith, sum-below (λ q. bit (f q && o q)) k n h)) in
-          let kept : keep k ≡ true = rw (q .0, y, few) in
-          true≢false (sym (q .1) ∙ ap not kept)
+      added : keep q ≡ false → add q ≡ true
+      added y =
+          let p = both (other k) (ltb (count other k) (l - count keep n)) e in
+          let left = ltb-true (count other k) (l - count keep n) (p .1) in
+          both-is (other q) (ltb (count other q) (l - count keep n)) (both-is (f q) (not (keep q)) a (ap not y))
+          (lt-ltb (count other q) (l - count keep n) (omega (arith, sum-up (λ z. bit (other z)) q k (omega arith))))
 
   -- what finds no room is what the load is short of all that stands
   pub mend-short : l - count keep n - count (λ k. f k && not (keep k)) n ≡ l - count (standAt f o l n) n

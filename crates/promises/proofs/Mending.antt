@@ -6,14 +6,17 @@ use mathlib.Core.List.{List, [], _∷_}
 use mathlib.Core.Logic.{_⊎_, inl, inr, ⊎-elim}
 use Prim.Native.Nat.{ℕ, _+_, _*_, _≤_, _<_}
 use native.Mathlib.Omega.{arith}
+use lib.Dec.{ltb}
 use lib.ListN.{length, take, drop}
+use borrow.Author.Tests.{ltb-true, ltb-false}
 use lib.Seq.{sets}
 use Rattle.laws.specs.Choice.{Rising}
 use Rattle.laws.specs.Sum.{bit, count}
 use Rattle.laws.proofs.Any.{any-eq}
+use Rattle.laws.proofs.Choice.{cases}
 use Rattle.laws.proofs.Sums.{sum-eq}
 use Rattle.laws.proofs.Stores.{take-sets}
-use Rattle.theory.specs.Net.{taken}
+use Rattle.theory.specs.Net.{taken, free}
 use Rattle.theory.specs.Greedy.{reserved}
 use Rattle.theory.specs.Named.{Fails}
 use Rattle.theory.proofs.Run.{is-planned}
@@ -46,6 +49,10 @@ use Rattle.promises.specs.Numbers.{done, doneWith, refused}
 use Rattle.promises.specs.Demands.{Accepted, LongEnough}
 use Rattle.promises.proofs.Numbers.{accepted-number, chain-number}
 use Rattle.promises.proofs.Demand2.{check-is-valid, load-is-C1}
+
+no-more : (b : Bool) → not b ≡ true → b ≡ false
+no-more true e = sym e
+no-more false e = refl
 
 module _ (s : Site) (u l : List ℕ) where
   -- the call gives back 0 and n
@@ -81,13 +88,7 @@ module _ (s : Site) (u l : List ℕ) where
         d .list ∙ ap (λ t. sets l 0 (changes (reserved (positions s) t) (reserved (positions s) u) (positions s) (s .cells))) same ∙ ap (sets l 0) (r .none),
       )
 
-  -- "With a list long enough, a table is mended whenever the load test holds, and on a chained site only then. Any table, whatever its bytes."
-  pub mended-when : loadGiven (loadAnswer s) ≡ done → LongEnough s u → 4 * size s ≤ length l → (n : ℕ) × MendedBy n
-  mended-when e long room =
-      let h = load-is-C1 s .0 e in
-      let r = means.test-done s u l (counted s) (covers-loaded (netOf s)) (accepted-number s .0 (h .0)) long room (h .1) in
-      (r .0, ap mendGiven (r .1))
-
+  -- "and on a chained site only then"
   pub mended-only : chainGiven (chainAnswer s) ≡ done → (n : ℕ) → MendedBy n → loadGiven (loadAnswer s) ≡ done
   mended-only e n m =
       let d = went n m in
@@ -206,10 +207,52 @@ module _ (s : Site) (u l : List ℕ) where
         )))
         (rule.dropped-why (netOf s) u (d .stands) (d .mends) i k h w refl o (now-is i k h w ∙ c))
 
+    -- ---- "then add the lowest free positions": an added one is free, every lower free one is the cell's too, and nothing that it may keep is dropped
+
+    free-same : (i k : ℕ) → i < s .cells → k < positions s → taken (netOf s) is i k ≡ false → free (netOf s) (reserved (positions s) (d .stands)) i k ≡ true
+    free-same i k h w y = ap not (taken-same i k h w ∙ y)
+
+    pub added-why : (i k : ℕ) → i < s .cells → k < positions s
+        → reserved (positions s) u i k ≡ false → reserved (positions s) (mendTable s u l) i k ≡ true
+        → (taken (netOf s) (reserved (positions s) (mendTable s u l)) i k ≡ false)
+        × ((q : ℕ) → q < k → taken (netOf s) (reserved (positions s) (mendTable s u l)) i q ≡ false → reserved (positions s) (mendTable s u l) i q ≡ true)
+        × ((q : ℕ) → q < positions s → taken (netOf s) (reserved (positions s) (mendTable s u l)) i q ≡ false
+        → reserved (positions s) u i q ≡ true → reserved (positions s) (mendTable s u l) i q ≡ true)
+    added-why i k h w o c =
+        let r = rule.added-why (netOf s) u (d .stands) (d .mends) i k h w o (now-is i k h w ∙ c) in (
+          sym (taken-same i k h w) ∙ no-more (taken (netOf s) (reserved (positions s) (d .stands)) i k) (r .0),
+          λ q m y. sym (now-is i q h (omega arith)) ∙ r .1 q m (free-same i q h (omega arith) y),
+          λ q m y z. sym (now-is i q h m) ∙ r .2 q m (free-same i q h m y) z,
+        )
+
   -- no change is said of a valid table alone: what the desk is told as "valid as it is"
   pub unchanged-valid : MendedBy 0 → checkGiven (checkAnswer s u) ≡ done
   unfolding follow
   unchanged-valid e = let same : u ≡ mendTable s u l = list-gives 0 e in ap (λ t. checkGiven (checkAnswer s t)) same ∙ mended-checks 0 e
+
+-- ---- "With a list long enough, a table is mended whenever the load test holds": any table, whatever its bytes
+
+module _ (s : Site) (u : List ℕ) (e : loadGiven (loadAnswer s) ≡ done) (long : LongEnough s u) where
+  -- there is one number of changes: the call is done with it where the list holds four numbers for each, and answers 13 with it where it does not
+  pub mend-number : (n : ℕ) × (n ≤ size s)
+      × ((l : List ℕ) → (4 * n ≤ length l → MendedBy s u l n) × (length l < 4 * n → mendGiven (mendAnswer s u l) ≡ refused 13 (n ∷ [])))
+  mend-number =
+      let h = load-is-C1 s .0 e in
+      let r = means.test-number s u (counted s) (covers-loaded (netOf s)) (accepted-number s .0 (h .0)) long (h .1) in
+      (r .0, r .1, λ l. (λ y. ap mendGiven (r .2 l .0 y), λ y. ap mendGiven (r .2 l .1 y)))
+
+  -- a list with four numbers for each byte of the table is long enough
+  pub mended-when : (l : List ℕ) → 4 * size s ≤ length l → (n : ℕ) × MendedBy s u l n
+  mended-when l room = let r = mend-number in (r .0, r .2 l .0 (omega (arith, r .1)))
+
+  -- and 5 is never answered
+  pub never-five : (l : List ℕ) → mendGiven (mendAnswer s u l) .number ≡ 5 → ⊥
+  never-five l five =
+      let r = mend-number in
+      ⊎-elim
+      (λ (y : ltb (length l) (4 * r .0) ≡ true). let z = ap (λ g. g .number) (r .2 l .1 (ltb-true _ _ y)) in omega (arith, z))
+      (λ (y : ltb (length l) (4 * r .0) ≡ false). let z = ap (λ g. g .number) (r .2 l .0 (ltb-false _ _ y)) in omega (arith, z))
+      (cases (ltb (length l) (4 * r .0)))
 
 -- mended without a list, the words are those of the list that `mend` writes where it is lent one with room for every change
 pub only-said : (s : Site) (u : List ℕ) (n : ℕ) → MendedBy s u (roomFor s) n → (l : List ℕ) → 4 * size s ≤ length l

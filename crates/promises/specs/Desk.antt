@@ -184,6 +184,9 @@ deskTable =
     -- W6, P1 as words: cells 1 and 3 at positions 0 to 3, cell 1 alone at 4, cell 2 at 5
     ∷ planWordsCall P1 ⇒ leaves done (5 ∷ 5 ∷ 5 ∷ 5 ∷ 1 ∷ 2 ∷ 9 ∷ [])
     ∷ checkWordsCall P1 (5 ∷ 5 ∷ 5 ∷ 5 ∷ 1 ∷ 2 ∷ []) ⇒ gives done
+    -- P8 and P9 as words: the checker's refusals, 7 with cell 3 and count 5, 6 with position 5, cells 2 and 3; bits above the third cell change nothing
+    ∷ checkWordsCall P1 (5 ∷ 5 ∷ 5 ∷ 5 ∷ 5 ∷ 2 ∷ []) ⇒ gives (refused 7 (3 ∷ 5 ∷ []))
+    ∷ checkWordsCall P1 (1 ∷ 9 ∷ 5 ∷ 5 ∷ 5 ∷ 14 ∷ []) ⇒ gives (refused 6 (5 ∷ 2 ∷ 3 ∷ []))
     -- of P1's plan 1 alone sets a bit; and the other way every other byte is 0, with bits above the third cell silent
     ∷ toWordsCall P1 (1 ∷ 1 ∷ 1 ∷ 1 ∷ 1 ∷ 0 ∷ 2 ∷ 2 ∷ 2 ∷ 2 ∷ 2 ∷ 1 ∷ 1 ∷ 1 ∷ 1 ∷ 1 ∷ 0 ∷ 2 ∷ []) ⇒ leaves done (5 ∷ 5 ∷ 5 ∷ 5 ∷ 1 ∷ 2 ∷ 9 ∷ [])
     ∷ toBytesCall P1 (5 ∷ 5 ∷ 13 ∷ 5 ∷ 1 ∷ 2 ∷ []) ⇒ leaves done (1 ∷ 1 ∷ 1 ∷ 1 ∷ 1 ∷ 0 ∷ 0 ∷ 0 ∷ 0 ∷ 0 ∷ 0 ∷ 1 ∷ 1 ∷ 1 ∷ 1 ∷ 1 ∷ 0 ∷ 0 ∷ 9 ∷ [])
