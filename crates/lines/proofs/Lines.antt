@@ -12,7 +12,7 @@ use borrow.Author.Tests.{le-leb, leb-true}
 use Rattle.laws.specs.Sum.{bit}
 use Rattle.laws.proofs.Choice.{both}
 use Rattle.text.specs.Decimal.{decimal}
-use Rattle.lines.specs.Format.{crlf, bitsOf, marks, label, cellLine}
+use Rattle.lines.specs.Format.{commaByte, crlf, bitsOf, marks, label, cellLine}
 use Rattle.lines.specs.Content.{scanned, loadIn, marksIn, markAt, weigh, rowIn, lineIn, lineOk}
 use Rattle.lines.proofs.Match.{starts-is, starts-there}
 use Rattle.lines.proofs.Numbers.{scanned-decimal, scanned-end}
@@ -103,7 +103,7 @@ module _ (n k load : ℕ) (f : ℕ → ℕ) (r : List ℕ) (few : load < 100000)
   comma : (m : ℕ) → 0 < m → scanned load (marks f 0 m ++ (crlf ++ r)) ≡ load
   unfolding marks
   comma zero h = absurd (omega arith)
-  comma (suc m) h = scanned-end load 44 _ (omega arith)
+  comma (suc m) h = scanned-end load commaByte _ (omega arith)
 
   pub load-written : 0 < n → loadIn k (cellLine n k load f ++ r) ≡ load
   unfolding loadIn
