@@ -1,7 +1,6 @@
 -- Lines byte for byte, and which lines are of the format, computed: the format from a second side, letter by letter. Assumes nothing.
-use Prim.Native.Nat.{ℕ}
-use mathlib.Core.Bool.{Bool, true, false}
-use mathlib.Core.List.{List, [], _∷_, _++_, map}
+use mathlib.Core.Bool.{true, false}
+use mathlib.Core.List.{[], _∷_, map}
 use mathlib.Core.Path.{_≡_, refl}
 use Rattle.text.specs.Decimal.{digitsOf, decimal}
 use Rattle.lines.specs.Match.{starts}
