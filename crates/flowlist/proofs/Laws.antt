@@ -3,16 +3,17 @@
 use Prim.Native.Nat.{ℕ, zero, suc, _≤_, _<_}
 use mathlib.Core.List.{List}
 use mathlib.Core.Logic.{⊎-elim}
-use mathlib.Core.Path.{_≡_, refl, sym, _∙_}
+use mathlib.Core.Path.{_≡_, refl, sym, ap, _∙_}
 use native.Mathlib.Omega.{arith}
 use native.Mathlib.Nat.{eq-or-lt-of-le, le-of-suc-le-suc}
 use borrow.Author.Tests.{ltb-true, ltb-false}
 use lib.Dec.{ltb}
 use lib.ListN.{getD, length, length-set, length-replicate, getD-replicate, replicate, List·getD-eq-default}
-use lib.Seq.{getD-set-same, getD-set-other}
+use lib.Seq.{ext-getD, getD-set-same, getD-set-other}
 use Rattle.laws.proofs.Choice.{cases}
 use Rattle.flowlist.specs.List.{none, flowAt, noFlows, gathered, few}
 use Rattle.flowlist.specs.declared.Flow.{Flow}
+use Rattle.flowlist.specs.declared.FlowList.{FlowList}
 
 pub gathered-count : (fs : List Flow) (n : ℕ) → gathered fs n .count ≡ n
 unfolding gathered noFlows
@@ -58,3 +59,13 @@ gathered-all fs h k =
     rw (few-is (length fs) h)
     (⊎-elim (λ l. gathered-at fs (length fs) k h (ltb-true k (length fs) l))
     (λ l. gathered-past fs (length fs) k h (ltb-false k (length fs) l) ∙ sym (past-end fs k (ltb-false k (length fs) l))) (cases (ltb k (length fs))))
+
+-- and the array tells the lists apart
+pub gathered-apart : (fs gs : List Flow) → length fs ≤ 16 → gathered fs (length fs) ≡ gathered gs (length gs) → fs ≡ gs
+gathered-apart fs gs few e =
+    let long : length fs ≡ length gs = sym (gathered-count fs (length fs)) ∙ ap (λ (l : FlowList). l .count) e ∙ gathered-count gs (length gs) in
+    ext-getD none fs gs long
+    (λ k h.
+    sym (gathered-at fs (length fs) k few h)
+    ∙ ap (λ (l : FlowList). getD (l .list) k none) e
+    ∙ gathered-at gs (length gs) k (omega arith) (omega arith))

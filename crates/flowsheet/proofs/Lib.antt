@@ -2,4 +2,6 @@
 pub mod Fields
 pub mod Reading
 pub mod Trip
+pub mod Answers
+pub mod Given
 pub mod Example

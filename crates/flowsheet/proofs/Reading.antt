@@ -15,7 +15,7 @@ use Rattle.lines.proofs.Steps.{eaten-there, eaten-not}
 use Rattle.flowlist.specs.List.{noFlows, withFlow}
 use Rattle.flowlist.specs.declared.FlowList.{FlowList}
 use Rattle.flowsheet.specs.Format.{flowHead, flowLine}
-use Rattle.flowsheet.specs.Read.{flowIn, flowFits, flowOk, noFlow, flowRead, done, badAt, tooMany, atEnd, flowsFrom, readFlows}
+use Rattle.flowsheet.specs.Read.{flowIn, flowFits, flowOk, noFlow, flowRead, done, badAt, tooMany, lineNumber, atEnd, flowsFrom, readFlows}
 use Rattle.flowsheet.specs.declared.FlowRead.{FlowRead}
 
 -- no flow is read yet
@@ -56,7 +56,7 @@ module _ (s : List ℕ) (p : ℕ) where
         let z : p + length (flowLine (flowIn (drop p s))) ≡ nowhere = sym (ap (λ (x : FlowRead). x .next) (told true t)) ∙ h in
         omega (arith, b, z, length-drop p s))
 
-    pub stopped : n .next ≡ nowhere → badAt (l .count + 2) ≡ flowsFrom (suc m) l (drop p s)
+    pub stopped : n .next ≡ nowhere → badAt (lineNumber (l .count)) ≡ flowsFrom (suc m) l (drop p s)
     unfolding flowsFrom
     stopped h = rw (some-left some, bad h)
 

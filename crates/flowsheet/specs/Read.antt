@@ -68,6 +68,10 @@ badAt line = record { flows = noFlows; answer = BadLine line }
 abbrev pub tooMany : FlowsRead
 tooMany = record { flows = noFlows; answer = TooMany }
 
+-- the number of the line of the flow at place k: the first line is line 1
+abbrev pub lineNumber : ℕ → ℕ
+lineNumber k = k + 2
+
 -- whether nothing is left
 abbrev pub atEnd : List ℕ → Bool
 atEnd r = eqb (length r) 0
@@ -77,7 +81,7 @@ unfoldable pub flowsFrom : ℕ → FlowList → List ℕ → FlowsRead
 flowsFrom zero l r = pick (atEnd r) (done l) tooMany
 flowsFrom (suc m) l r =
     pick (atEnd r) (done l)
-    (pick (flowOk r) (flowsFrom m (withFlow l (flowIn r)) (drop (length (flowLine (flowIn r))) r)) (badAt (l .count + 2)))
+    (pick (flowOk r) (flowsFrom m (withFlow l (flowIn r)) (drop (length (flowLine (flowIn r))) r)) (badAt (lineNumber (l .count))))
 
 unfoldable pub readFlows : List ℕ → FlowsRead
 readFlows b = pick (starts flowHead b) (flowsFrom 16 noFlows (drop (length flowHead) b)) (badAt 1)

@@ -14,7 +14,7 @@ use Rattle.laws.specs.Choice.{pick}
 use Rattle.laws.proofs.Choice.{both, refute}
 use Rattle.text.specs.Decimal.{decimal}
 use Rattle.lines.specs.Match.{starts, nowhere, eaten}
-use Rattle.lines.specs.Format.{crlf, column, columns, cellLoad, header}
+use Rattle.lines.specs.Format.{commaByte, crByte, lfByte, crlf, column, columns, cellLoad, header}
 use Rattle.lines.specs.declared.Head.{Head}
 use Rattle.lines.specs.Content.{columnsIn, columnsRead, cellsIn, headOk, noHead, headRead}
 use Rattle.lines.proofs.Match.{starts-is, starts-there, starts-long, eaten-append}
@@ -38,9 +38,9 @@ unfolding column
 column-some x = omega arith
 
 module _ (s : List ℕ) (short : length s < nowhere) where
-  pub column-eaten : (p x c q : ℕ) → c ≡ eaten s p (44 ∷ []) → q ≡ eaten s c (decimal x) → q ≡ eaten s p (column x)
+  pub column-eaten : (p x c q : ℕ) → c ≡ eaten s p (commaByte ∷ []) → q ≡ eaten s c (decimal x) → q ≡ eaten s p (column x)
   unfolding column
-  column-eaten p x c q a b = b ∙ ap (λ (i : ℕ). eaten s i (decimal x)) a ∙ eaten-append s p (44 ∷ []) (decimal x) (omega arith)
+  column-eaten p x c q a b = b ∙ ap (λ (i : ℕ). eaten s i (decimal x)) a ∙ eaten-append s p (commaByte ∷ []) (decimal x) (omega arith)
 
   -- no more columns stand there
   pub columns-stop : (p k q : ℕ) → k < 32 → q ≡ eaten s p (column (k + 1)) → q ≡ nowhere → columnsIn (32 - k) k (drop p s) ≡ k
@@ -120,11 +120,11 @@ module _ (s : List ℕ) (short : length s < nowhere) where
       pub no-cells : h .cells < 1 → noHead ≡ headRead s
       no-cells l = head-none (omega (arith, cells-are))
 
-      module _ (cr end : ℕ) (p : cr ≡ eaten s (h .next) (13 ∷ [])) (q : end ≡ eaten s cr (10 ∷ [])) where
+      module _ (cr end : ℕ) (p : cr ≡ eaten s (h .next) (crByte ∷ [])) (q : end ≡ eaten s cr (lfByte ∷ [])) where
         end-is : end ≡ eaten s 0 (header (cellsIn s))
         unfolding header
         end-is =
-            q ∙ ap (λ (i : ℕ). eaten s i (10 ∷ [])) p ∙ eaten-append s (h .next) (13 ∷ []) (10 ∷ []) (omega arith)
+            q ∙ ap (λ (i : ℕ). eaten s i (lfByte ∷ [])) p ∙ eaten-append s (h .next) (crByte ∷ []) (lfByte ∷ []) (omega arith)
             ∙ ap (λ (i : ℕ). eaten s i crlf) place-is ∙ eaten-append s a _ crlf (omega arith)
             ∙ ap (λ (i : ℕ). eaten s i (columns 0 (cellsIn s) ++ crlf)) begun ∙ eaten-append s 0 cellLoad _ (omega arith)
 

@@ -12,7 +12,7 @@ use borrow.Author.Tests.{le-leb, leb-true}
 use Rattle.laws.specs.Sum.{bit}
 use Rattle.laws.proofs.Choice.{both}
 use Rattle.text.specs.Decimal.{decimal}
-use Rattle.lines.specs.Format.{crlf, marks, label, cellLine}
+use Rattle.lines.specs.Format.{commaByte, crlf, bitsOf, marks, label, cellLine}
 use Rattle.lines.specs.Content.{scanned, loadIn, marksIn, markAt, weigh, rowIn, lineIn, lineOk}
 use Rattle.lines.proofs.Match.{starts-is, starts-there}
 use Rattle.lines.proofs.Numbers.{scanned-decimal, scanned-end}
@@ -103,7 +103,7 @@ module _ (n k load : ℕ) (f : ℕ → ℕ) (r : List ℕ) (few : load < 100000)
   comma : (m : ℕ) → 0 < m → scanned load (marks f 0 m ++ (crlf ++ r)) ≡ load
   unfolding marks
   comma zero h = absurd (omega arith)
-  comma (suc m) h = scanned-end load 44 _ (omega arith)
+  comma (suc m) h = scanned-end load commaByte _ (omega arith)
 
   pub load-written : 0 < n → loadIn k (cellLine n k load f ++ r) ≡ load
   unfolding loadIn
@@ -137,3 +137,10 @@ module _ (n k load : ℕ) (f : ℕ → ℕ) (r : List ℕ) (few : load < 100000)
 pub line-there : (n k : ℕ) (r : List ℕ) → lineOk n k r ≡ true → (loadIn k r ≤ 65535) × (r ≡ lineIn n k r ++ drop (length (lineIn n k r)) r)
 unfolding lineOk
 line-there n k r h = let b = both _ _ h in (leb-true _ _ (b .0), starts-is _ _ (b .1))
+
+-- and it is written from its load and its row
+pub line-content : (n k : ℕ) (r : List ℕ) → cellLine n k (loadIn k r) (bitsOf (rowIn n k r)) ≡ lineIn n k r
+unfolding lineIn cellLine rowIn bitsOf
+line-content n k r =
+    let f = markAt (marksIn k r) in
+    rw (marks-same (λ b. weigh f 0 n / 2 ^ b % 2) f n 0 (λ i l. rw (zero-add i) (weigh-bit f (mark-two (marksIn k r)) n i 0 l ∙ ap f (zero-add i))))

@@ -16,7 +16,7 @@ use Rattle.laws.proofs.Choice.{both, refute}
 use Rattle.text.specs.Decimal.{decimal}
 use Rattle.text.proofs.Left.{next-left, none-left}
 use Rattle.lines.specs.Match.{starts, nowhere, eaten}
-use Rattle.lines.specs.Format.{crlf, marks, label, cellLine}
+use Rattle.lines.specs.Format.{commaByte, crByte, lfByte, crlf, marks, label, cellLine}
 use Rattle.lines.specs.declared.Marks.{Marks}
 use Rattle.lines.specs.declared.Number.{Number}
 use Rattle.lines.specs.declared.Line.{Line}
@@ -175,9 +175,9 @@ module _ (s : List ℕ) (at n k : ℕ) (short : length s < nowhere) where
 
 -- the reader's way through a line: where the label ends, where the load ends, and the end
 module _ (s : List ℕ) (at n k : ℕ) (short : length s < nowhere) where
-  pub label-eaten : (d a : ℕ) → d ≡ eaten s at (decimal (k + 1)) → a ≡ eaten s d (44 ∷ []) → a ≡ eaten s at (label k)
+  pub label-eaten : (d a : ℕ) → d ≡ eaten s at (decimal (k + 1)) → a ≡ eaten s d (commaByte ∷ []) → a ≡ eaten s at (label k)
   unfolding label
-  label-eaten d a p q = q ∙ ap (λ (i : ℕ). eaten s i (44 ∷ [])) p ∙ eaten-append s at (decimal (k + 1)) (44 ∷ []) (omega arith)
+  label-eaten d a p q = q ∙ ap (λ (i : ℕ). eaten s i (commaByte ∷ [])) p ∙ eaten-append s at (decimal (k + 1)) (commaByte ∷ []) (omega arith)
 
   module _ (a : ℕ) (label-at : a ≡ eaten s at (label k)) where
     pub no-label : a ≡ nowhere → noLine ≡ lineRead s at n k
@@ -231,13 +231,13 @@ module _ (s : List ℕ) (at n k : ℕ) (short : length s < nowhere) where
               let t = eaten-there s at (label k ++ decimal (loadIn k (drop at s))) (λ e. still (w ∙ e)) .1 in
               ap (λ (i : ℕ). drop i s) (w ∙ t ∙ ap (λ (i : ℕ). at + i) (length-append (label k) _)) ∙ sym (drop-drop _ at s)
 
-          module _ (m : Marks) (looked : m ≡ marksRead s (v .next) n) (cr end : ℕ) (p : cr ≡ eaten s (m .next) (13 ∷ [])) (q : end ≡ eaten s cr (10 ∷ [])) where
+          module _ (m : Marks) (looked : m ≡ marksRead s (v .next) n) (cr end : ℕ) (p : cr ≡ eaten s (m .next) (crByte ∷ [])) (q : end ≡ eaten s cr (lfByte ∷ [])) where
             marks-end : m .next ≡ eaten s (v .next) (marks (markAt (marksIn k (drop at s))) 0 n)
             marks-end = ap (λ (x : Marks). x .next) looked ∙ marks-next s (v .next) n ∙ ap (λ (r : List ℕ). eaten s (v .next) (marks (markAt r) 0 n)) marks-from
 
             pub end-is : end ≡ eaten s at (lineIn n k (drop at s))
             end-is =
-                q ∙ ap (λ (i : ℕ). eaten s i (10 ∷ [])) p ∙ eaten-append s (m .next) (13 ∷ []) (10 ∷ []) (omega arith)
+                q ∙ ap (λ (i : ℕ). eaten s i (lfByte ∷ [])) p ∙ eaten-append s (m .next) (crByte ∷ []) (lfByte ∷ []) (omega arith)
                 ∙ ap (λ (i : ℕ). eaten s i crlf) marks-end ∙ eaten-append s (v .next) _ crlf (omega arith)
                 ∙ ap (λ (i : ℕ). eaten s i (marks (markAt (marksIn k (drop at s))) 0 n ++ crlf)) (load-way _ refl .1)
                 ∙ eaten-append s at _ _ (omega arith) ∙ ap (eaten s at) (sym line-is)
@@ -248,7 +248,7 @@ module _ (s : List ℕ) (at n k : ℕ) (short : length s < nowhere) where
             module _ (there : end ≡ nowhere → ⊥) where
               marks-there : m .next ≡ nowhere → ⊥
               marks-there e =
-                  there (q ∙ ap (λ (i : ℕ). eaten s i (10 ∷ [])) (p ∙ ap (λ (i : ℕ). eaten s i (13 ∷ [])) e ∙ lost s (13 ∷ []) (omega arith)) ∙ lost s (10 ∷ []) (omega arith))
+                  there (q ∙ ap (λ (i : ℕ). eaten s i (lfByte ∷ [])) (p ∙ ap (λ (i : ℕ). eaten s i (crByte ∷ [])) e ∙ lost s (crByte ∷ []) (omega arith)) ∙ lost s (lfByte ∷ []) (omega arith))
 
               row-way : (t : Bool) → starts (marks (markAt (drop (v .next) s)) 0 n) (drop (v .next) s) ≡ t → m .row ≡ weigh (markAt (drop (v .next) s)) 0 n
               row-way true e = ap (λ (x : Marks). x .row) (looked ∙ sym (marks-good s (v .next) n e))

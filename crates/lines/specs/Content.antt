@@ -9,7 +9,7 @@ use Rattle.laws.specs.Choice.{pick}
 use Rattle.laws.specs.Sum.{bit}
 use Rattle.text.specs.Decimal.{decimal}
 use Rattle.lines.specs.Match.{starts, eaten, nowhere}
-use Rattle.lines.specs.Format.{column, columns, marks, label, header, cellLine}
+use Rattle.lines.specs.Format.{commaByte, column, columns, marks, label, header, cellLine}
 use Rattle.lines.specs.declared.Number.{Number}
 use Rattle.lines.specs.declared.Marks.{Marks}
 use Rattle.lines.specs.declared.Line.{Line}
@@ -48,7 +48,7 @@ weigh f b (suc n) = f b + 2 * weigh f (suc b) n
 
 -- a comma and a mark, and all after them is well
 unfoldable pub markOk : ℕ → ℕ → Bool → Bool
-markOk comma x ok = eqb comma 44 && (eqb x (48 + bit (eqb x 49)) && ok)
+markOk comma x ok = eqb comma commaByte && (eqb x (48 + bit (eqb x 49)) && ok)
 
 -- n marks read at `at`
 unfoldable pub marksRead : List ℕ → ℕ → ℕ → Marks

@@ -1,15 +1,25 @@
--- The lines of a range sheet as bytes. 44 is a comma, 48 the digit 0, 13 and 10 are CR and LF.
+-- The lines of a range sheet as bytes. 48 is the digit 0.
 use Prim.Native.Nat.{ℕ, zero, suc, _+_, _/_, _%_, _^_}
 use mathlib.Core.List.{List, [], _∷_, _++_}
 use Rattle.text.specs.Decimal.{decimal}
 
+-- "a comma-separated sheet"
+abbrev pub commaByte : ℕ
+commaByte = 44
+
+abbrev pub crByte : ℕ
+crByte = 13
+
+abbrev pub lfByte : ℕ
+lfByte = 10
+
 -- "Every line ends in CR LF"
 abbrev pub crlf : List ℕ
-crlf = 13 ∷ 10 ∷ []
+crlf = crByte ∷ lfByte ∷ []
 
 -- a number after a comma
 unfoldable pub column : ℕ → List ℕ
-column x = 44 ∷ decimal x
+column x = commaByte ∷ decimal x
 
 -- the n columns from index k on, each headed by its cell's number, from 1
 unfoldable pub columns : ℕ → ℕ → List ℕ
@@ -30,11 +40,11 @@ bitsOf row b = row / 2 ^ b % 2
 -- n marks from index b on, each after a comma; f says which digit each is
 unfoldable pub marks : (ℕ → ℕ) → ℕ → ℕ → List ℕ
 marks f b zero = []
-marks f b (suc n) = 44 ∷ (48 + f b) ∷ marks f (suc b) n
+marks f b (suc n) = commaByte ∷ (48 + f b) ∷ marks f (suc b) n
 
 -- the cell's number and its comma
 unfoldable pub label : ℕ → List ℕ
-label k = decimal (k + 1) ++ (44 ∷ [])
+label k = decimal (k + 1) ++ (commaByte ∷ [])
 
 -- "one line per cell with its number, its load and I marks"; the cell at index k
 unfoldable pub cellLine : ℕ → ℕ → ℕ → (ℕ → ℕ) → List ℕ

@@ -11,6 +11,12 @@ ghost use lib.Dec.{eqb};
 
 const NOWHERE: usize = 18446744073709551615;
 
+const COMMA: u8 = 44;
+
+const CR: u8 = 13;
+
+const LF: u8 = 10;
+
 // What a line of a cell says, and the place after it; NOWHERE where it is not of the format.
 pub struct Line {
     pub load: u16,
@@ -128,7 +134,7 @@ fn one(x: u8) -> u32
 fn mark_ok(comma: u8, x: u8, ok: bool) -> bool
     ensures { λ r. ⌜ r ≡ markOk comma x ok ⌝ }
 {
-    if comma != 44 {
+    if comma != COMMA {
         return false;
     }
     if x == 49 {
@@ -195,7 +201,7 @@ pub fn read_line(s: &[u8], at: usize, n: usize, k: usize) -> Line
     ensures { λ r. ⌜ r ≡ lineRead (now (s .entry)) at n k ⌝ }
 {
     let digits = eat_number(s, at, k + 1);
-    let a = eat(s, digits, 44);
+    let a = eat(s, digits, COMMA);
     if a == NOWHERE {
         return no_line();
     }
@@ -205,8 +211,8 @@ pub fn read_line(s: &[u8], at: usize, n: usize, k: usize) -> Line
         return no_line();
     }
     let m = read_marks(s, b, n);
-    let cr = eat(s, m.next, 13);
-    let end = eat(s, cr, 10);
+    let cr = eat(s, m.next, CR);
+    let end = eat(s, cr, LF);
     if end == NOWHERE {
         return no_line();
     }
@@ -230,7 +236,7 @@ fn read_columns(s: &[u8], at: usize) -> Head
     let mut p = at;
     let mut k: usize = 0;
     while k < 32 {
-        let comma = eat(s, p, 44);
+        let comma = eat(s, p, COMMA);
         let q = eat_number(s, comma, k + 1);
         if q == NOWHERE {
             return Head { cells: k, next: p };
@@ -263,8 +269,8 @@ pub fn read_head(s: &[u8]) -> Head
     if h.cells < 1 {
         return no_head();
     }
-    let cr = eat(s, h.next, 13);
-    let end = eat(s, cr, 10);
+    let cr = eat(s, h.next, CR);
+    let end = eat(s, cr, LF);
     if end == NOWHERE {
         return no_head();
     }

@@ -8,6 +8,7 @@ pub mod Demand3
 pub mod Least
 pub mod Files
 pub mod Sheets
+pub mod FlowSheets
 pub mod Admission
 pub mod Words
 pub mod Mending

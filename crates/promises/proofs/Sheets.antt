@@ -1,36 +1,39 @@
 -- Document 02, W1, the range sheets: over what the calls answer and leave, with any input and any output, in the documents' numbers. The laws are those of crate `sheet`.
 -- Assumes nothing.
 use mathlib.Core.Path.{_≡_, refl, sym, ap, _∙_}
-use mathlib.Core.Bool.{Bool, true, false}
+use mathlib.Core.Bool.{Bool, true, false, true≢false}
 use mathlib.Core.List.{List, [], _∷_, _++_}
 use mathlib.Core.Logic.{_↔_}
-use Prim.Native.Nat.{ℕ, _≤_, _<_}
+use Prim.Native.Nat.{ℕ, _+_, _≤_, _<_}
 use native.Mathlib.Omega.{arith}
 use lib.Dec.{leb}
-use lib.ListN.{length, take, drop}
+use lib.ListN.{length, take, drop, getD}
 use lib.Seq.{take-at}
 use borrow.Author.Tests.{le-leb, lt-leb}
 use Rattle.laws.specs.Choice.{pick}
+use Rattle.laws.specs.Sum.{bit}
 use Rattle.records.specs.Write.{laidOver}
 use Rattle.site.specs.Record.{loadAt, zeroSite, faultOf, isFine}
+use Rattle.site.specs.Reach.{reaches}
+use Rattle.site.specs.Means.{UpTo}
 use Rattle.site.specs.Given.{Given, faultGiven}
 use Rattle.site.specs.declared.Site.{Site}
 use Rattle.site.specs.declared.Fault.{Fault}
 use Rattle.site.specs.declared.Fault.the-variants.{Fine, Size, Load, Reach}
+use Rattle.site.proofs.Given.{fault-apart}
 use Rattle.sitefile.specs.Held.{Held}
-use Rattle.lines.specs.Content.{cellsIn}
-use Rattle.lines.proofs.Heads.{cells-few}
 use Rattle.sheet.specs.Sheet.{sheetBytes}
-use Rattle.sheet.specs.Read.{body, siteIn, judged, readSheet}
+use Rattle.sheet.specs.Read.{judged, readSheet}
 use Rattle.sheet.specs.Write.{written, sheetWritten, sheetOut}
-use Rattle.sheet.specs.Means.{FirstBad, SheetOf, sheetFault}
+use Rattle.sheet.specs.Means.{FirstBad, SheetOf, sheetFault, MarksItself, markPlace}
 use Rattle.sheet.specs.Given.{sheetGiven, sheetWrittenGiven}
 use Rattle.sheet.specs.declared.SheetRead.{SheetRead}
 use Rattle.sheet.specs.declared.SheetAnswer.the-variants as read
 use Rattle.sheet.specs.declared.SheetWritten.the-variants as sheet
 use Rattle.sheet.proofs.Given.{sheet-apart, sheet-proper}
-use Rattle.sheet.proofs.Trip.{written-then-read}
-use Rattle.sheet.proofs.Answers.{bad-first, first-told, no-bad-line, some-cells, refused-zeros, fault-is, accepted-is, sheet-accepted}
+use Rattle.sheet.proofs.Trip.{fine-fits, written-then-read}
+use Rattle.sheet.proofs.Answers.{bad-first, first-told, no-bad-line, sheet-read, refused-zeros, accepted-is, sheet-accepted}
+use Rattle.sheet.proofs.Answers.{fault-is, fault-one, fault-three, marks-reach}
 use Rattle.promises.specs.Numbers.{done, doneWith, refused}
 use Rattle.promises.specs.Demands.{Accepted}
 use Rattle.promises.specs.Leaves.{WriterLeaves}
@@ -98,7 +101,8 @@ sheet-written-read s held few out n e =
     let count : length (sheetBytes s) ≡ n = cc in
     let file : take n (sheetOut s out) ≡ sheetBytes s = rw (w .1) (take-at (sheetBytes s) (drop (length (sheetBytes s)) out) n count) in
     let is : readSheet (take n (sheetOut s out)) (s .slots) (s .channels) ≡ record { site = s; answer = read.Done } =
-    ap (λ (b : List ℕ). readSheet b (s .slots) (s .channels)) file ∙ written-then-read s held few (written-fine s out zero) in
+    ap (λ (b : List ℕ). readSheet b (s .slots) (s .channels)) file
+    ∙ written-then-read s (fine-fits s held few (written-fine s out zero)) (written-fine s out zero) in
     (ap (λ (r : SheetRead). sheetGiven (r .answer)) is, ap (λ (r : SheetRead). r .site) is)
 
 module _ (b : List ℕ) (slots channels : ℕ) where
@@ -113,16 +117,19 @@ module _ (b : List ℕ) (slots channels : ℕ) where
   sheet-read-written ok out fits =
       let w = accepted-is b slots channels (was-done ok) in
       let room = le-leb (length b) (length out) fits in
-      (rw (w .fine, w .bytes, room), rw (w .fine, w .bytes, room))
+      (rw (w .1, w .0 .bytes, room), rw (w .1, w .0 .bytes, room))
 
-  -- ---- what the reader answers
+  -- ---- what the reader answers, over the format
 
   -- exactly the sheets of the format are accepted, each as the site whose sheet it is
-  pub sheet-exactly : (s : Site) → ((sheetGiven (readSheet b slots channels .answer) ≡ done) × (readSheet b slots channels .site ≡ s)) ↔ SheetOf b slots channels s
+  pub sheet-exactly : (s : Site)
+      → ((sheetGiven (readSheet b slots channels .answer) ≡ done) × (readSheet b slots channels .site ≡ s)) ↔ (SheetOf b slots channels s × Accepted s)
   sheet-exactly s = (
-    λ w. rw (← w .1) (accepted-is b slots channels (was-done (w .0))),
     λ w.
-        let is = sheet-accepted b slots channels s w in
+        let a = accepted-is b slots channels (was-done (w .0)) in
+        rw (← w .1) (a .0, accepted-number _ .1 (a .1)),
+    λ w.
+        let is = sheet-accepted b slots channels s (w .0) (accepted-number s .0 (w .1)) in
         (ap (λ (r : SheetRead). sheetGiven (r .answer)) is, ap (λ (r : SheetRead). r .site) is),
   )
 
@@ -133,6 +140,10 @@ module _ (b : List ℕ) (slots channels : ℕ) where
     λ f. ap sheetGiven (first-told b slots channels l f),
   )
 
+  -- bytes with no bad line are the sheet of a record
+  pub sheet-or-bad : ((l : ℕ) → FirstBad b l → ⊥) → (s : Site) × SheetOf b slots channels s
+  sheet-or-bad none = no-bad-line b slots channels none
+
   judged-number : (s : Site) (f : Fault) → faultOf s ≡ f → sheetGiven (judged s .answer) ≡ faultGiven f
   unfolding judged
   judged-number s Fine q = rw q
@@ -140,14 +151,40 @@ module _ (b : List ℕ) (slots channels : ℕ) where
   judged-number s (Load k) q = rw q
   judged-number s (Reach k) q = rw q
 
-  -- "after it 1, then 3 for a mark on oneself"
-  pub after-seventeen : ((l : ℕ) → FirstBad b l → ⊥)
-      → sheetGiven (readSheet b slots channels .answer) ≡ faultGiven (sheetFault (cellsIn b) (body b) slots channels)
-  after-seventeen none =
-      ap (λ (r : SheetRead). sheetGiven (r .answer)) (no-bad-line b slots channels none)
-      ∙ judged-number (siteIn (cellsIn b) (body b) slots channels) (sheetFault (cellsIn b) (body b) slots channels)
-      (fault-is (cellsIn b) (body b) slots channels (some-cells b slots channels none) (cells-few b))
+  module _ (s : Site) (w : SheetOf b slots channels s) where
+    -- and reading the sheet of a record, fine or not, is judging the record
+    pub sheet-judges : sheetGiven (readSheet b slots channels .answer) ≡ faultGiven (faultOf s)
+    sheet-judges = ap (λ (r : SheetRead). sheetGiven (r .answer)) (sheet-read b slots channels s w) ∙ judged-number s (faultOf s) refl
+
+    fault-told : (f : Fault) → sheetGiven (readSheet b slots channels .answer) ≡ faultGiven f ↔ faultOf s ≡ f
+    fault-told f = (λ e. fault-apart (faultOf s) f (sym sheet-judges ∙ e), λ q. sheet-judges ∙ ap faultGiven q)
+
+    -- "after it 1, then 3 for a mark on oneself": in one line
+    pub after-seventeen : sheetGiven (readSheet b slots channels .answer) ≡ faultGiven (sheetFault s)
+    after-seventeen = sheet-judges ∙ ap faultGiven (fault-is s (w .fits))
+
+    -- 1 exactly where the slots or the channels given are out of range
+    pub sheet-one : sheetGiven (readSheet b slots channels .answer) ≡ refused 1 [] ↔ ((UpTo 128 slots × UpTo 16 channels) → ⊥)
+    sheet-one =
+        let f = fault-told Size in
+        let m = fault-one s (w .fits) in
+        (λ e u. m .0 (f .0 e) (rw (w .slots-are, w .channels-are) u), λ n. f .1 (m .1 (λ u. n (rw (← w .slots-are, ← w .channels-are) u))))
+
+    -- and else 3 exactly where a cell marks itself, with the lowest one
+    pub sheet-three : (k : ℕ) → sheetGiven (readSheet b slots channels .answer) ≡ refused 3 ((k + 1) ∷ []) ↔ MarksItself s k
+    sheet-three k =
+        let f = fault-told (Reach (k + 1)) in
+        let m = fault-three s (w .fits) k in
+        (λ e. m .0 (f .0 e), λ n. f .1 (m .1 n))
 
   -- "each gives a site of zeros"
   pub sheet-refused-zeros : (sheetGiven (readSheet b slots channels .answer) ≡ done → ⊥) → readSheet b slots channels .site ≡ zeroSite
   sheet-refused-zeros n = refused-zeros b slots channels (λ e. n (ap sheetGiven e))
+
+-- "`1` for \"reaches\" and `0` for not": the byte of the written sheet at the mark of b in the line of a is the digit 1 exactly where a reaches b
+pub mark-means : (s : Site) (a b : ℕ) → a < s .cells → b < s .cells → getD (sheetBytes s) (markPlace s a b) 0 ≡ 49 ↔ reaches (s .reach) a b ≡ true
+mark-means s a b p q = go (reaches (s .reach) a b) (marks-reach s a b p q)
+  where
+    go : (t : Bool) → getD (sheetBytes s) (markPlace s a b) 0 ≡ 48 + bit t → getD (sheetBytes s) (markPlace s a b) 0 ≡ 49 ↔ t ≡ true
+    go true e = (λ _. refl, λ _. e)
+    go false e = (λ h. absurd (omega arith), λ h. absurd (true≢false (sym h)))

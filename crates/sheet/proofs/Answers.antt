@@ -1,44 +1,43 @@
--- What the reader's answers mean: 17 is given with the first bad line and only then, the accepted sheets are exactly those of the sites in order, and the refusals after
--- 17 are those of document 02. Assumes nothing.
-use Prim.Native.Nat.{ℕ, zero, suc, _+_, _-_, _^_, _≤_, _<_, _/_, _%_}
+-- What the reader's answers mean, over the format. Any bytes have a first bad line, which is told, or are the sheet of a record, which is judged: `came`.
+-- All else follows from that: 17 with the first bad line and only then, the accepted sheets, the refusals 1 and 3 after 17, and where the marks stand.
+-- Assumes nothing.
+use Prim.Native.Nat.{ℕ, zero, suc, _+_, _-_, _*_, _^_, _≤_, _<_, _/_, _%_}
 use mathlib.Core.Path.{_≡_, refl, sym, ap, _∙_}
 use mathlib.Core.Bool.{Bool, true, false, not, _&&_, true≢false}
-use mathlib.Core.List.{List}
+use mathlib.Core.List.{List, [], _∷_, _++_, append-assoc, append-nil}
+use mathlib.Core.Logic.{_↔_}
 use native.Mathlib.Omega.{arith}
 use native.Mathlib.Decide.{decLt}
-use native.Mathlib.Nat.{zero-add, div-eq-of-lt, zero-lt-suc, pow-le-pow-right, mod-lt}
-use lib.ListN.{getD}
+use native.Mathlib.Nat.{add-zero, zero-add, div-eq-of-lt, mod-lt}
+use lib.ListN.{length, drop, getD}
 use lib.Dec.{ltb, eqb, lit<}
-use borrow.Author.Tests.{ltb-true, ltb-false, lt-ltb, le-ltb, le-leb, not-true, not-false}
-use Rattle.site.specs.Reach.{reaches}
-use Rattle.lines.specs.Format.{bitsOf}
+use lib.Seq.{getD-append-add}
+use borrow.Author.Tests.{ltb-true, ltb-false, lt-ltb, le-ltb, not-true, not-false}
 use Rattle.laws.specs.Sum.{bit}
 use Rattle.laws.specs.Choice.{pick}
 use Rattle.laws.specs.Search.{first}
+use Rattle.laws.proofs.Choice.{refute, both}
 use Rattle.laws.proofs.Search.{first-before, first-passes, first-none, first-is}
 use Rattle.site.specs.Record.{loadAt, rowOf, upTo, sizeOk, rowBad, extraLoad, badRow, faultOf, zeroSite}
+use Rattle.site.specs.Reach.{reaches}
+use Rattle.site.specs.Means.{UpTo}
 use Rattle.site.specs.declared.Site.{Site}
 use Rattle.site.specs.declared.Fault.{Fault}
 use Rattle.site.specs.declared.Fault.the-variants.{Fine, Size, Load, Reach}
-use Rattle.lines.specs.Content.{cellsIn, loadIn, rowIn, marksIn, markAt, lineOk, headOk}
-use Rattle.lines.proofs.Lines.{line-there, weigh-bit, weigh-lt, mark-two}
-use Rattle.lines.proofs.Heads.{head-is, cells-few}
-use Rattle.sitefile.specs.Held.{Held}
-use Rattle.sheet.specs.Read.{from, badCell, body, siteIn, judged, badAt, readSheet, lineGood, badLine}
-use Rattle.sheet.specs.Means.{FirstBad, SheetOf, ownMark, sheetFault}
+use Rattle.site.proofs.Faults.{up-to, up-to-is}
+use Rattle.lines.specs.Format.{crlf, header, marks, label, cellLine, bitsOf}
+use Rattle.lines.specs.Content.{cellsIn, loadIn, rowIn, lineIn, lineOk, headOk}
+use Rattle.text.specs.Decimal.{decimal}
+use Rattle.lines.proofs.Lines.{ok-written, line-there, line-content, marks-at}
+use Rattle.lines.proofs.Heads.{head-written, head-is, cells-few}
+use Rattle.sheet.specs.Sheet.{lineOf, linesFrom, sheetBytes}
+use Rattle.sheet.specs.Read.{from, badCell, body, siteIn, judged, badAt, lineNumber, cellsRead, readSheet}
+use Rattle.sheet.specs.Means.{FitsSheet, FirstBad, no-first-line, no-cell-line, one-too-many, SheetOf, ownMark, sheetFault, MarksItself, markPlace}
 use Rattle.sheet.specs.declared.SheetRead.{SheetRead}
 use Rattle.sheet.specs.declared.SheetAnswer.the-variants.{Done, BadLine}
-use Rattle.sheet.proofs.Fill.{fill, fill-long, fill-past, fill-at, loads-fill, rows-fill}
-use Rattle.sheet.proofs.Way.{past-lines}
-use Rattle.sheet.proofs.Trip.{all-well, site-read, read-fine, read-then-written, written-then-read}
+use Rattle.sheet.proofs.Trip.{bits-two, bad-after, extra-after, sheet-judged, made, lines-made, fits-made}
 
--- ---- 17: the bad line is the first
-
--- the answer says line l, so it is the first bad line
-said-bad : (t : Bool) (a l : ℕ) (j : SheetRead) → pick t (badAt a) j .answer ≡ BadLine l → (j .answer ≡ BadLine l → ⊥) → (t ≡ true) × (l ≡ a)
-unfolding badAt
-said-bad true a l j e n = (refl, cc)
-said-bad false a l j e n = absurd (n e)
+-- ---- what the record's judge answers
 
 no-line-at : (s : Site) (f : Fault) → faultOf s ≡ f → (l : ℕ) → judged s .answer ≡ BadLine l → ⊥
 unfolding judged
@@ -47,87 +46,17 @@ no-line-at s Size q l e = let w = rw q at e in let z : _≡_ {A = ℕ} 0 1 = cc 
 no-line-at s (Load k) q l e = let w = rw q at e in let z : _≡_ {A = ℕ} 0 1 = cc in omega arith
 no-line-at s (Reach k) q l e = let w = rw q at e in let z : _≡_ {A = ℕ} 0 1 = cc in omega arith
 
-pub judged-no-line : (s : Site) (l : ℕ) → judged s .answer ≡ BadLine l → ⊥
+judged-no-line : (s : Site) (l : ℕ) → judged s .answer ≡ BadLine l → ⊥
 judged-no-line s l e = no-line-at s (faultOf s) refl l e
 
-module _ (b : List ℕ) (slots channels l : ℕ) where
-  zero-good : lineGood b 0 ≡ true
-  unfolding lineGood
-  zero-good = refl
+-- a record that is accepted has no fault, and is the answer
+judged-at : (s : Site) (f : Fault) → faultOf s ≡ f → judged s .answer ≡ Done → (f ≡ Fine) × (judged s .site ≡ s)
+unfolding judged
+judged-at s Fine q e = (refl, rw q)
+judged-at s Size q e = let w = rw q at e in let z : _≡_ {A = ℕ} 0 1 = cc in absurd (omega arith)
+judged-at s (Load k) q e = let w = rw q at e in let z : _≡_ {A = ℕ} 0 1 = cc in absurd (omega arith)
+judged-at s (Reach k) q e = let w = rw q at e in let z : _≡_ {A = ℕ} 0 1 = cc in absurd (omega arith)
 
-  from-one : lineGood b l ≡ false → 1 ≤ l
-  from-one h = go l refl
-    where
-      go : (k : ℕ) → l ≡ k → 1 ≤ k
-      go zero e = absurd (true≢false (sym zero-good ∙ sym (ap (lineGood b) e) ∙ h))
-      go (suc k) e = omega arith
-
-  -- a line past the one after all the cells' is as that one
-  to-the-end : FirstBad b l → l < cellsIn b + 3
-  to-the-end f = go (decLt l (cellsIn b + 3))
-    where
-      go : Dec (l < cellsIn b + 3) → l < cellsIn b + 3
-      go (yes h) = h
-      go (no h) =
-          let e : l - 2 + 2 ≡ l = omega arith in
-          let same = ap (lineGood b) e in
-          absurd
-          (true≢false
-          (sym (f .before (cellsIn b + 2) (omega arith)) ∙ past-lines b (cellsIn b) (omega arith) ∙ sym (past-lines b (l - 2) (omega arith)) ∙ same ∙ f .bad))
-
-  to-first : badLine b < cellsIn b + 3 → l ≡ badLine b → FirstBad b l
-  unfolding badLine
-  to-first low e = record {
-    bad = rw e (not-true _ (first-passes (λ k. not (lineGood b k)) 1 (cellsIn b + 3) (omega arith) low));
-    before = λ j m. earlier j (omega arith);
-  }
-    where
-      earlier : (j : ℕ) → j < badLine b → lineGood b j ≡ true
-      earlier zero m = zero-good
-      earlier (suc j) m = not-false _ (first-before (λ k. not (lineGood b k)) 1 (cellsIn b + 3) (suc j) (omega arith) m)
-
-  is-first : FirstBad b l → badLine b ≡ l
-  unfolding badLine
-  is-first f =
-      first-is (λ k. not (lineGood b k)) 1 l (cellsIn b + 3) (from-one (f .bad)) (to-the-end f) (ap not (f .bad)) (λ j g m. ap not (f .before j m))
-
-  -- "17, sheet malformed, with its first bad line (from 1; missing and extra lines count)": with that line, and only then
-  pub bad-first : readSheet b slots channels .answer ≡ BadLine l → FirstBad b l
-  unfolding readSheet
-  bad-first e =
-      let w = said-bad (ltb (badLine b) (cellsIn b + 3)) (badLine b) l (judged (siteIn (cellsIn b) (body b) slots channels)) e (judged-no-line _ l) in
-      to-first (ltb-true _ _ (w .0)) (w .1)
-
-  pub first-told : FirstBad b l → readSheet b slots channels .answer ≡ BadLine l
-  unfolding readSheet badAt
-  first-told f = rw (is-first f, lt-ltb l (cellsIn b + 3) (to-the-end f))
-
--- where no line is bad, the answer is that of the record that the lines make
-module _ (b : List ℕ) (slots channels : ℕ) (none : (l : ℕ) → FirstBad b l → ⊥) where
-  pub no-bad-line : readSheet b slots channels ≡ judged (siteIn (cellsIn b) (body b) slots channels)
-  unfolding readSheet
-  no-bad-line = go (ltb (badLine b) (cellsIn b + 3)) refl
-    where
-      go : (t : Bool) → ltb (badLine b) (cellsIn b + 3) ≡ t → pick t (badAt (badLine b)) (judged (siteIn (cellsIn b) (body b) slots channels)) ≡ judged (siteIn (cellsIn b) (body b) slots channels)
-      go true e = absurd (none (badLine b) (to-first b slots channels (badLine b) (ltb-true _ _ e) refl))
-      go false e = refl
-
-  pub some-cells : 1 ≤ cellsIn b
-  unfolding lineGood
-  some-cells = go (headOk b) refl
-    where
-      first : headOk b ≡ false → FirstBad b 1
-      first e = record { bad = e; before = λ j m. zeroth j m }
-        where
-          zeroth : (j : ℕ) → j < 1 → lineGood b j ≡ true
-          zeroth zero m = refl
-          zeroth (suc j) m = absurd (omega arith)
-
-      go : (t : Bool) → headOk b ≡ t → 1 ≤ cellsIn b
-      go true e = head-is b e .0
-      go false e = absurd (none 1 (first e))
-
--- "each gives a site of zeros"
 zeros-at : (s : Site) (f : Fault) → faultOf s ≡ f → (judged s .answer ≡ Done → ⊥) → judged s .site ≡ zeroSite
 unfolding judged
 zeros-at s Fine q n = absurd (n (rw q))
@@ -135,157 +64,311 @@ zeros-at s Size q n = rw q
 zeros-at s (Load k) q n = rw q
 zeros-at s (Reach k) q n = rw q
 
-either-zeros : (t : Bool) (l : ℕ) (j : SheetRead) → (pick t (badAt l) j .answer ≡ Done → ⊥) → ((j .answer ≡ Done → ⊥) → j .site ≡ zeroSite) → pick t (badAt l) j .site ≡ zeroSite
-unfolding badAt
-either-zeros true l j n z = refl
-either-zeros false l j n z = z n
+-- ---- any bytes: the first bad line is told, or the record is judged
 
-pub refused-zeros : (b : List ℕ) (slots channels : ℕ) → (readSheet b slots channels .answer ≡ Done → ⊥) → readSheet b slots channels .site ≡ zeroSite
-unfolding readSheet
-refused-zeros b slots channels n =
-    let s = siteIn (cellsIn b) (body b) slots channels in
-    either-zeros (ltb (badLine b) (cellsIn b + 3)) (badLine b) (judged s) n (zeros-at s (faultOf s) refl)
+data Came (b : List ℕ) (slots channels : ℕ) : Type 0 where
+  told : (l : ℕ) → FirstBad b l → readSheet b slots channels ≡ badAt l → Came b slots channels
+  was : (s : Site) → SheetOf b slots channels s → readSheet b slots channels ≡ judged s → Came b slots channels
+
+no-length : (l : List ℕ) → length l ≤ 0 → l ≡ []
+no-length [] h = refl
+no-length (x ∷ l) h = absurd (omega arith)
+
+some-length : (l : List ℕ) → 0 < length l → (x : ℕ) × (r : List ℕ) × (l ≡ x ∷ r)
+some-length [] h = absurd (omega arith)
+some-length (x ∷ l) h = (x, l, refl)
+
+-- a line of the format is well
+line-ok : (n k load row : ℕ) (r : List ℕ) → 0 < n → load ≤ 65535 → lineOk n k (cellLine n k load (bitsOf row) ++ r) ≡ true
+line-ok n k load row r some few = ok-written n k load (bitsOf row) r (omega arith) (bits-two row) some few
+
+module _ (b : List ℕ) (slots channels : ℕ) where
+  abbrev n : ℕ
+  n = cellsIn b
+
+  abbrev r : List ℕ
+  r = body b
+
+  -- no first line
+  without : headOk b ≡ false → Came b slots channels
+  unfolding readSheet
+  without h = told 1 (no-first-line refl (λ m q u e. true≢false (sym (head-written m q (u .0) (u .1)) ∙ sym (ap headOk e) ∙ h))) (rw h)
+
+  module _ (h : headOk b ≡ true) where
+    cells : UpTo 32 n
+    cells = (head-is b h .0, cells-few b)
+
+    well : (k : ℕ) → k ≤ badCell n r → (j : ℕ) → j < k → lineOk n j (from n r j) ≡ true
+    unfolding badCell
+    well k low j m = not-false _ (first-before (λ i. not (lineOk n i (from n r i))) 0 n j (omega arith) (omega arith))
+
+    -- the first line, the lines before the k-th and what is left
+    parts : (k : ℕ) → k ≤ n → k ≤ badCell n r → b ≡ header n ++ (linesFrom (made n r slots channels k) 0 k ++ from n r k)
+    unfolding body from
+    parts k most low =
+        head-is b h .1 ∙ ap (λ (x : List ℕ). header n ++ x) (lines-made n r slots channels k cells most (well k low) k 0 (omega arith))
+
+    bad-cell : badCell n r < n → Came b slots channels
+    unfolding readSheet cellsRead badCell
+    bad-cell low =
+        let k = badCell n r in
+        let bad : lineOk n k (from n r k) ≡ false = not-true _ (first-passes (λ i. not (lineOk n i (from n r i))) 0 n (omega arith) low) in
+        told (lineNumber k)
+        (no-cell-line (made n r slots channels k) k (from n r k) refl (fits-made n r slots channels k cells (omega arith) (well k (omega arith))) low
+        (parts k (omega arith) (omega arith))
+        (λ load row q few e. true≢false (sym (line-ok n k load row q (omega (arith, cells)) few) ∙ sym (ap (lineOk n k) e) ∙ bad)))
+        (rw (h, lt-ltb (badCell n r) n low))
+
+    module _ (all : n ≤ badCell n r) where
+      fits : FitsSheet (made n r slots channels n)
+      fits = fits-made n r slots channels n cells (omega arith) (well n all)
+
+      extra : 0 < length (from n r n) → Came b slots channels
+      unfolding readSheet cellsRead sheetBytes
+      extra some =
+          let w = some-length (from n r n) some in
+          let e = parts n (omega arith) all ∙ ap (λ (x : List ℕ). header n ++ (linesFrom (made n r slots channels n) 0 n ++ x)) (w .2) in
+          told (lineNumber n)
+          (one-too-many (made n r slots channels n) (w .0) (w .1) refl fits
+          (e ∙ sym (append-assoc (header n) (linesFrom (made n r slots channels n) 0 n) (w .0 ∷ w .1))))
+          (rw (h, le-ltb (badCell n r) n all, lt-ltb 0 (length (from n r n)) some))
+
+      whole : length (from n r n) ≤ 0 → Came b slots channels
+      unfolding readSheet cellsRead sheetBytes siteIn
+      whole none =
+          let e = parts n (omega arith) all ∙ ap (λ (x : List ℕ). header n ++ (linesFrom (made n r slots channels n) 0 n ++ x)) (no-length _ none) in
+          was (made n r slots channels n)
+          (record {
+            fits = fits;
+            slots-are = refl;
+            channels-are = refl;
+            bytes = sym (e ∙ ap (λ (x : List ℕ). header n ++ x) (append-nil (linesFrom (made n r slots channels n) 0 n)));
+          })
+          (rw (h, le-ltb (badCell n r) n all, le-ltb 0 (length (from n r n)) none))
+
+      after-all : Dec (0 < length (from n r n)) → Came b slots channels
+      after-all (yes p) = extra p
+      after-all (no p) = whole (omega arith)
+
+    after-first : Dec (badCell n r < n) → Came b slots channels
+    after-first (yes p) = bad-cell p
+    after-first (no p) = after-all (omega arith) (decLt 0 (length (from n r n)))
+
+  came : Came b slots channels
+  came = go (headOk b) refl
+    where
+      go : (t : Bool) → headOk b ≡ t → Came b slots channels
+      go true h = after-first h (decLt (badCell n r) n)
+      go false h = without h
+
+  -- ---- 17
+
+  -- "17, sheet malformed, with its first bad line (from 1; missing and extra lines count)": with that line, and only then
+  pub bad-first : (l : ℕ) → readSheet b slots channels .answer ≡ BadLine l → FirstBad b l
+  unfolding badAt
+  bad-first l e = go came
+    where
+      go : Came b slots channels → FirstBad b l
+      go (told m f q) =
+          let is : BadLine m ≡ BadLine l = sym (ap (λ (x : SheetRead). x .answer) q) ∙ e in
+          let same : m ≡ l = cc in
+          rw (← same) f
+      go (was s w q) = absurd (judged-no-line s l (sym (ap (λ (x : SheetRead). x .answer) q) ∙ e))
+
+  pub first-told : (l : ℕ) → FirstBad b l → readSheet b slots channels .answer ≡ BadLine l
+  unfolding readSheet badAt sheetBytes
+  first-told l (no-first-line e none) =
+      let h : headOk b ≡ false = refute _ (λ t. none (cellsIn b) _ (head-is b t .0, cells-few b) (head-is b t .1)) in
+      rw (h, e)
+  first-told l (no-cell-line s k rest e fits low is none) =
+      ap (λ (x : SheetRead). x .answer)
+      (ap (λ (x : List ℕ). readSheet x slots channels) is
+      ∙ bad-after s fits k rest slots channels low
+      (refute _ (λ t. let w = line-there (s .cells) k rest t in
+      none (loadIn k rest) (rowIn (s .cells) k rest) (drop (length (lineIn (s .cells) k rest)) rest) (w .0) (rw (line-content (s .cells) k rest) (w .1)))))
+      ∙ ap BadLine (sym e)
+  first-told l (one-too-many s x rest e fits is) =
+      ap (λ (y : SheetRead). y .answer)
+      (ap (λ (y : List ℕ). readSheet y slots channels) (is ∙ append-assoc (header (s .cells)) (linesFrom s 0 (s .cells)) (x ∷ rest))
+      ∙ extra-after s fits (x ∷ rest) slots channels (omega arith))
+      ∙ ap BadLine (sym e)
+
+  -- where no line is bad, the bytes are the sheet of a record
+  pub no-bad-line : ((l : ℕ) → FirstBad b l → ⊥) → (s : Site) × SheetOf b slots channels s
+  no-bad-line none = go came
+    where
+      go : Came b slots channels → (s : Site) × SheetOf b slots channels s
+      go (told l f q) = absurd (none l f)
+      go (was s w q) = (s, w)
+
+  -- and then the record is judged
+  pub sheet-read : (s : Site) → SheetOf b slots channels s → readSheet b slots channels ≡ judged s
+  sheet-read s w = rw (← w .bytes, ← w .slots-are, ← w .channels-are) (sheet-judged s (w .fits))
+
+  -- "each gives a site of zeros"
+  pub refused-zeros : (readSheet b slots channels .answer ≡ Done → ⊥) → readSheet b slots channels .site ≡ zeroSite
+  unfolding badAt
+  refused-zeros n = go came
+    where
+      go : Came b slots channels → readSheet b slots channels .site ≡ zeroSite
+      go (told l f q) = ap (λ (x : SheetRead). x .site) q
+      go (was s w q) = ap (λ (x : SheetRead). x .site) q ∙ zeros-at s (faultOf s) refl (λ e. n (ap (λ (x : SheetRead). x .answer) q ∙ e))
+
+  -- ---- the accepted sheets
+
+  -- what is accepted is the sheet of the site that is read, and that has no fault
+  pub accepted-is : readSheet b slots channels .answer ≡ Done
+      → SheetOf b slots channels (readSheet b slots channels .site) × (faultOf (readSheet b slots channels .site) ≡ Fine)
+  unfolding badAt
+  accepted-is e = go came
+    where
+      go : Came b slots channels → SheetOf b slots channels (readSheet b slots channels .site) × (faultOf (readSheet b slots channels .site) ≡ Fine)
+      go (told l f q) =
+          let is : BadLine l ≡ Done = sym (ap (λ (x : SheetRead). x .answer) q) ∙ e in
+          let z : _≡_ {A = ℕ} 0 1 = cc in
+          absurd (omega arith)
+      go (was s w q) =
+          let k = judged-at s (faultOf s) refl (sym (ap (λ (x : SheetRead). x .answer) q) ∙ e) in
+          let is : readSheet b slots channels .site ≡ s = ap (λ (x : SheetRead). x .site) q ∙ k .1 in
+          rw is (w, k .0)
+
+  -- exactly the sheets of the format are accepted, each as the site whose sheet it is
+  pub sheet-accepted : (s : Site) → SheetOf b slots channels s → faultOf s ≡ Fine → readSheet b slots channels ≡ record { site = s; answer = Done }
+  unfolding judged
+  sheet-accepted s w fine = sheet-read s w ∙ rw fine
 
 -- ---- after 17: 1, then 3
 
-module _ (n : ℕ) (r : List ℕ) (slots channels : ℕ) (some : 1 ≤ n) (few : n ≤ 32) where
-  row-at : (k : ℕ) → k < n → rowOf (siteIn n r slots channels) k ≡ rowIn n k (from n r k)
-  unfolding siteIn
-  row-at k h = rw (rows-fill n r n) (fill-at (λ j. rowIn n j (from n r j)) n k h (omega arith))
-
-  row-past : (k : ℕ) → n ≤ k → rowOf (siteIn n r slots channels) k ≡ 0
-  unfolding siteIn
-  row-past k h = rw (rows-fill n r n) (fill-past (λ j. rowIn n j (from n r j)) n k h)
-
-  no-load : extraLoad (siteIn n r slots channels) ≡ 32
-  unfolding extraLoad siteIn
-  no-load =
-      rw (loads-fill n r n)
-      (first-none (λ k. ltb 0 (getD (fill (λ j. loadIn j (from n r j)) n) k 0)) n 32 few (λ k l h. rw (fill-past (λ j. loadIn j (from n r j)) n k l)))
+module _ (s : Site) (fits : FitsSheet s) where
+  no-load : extraLoad s ≡ 32
+  unfolding extraLoad
+  no-load = first-none (λ k. ltb 0 (loadAt s k)) (s .cells) 32 (fits .cells .1) (λ k l h. rw (fits .loads-past k l h))
 
   -- a row is bad where the cell marks itself, and nowhere else
-  own : (k : ℕ) → k < n → rowBad n (rowOf (siteIn n r slots channels) k) k ≡ eqb (markAt (marksIn k (from n r k)) k) 1
-  unfolding rowBad rowIn
-  own k h =
-      let f = markAt (marksIn k (from n r k)) in
-      rw (row-at k h, lt-ltb k n h, div-eq-of-lt (weigh-lt f (mark-two (marksIn k (from n r k))) n 0), weigh-bit f (mark-two (marksIn k (from n r k))) n k 0 h, zero-add k)
+  own : (k : ℕ) → k < s .cells → rowBad (s .cells) (rowOf s k) k ≡ reaches (s .reach) k k
+  unfolding rowBad reaches
+  own k h = rw (lt-ltb k (s .cells) h, div-eq-of-lt (fits .rows k h))
 
-  other : (k : ℕ) → n ≤ k → rowBad n (rowOf (siteIn n r slots channels) k) k ≡ false
+  other : (k : ℕ) → s .cells ≤ k → k < 32 → rowBad (s .cells) (rowOf s k) k ≡ false
   unfolding rowBad
-  other k h = rw (row-past k h, le-ltb k n h)
+  other k h l = rw (le-ltb k (s .cells) h, fits .rows-past k h l)
 
-  bad-row-is : badRow (siteIn n r slots channels) ≡ pick (ltb (ownMark n r) n) (ownMark n r) 32
-  unfolding badRow siteIn ownMark
-  bad-row-is = go (ltb (ownMark n r) n) refl
+  bad-row-is : badRow s ≡ pick (ltb (ownMark s) (s .cells)) (ownMark s) 32
+  unfolding badRow ownMark
+  bad-row-is = go (ltb (ownMark s) (s .cells)) refl
     where
       mine : ℕ → Bool
-      mine k = eqb (markAt (marksIn k (from n r k)) k) 1
+      mine k = reaches (s .reach) k k
 
       bad : ℕ → Bool
-      bad k = rowBad n (rowOf (siteIn n r slots channels) k) k
+      bad k = rowBad (s .cells) (rowOf s k) k
 
-      go : (t : Bool) → ltb (first mine 0 n) n ≡ t → first bad 0 32 ≡ pick t (first mine 0 n) 32
+      go : (t : Bool) → ltb (first mine 0 (s .cells)) (s .cells) ≡ t → first bad 0 32 ≡ pick t (first mine 0 (s .cells)) 32
       go true e =
-          let low : first mine 0 n < n = ltb-true _ _ e in
-          first-is bad 0 (first mine 0 n) 32 (omega arith) (omega arith) (own _ low ∙ first-passes mine 0 n (omega arith) low)
-          (λ j g m. own j (omega arith) ∙ first-before mine 0 n j g m)
+          let low : first mine 0 (s .cells) < s .cells = ltb-true _ _ e in
+          first-is bad 0 (first mine 0 (s .cells)) 32 (omega arith) (omega (arith, fits .cells)) (own _ low ∙ first-passes mine 0 (s .cells) (omega arith) low)
+          (λ j g m. own j (omega arith) ∙ first-before mine 0 (s .cells) j g m)
       go false e =
-          let high : n ≤ first mine 0 n = ltb-false _ _ e in
-          first-none bad 0 32 (omega arith) (λ j g m. each j (decLt j n) high)
+          let high : s .cells ≤ first mine 0 (s .cells) = ltb-false _ _ e in
+          first-none bad 0 32 (omega arith) (λ j g m. each j (decLt j (s .cells)) high m)
         where
-          each : (j : ℕ) → Dec (j < n) → n ≤ first mine 0 n → bad j ≡ false
-          each j (yes h) high = own j h ∙ first-before mine 0 n j (omega arith) (omega arith)
-          each j (no h) high = other j (omega arith)
+          each : (j : ℕ) → Dec (j < s .cells) → s .cells ≤ first mine 0 (s .cells) → j < 32 → bad j ≡ false
+          each j (yes h) high m = own j h ∙ first-before mine 0 (s .cells) j (omega arith) (omega arith)
+          each j (no h) high m = other j (omega arith) m
 
   choose : (t : Bool) (k : ℕ) → (t ≡ true → k < 32) → pick (ltb (pick t k 32) 32) (Reach (pick t k 32 + 1)) Fine ≡ pick t (Reach (k + 1)) Fine
   choose true k h = rw (lt-ltb k 32 (h refl))
   choose false k h = refl
 
-  in-range : upTo 32 n ≡ true
-  unfolding upTo
-  in-range = rw (le-leb 1 n some, le-leb n 32 few)
-
-  size-is : sizeOk n slots channels ≡ (upTo 128 slots && upTo 16 channels)
+  size-is : sizeOk (s .cells) (s .slots) (s .channels) ≡ (upTo 128 (s .slots) && upTo 16 (s .channels))
   unfolding sizeOk
-  size-is = rw in-range
-
-  by-parts : (s : Site) → sizeOk (s .cells) (s .slots) (s .channels) ≡ (upTo 128 slots && upTo 16 channels) → extraLoad s ≡ 32 → badRow s ≡ pick (ltb (ownMark n r) n) (ownMark n r) 32 →
-      faultOf s ≡ sheetFault n r slots channels
-  unfolding faultOf sheetFault
-  by-parts s a b c =
-      rw (a, b, c)
-      (ap (λ (f : Fault). pick (upTo 128 slots && upTo 16 channels) f Size)
-      (choose (ltb (ownMark n r) n) (ownMark n r) (λ e. let low : ownMark n r < n = ltb-true _ _ e in omega arith)))
-
-  sizes-are : (s : Site) → s ≡ siteIn n r slots channels → sizeOk (s .cells) (s .slots) (s .channels) ≡ (upTo 128 slots && upTo 16 channels)
-  unfolding siteIn
-  sizes-are s e = rw e size-is
+  size-is = rw (up-to-is 32 (s .cells) (fits .cells))
 
   -- 1 for slots or channels out of range, and then 3 with the lowest cell that marks itself
-  pub fault-is : faultOf (siteIn n r slots channels) ≡ sheetFault n r slots channels
-  fault-is = by-parts (siteIn n r slots channels) (sizes-are _ refl) no-load bad-row-is
+  pub fault-is : faultOf s ≡ sheetFault s
+  unfolding faultOf sheetFault
+  fault-is =
+      rw (size-is, no-load, bad-row-is)
+      (ap (λ (f : Fault). pick (upTo 128 (s .slots) && upTo 16 (s .channels)) f Size)
+      (choose (ltb (ownMark s) (s .cells)) (ownMark s) (λ e. let low : ownMark s < s .cells = ltb-true _ _ e in omega (arith, fits .cells))))
 
--- ---- the accepted sheets
+  -- so 1 exactly where slots or channels are out of range
+  pub fault-one : faultOf s ≡ Size ↔ ((UpTo 128 (s .slots) × UpTo 16 (s .channels)) → ⊥)
+  unfolding sheetFault
+  fault-one = (
+    λ e u. not-size (ltb (ownMark s) (s .cells)) (rw (up-to-is 128 (s .slots) (u .0), up-to-is 16 (s .channels) (u .1)) at (sym fault-is ∙ e)),
+    λ n. fault-is ∙ rw (refute (upTo 128 (s .slots) && upTo 16 (s .channels)) (λ t. let w = both _ _ t in n (up-to 128 _ (w .0), up-to 16 _ (w .1)))),
+  )
+    where
+      not-size : (t : Bool) → pick t (Reach (ownMark s + 1)) Fine ≡ Size → ⊥
+      not-size true e = let z : _≡_ {A = ℕ} 0 1 = cc in omega arith
+      not-size false e = let z : _≡_ {A = ℕ} 0 1 = cc in omega arith
 
-module _ (b : List ℕ) (slots channels : ℕ) (accepted : readSheet b slots channels .answer ≡ Done) where
-  loads-few : (k : ℕ) → Dec (k < cellsIn b) → getD (fill (λ j. loadIn j (from (cellsIn b) (body b) j)) (cellsIn b)) k 0 ≤ 65535
-  unfolding badCell
-  loads-few k (yes h) =
-      let w : lineOk (cellsIn b) k (from (cellsIn b) (body b) k) ≡ true =
-      not-false _ (first-before (λ j. not (lineOk (cellsIn b) j (from (cellsIn b) (body b) j))) 0 (cellsIn b) k (omega arith) (omega (arith, all-well b slots channels accepted))) in
-      rw (fill-at (λ j. loadIn j (from (cellsIn b) (body b) j)) (cellsIn b) k h (omega (arith, cells-few b))) (omega (arith, line-there _ k _ w .0))
-  loads-few k (no h) = rw (fill-past (λ j. loadIn j (from (cellsIn b) (body b) j)) (cellsIn b) k (omega arith)) (omega arith)
+  -- and else 3 exactly where a cell marks itself, with the lowest one
+  pub fault-three : (k : ℕ) → faultOf s ≡ Reach (k + 1) ↔ MarksItself s k
+  unfolding sheetFault ownMark
+  fault-three k = (
+    λ e. to-mark (upTo 128 (s .slots) && upTo 16 (s .channels)) (ltb (ownMark s) (s .cells)) refl refl (sym fault-is ∙ e),
+    λ m.
+        let own-is : ownMark s ≡ k = first-is (λ j. reaches (s .reach) j j) 0 k (s .cells) (omega arith) (m .cell) (m .itself) (λ j g l. m .lower j l) in
+        fault-is ∙ rw (up-to-is 128 (s .slots) (m .slots), up-to-is 16 (s .channels) (m .channels), own-is, lt-ltb k (s .cells) (m .cell)),
+  )
+    where
+      to-mark : (t u : Bool) → (upTo 128 (s .slots) && upTo 16 (s .channels)) ≡ t → ltb (ownMark s) (s .cells) ≡ u →
+          pick t (pick u (Reach (ownMark s + 1)) Fine) Size ≡ Reach (k + 1) → MarksItself s k
+      to-mark false u p q e = let z : _≡_ {A = ℕ} 0 1 = cc in absurd (omega arith)
+      to-mark true false p q e = let z : _≡_ {A = ℕ} 0 1 = cc in absurd (omega arith)
+      to-mark true true p q e =
+          let w = both _ _ p in
+          let next : ownMark s + 1 ≡ k + 1 = cc in
+          let is : ownMark s ≡ k = omega arith in
+          let low : ownMark s < s .cells = ltb-true _ _ q in
+          record {
+            slots = up-to 128 _ (w .0);
+            channels = up-to 16 _ (w .1);
+            cell = omega arith;
+            itself = rw is at (first-passes (λ j. reaches (s .reach) j j) 0 (s .cells) (omega arith) low);
+            lower = λ j l. first-before (λ j. reaches (s .reach) j j) 0 (s .cells) j (omega arith) (omega arith);
+          }
 
-  in-few : (k : ℕ) → loadAt (siteIn (cellsIn b) (body b) slots channels) k ≤ 65535
-  unfolding siteIn
-  in-few k = rw (loads-fill (cellsIn b) (body b) (cellsIn b)) (loads-few k (decLt k (cellsIn b)))
+-- ---- the marks
 
-  rows-narrow : (k : ℕ) → Dec (k < cellsIn b) → getD (fill (λ j. rowIn (cellsIn b) j (from (cellsIn b) (body b) j)) (cellsIn b)) k 0 < 2 ^ 32
-  unfolding rowIn
-  rows-narrow k (yes h) =
-      let f = markAt (marksIn k (from (cellsIn b) (body b) k)) in
-      let wide : 2 ^ cellsIn b ≤ 2 ^ 32 = pow-le-pow-right (zero-lt-suc 1) (cells-few b) in
-      rw (fill-at (λ j. rowIn (cellsIn b) j (from (cellsIn b) (body b) j)) (cellsIn b) k h (omega (arith, cells-few b)))
-      (omega (arith, weigh-lt f (mark-two (marksIn k (from (cellsIn b) (body b) k))) (cellsIn b) 0, wide))
-  rows-narrow k (no h) = rw (fill-past (λ j. rowIn (cellsIn b) j (from (cellsIn b) (body b) j)) (cellsIn b) k (omega arith)) (omega arith)
-
-  in-held : Held (siteIn (cellsIn b) (body b) slots channels)
-  unfolding siteIn
-  in-held = record {
-    loads = rw (loads-fill (cellsIn b) (body b) (cellsIn b)) (fill-long _ (cellsIn b));
-    rows = rw (rows-fill (cellsIn b) (body b) (cellsIn b)) (fill-long _ (cellsIn b));
-    bits = λ k l. rw (rows-fill (cellsIn b) (body b) (cellsIn b)) (rows-narrow k (decLt k (cellsIn b)));
-  }
-
-  beside : (s : Site) → s ≡ siteIn (cellsIn b) (body b) slots channels → (s .slots ≡ slots) × (s .channels ≡ channels)
-  unfolding siteIn
-  beside s e = (ap (λ (x : Site). x .slots) e, ap (λ (x : Site). x .channels) e)
-
-  -- what is accepted is the sheet of the site that is read
-  pub accepted-is : SheetOf b slots channels (readSheet b slots channels .site)
-  accepted-is =
-      let e = site-read b slots channels accepted in
-      let w = beside _ e in
-      record {
-        held = rw e in-held;
-        few = rw e in-few;
-        fine = read-fine b slots channels accepted;
-        slots-are = w .0;
-        channels-are = w .1;
-        bytes = read-then-written b slots channels accepted;
-      }
-
--- exactly the sheets of the format are accepted, each as the site whose sheet it is
-pub sheet-accepted : (b : List ℕ) (slots channels : ℕ) (s : Site) → SheetOf b slots channels s → readSheet b slots channels ≡ record { site = s; answer = Done }
-sheet-accepted b slots channels s w =
-    rw (← w .bytes, ← w .slots-are, ← w .channels-are) (written-then-read s (w .held) (w .few) (w .fine))
-
--- "`1` for \"reaches\" and `0` for not": what is written as the mark of cell b in the line of cell a
 bit-is : (v : ℕ) → v < 2 → v ≡ bit (eqb v 1)
 bit-is zero h = refl
 bit-is (suc zero) h = refl
 bit-is (suc (suc v)) h = absurd (omega arith)
 
-pub marks-reach : (s : Site) (a b : ℕ) → bitsOf (rowOf s a) b ≡ bit (reaches (s .reach) a b)
-unfolding bitsOf reaches
-marks-reach s a b = bit-is (rowOf s a / 2 ^ b % 2) (mod-lt _ (lit< tt))
+module _ (s : Site) where
+  lines-split : (d j e : ℕ) → linesFrom s j (d + e) ≡ linesFrom s j d ++ linesFrom s (j + d) e
+  unfolding linesFrom
+  lines-split zero j e = rw (zero-add e, add-zero j)
+  lines-split (suc d) j e =
+      let p : suc d + e ≡ suc (d + e) = omega arith in
+      let q : suc j + d ≡ j + suc d = omega arith in
+      rw (p, append-assoc (lineOf s j) (linesFrom s (suc j) d) (linesFrom s (j + suc d) e), ← q)
+      (ap (λ (l : List ℕ). lineOf s j ++ l) (lines-split d (suc j) e))
+
+  module _ (a b : ℕ) (line : a < s .cells) (column : b < s .cells) where
+    lines-at : linesFrom s 0 (s .cells) ≡ linesFrom s 0 a ++ (lineOf s a ++ linesFrom s (suc a) (s .cells - suc a))
+    unfolding linesFrom
+    lines-at =
+        let e : s .cells ≡ a + suc (s .cells - suc a) = omega arith in
+        ap (linesFrom s 0) e ∙ lines-split a 0 (suc (s .cells - suc a)) ∙ rw (zero-add a)
+
+    line-parts : (r : List ℕ) → lineOf s a ++ r ≡ label a ++ (decimal (loadAt s a) ++ (marks (bitsOf (rowOf s a)) 0 (s .cells) ++ (crlf ++ r)))
+    unfolding lineOf cellLine
+    line-parts r = simp append-assoc
+
+    -- "`1` for \"reaches\" and `0` for not": the byte at the mark of b in the line of a
+    pub marks-reach : getD (sheetBytes s) (markPlace s a b) 0 ≡ 48 + bit (reaches (s .reach) a b)
+    unfolding sheetBytes markPlace bitsOf reaches
+    marks-reach =
+        let r = linesFrom s (suc a) (s .cells - suc a) in
+        let m = marks (bitsOf (rowOf s a)) 0 (s .cells) ++ (crlf ++ r) in
+        rw (lines-at, line-parts r)
+        (getD-append-add (header (s .cells)) (linesFrom s 0 a ++ (label a ++ (decimal (loadAt s a) ++ m))) _ 0
+        ∙ getD-append-add (linesFrom s 0 a) (label a ++ (decimal (loadAt s a) ++ m)) _ 0
+        ∙ getD-append-add (label a) (decimal (loadAt s a) ++ m) _ 0
+        ∙ getD-append-add (decimal (loadAt s a)) m (2 * b + 1) 0
+        ∙ marks-at (bitsOf (rowOf s a)) (s .cells) 0 b (crlf ++ r) column
+        ∙ rw (zero-add b) (ap (λ (v : ℕ). 48 + v) (bit-is (rowOf s a / 2 ^ b % 2) (mod-lt _ (lit< tt)))))

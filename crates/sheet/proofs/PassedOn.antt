@@ -13,8 +13,8 @@ use Rattle.site.proofs.PassedOn.{passed-on}
 use Rattle.site.specs.declared.Site.{Site}
 use Rattle.site.specs.declared.Fault.{Fault}
 use Rattle.site.specs.declared.Fault.the-variants.{Fine, Size, Load, Reach}
-use Rattle.lines.specs.Content.{cellsIn}
-use Rattle.sheet.specs.Read.{body, siteIn, judged, badAt, badLine, readSheet}
+use Rattle.lines.specs.Content.{cellsIn, headOk}
+use Rattle.sheet.specs.Read.{from, badCell, body, siteIn, judged, badAt, lineNumber, cellsRead, readSheet}
 use Rattle.sheet.specs.Sheet.{sheetBytes}
 use Rattle.sheet.specs.Write.{written, sheetWritten}
 use Rattle.sheet.specs.declared.SheetRead.{SheetRead}
@@ -30,18 +30,23 @@ no-fault-told s Size q g e = let w = rw q at e in (cc, λ y. let z : _≡_ {A = 
 no-fault-told s (Load k) q g e = let w = rw q at e in (cc, λ y. let z : _≡_ {A = ℕ} 0 1 = cc in omega arith)
 no-fault-told s (Reach k) q g e = let w = rw q at e in (cc, λ y. let z : _≡_ {A = ℕ} 0 1 = cc in omega arith)
 
-said : (t : Bool) (a : ℕ) (j : SheetRead) (f : Fault) → pick t (badAt a) j .answer ≡ read.Refused f → j .answer ≡ read.Refused f
+said : (t u v : Bool) (a b c : ℕ) (j : SheetRead) (f : Fault)
+    → pick t (pick u (badAt a) (pick v (badAt b) j)) (badAt c) .answer ≡ read.Refused f → j .answer ≡ read.Refused f
 unfolding badAt
-said true a j f e = let z : _≡_ {A = ℕ} 0 1 = cc in absurd (omega arith)
-said false a j f e = e
+said false u v a b c j f e = let z : _≡_ {A = ℕ} 0 1 = cc in absurd (omega arith)
+said true true v a b c j f e = let z : _≡_ {A = ℕ} 0 1 = cc in absurd (omega arith)
+said true false true a b c j f e = let z : _≡_ {A = ℕ} 0 1 = cc in absurd (omega arith)
+said true false false a b c j f e = e
 
 -- a refusal after 17 is the fault of the record that the lines make
 pub read-told : (b : List ℕ) (slots channels : ℕ) (f : Fault) → readSheet b slots channels .answer ≡ read.Refused f →
     (f ≡ faultOf (siteIn (cellsIn b) (body b) slots channels)) × (f ≡ Fine → ⊥)
-unfolding readSheet
+unfolding readSheet cellsRead
 read-told b slots channels f e =
-    no-fault-told (siteIn (cellsIn b) (body b) slots channels) (faultOf (siteIn (cellsIn b) (body b) slots channels)) refl f
-    (said (ltb (badLine b) (cellsIn b + 3)) (badLine b) (judged (siteIn (cellsIn b) (body b) slots channels)) f e)
+    let n = cellsIn b in
+    let s = siteIn n (body b) slots channels in
+    no-fault-told s (faultOf s) refl f
+    (said (headOk b) (ltb (badCell n (body b)) n) (ltb 0 (length (from n (body b) n))) (lineNumber (badCell n (body b))) (lineNumber n) 1 (judged s) f e)
 
 -- ---- the writer
 

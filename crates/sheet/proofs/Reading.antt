@@ -17,8 +17,7 @@ use Rattle.lines.specs.declared.Head.{Head}
 use Rattle.lines.proofs.Steps.{answer-bad, answer-good}
 use Rattle.lines.proofs.Heads.{head-bad, head-good}
 use Rattle.site.specs.Record.{siteOf}
-use Rattle.sheet.proofs.Way.{way}
-use Rattle.sheet.specs.Read.{from, badCell, loadsIn, rowsIn, body, siteIn, judged, badAt, cellsRead, readSheet}
+use Rattle.sheet.specs.Read.{from, badCell, loadsIn, rowsIn, body, siteIn, judged, badAt, lineNumber, cellsRead, readSheet}
 
 -- the line of the cell at index k is not of the format
 abbrev test : ℕ → List ℕ → ℕ → Bool
@@ -37,7 +36,7 @@ begun s at n = record { most = omega arith; place = refl; sought = refl; loads-a
 
 module _ (s r : List ℕ) (n : ℕ) (loads reach : List ℕ) (p k slots channels : ℕ) (w : Reading s r n loads reach p k) (short : length s < nowhere) where
   -- a line that is not of the format
-  pub stopped : (l : Line) → l ≡ lineRead s p n k → l .next ≡ nowhere → k < n → badAt (k + 2) ≡ cellsRead n r slots channels
+  pub stopped : (l : Line) → l ≡ lineRead s p n k → l .next ≡ nowhere → k < n → badAt (lineNumber k) ≡ cellsRead n r slots channels
   unfolding cellsRead
   stopped l e h m =
       let b : lineOk n k (from n r k) ≡ false = ap (lineOk n k) (sym (w .place)) ∙ answer-bad s p n k short l e h in
@@ -69,7 +68,7 @@ module _ (s r : List ℕ) (n : ℕ) (loads reach : List ℕ) (p k slots channels
     left : length s - p ≡ length (from n r n)
     left = sym (length-drop p s) ∙ ap length (w .place) ∙ ap (λ (i : ℕ). length (from n r i)) end
 
-    pub extra : p < length s → badAt (n + 2) ≡ cellsRead n r slots channels
+    pub extra : p < length s → badAt (lineNumber n) ≡ cellsRead n r slots channels
     unfolding cellsRead
     extra h = rw (whole, le-ltb n n (omega arith), lt-ltb 0 (length (from n r n)) (omega (arith, left)))
 
@@ -82,10 +81,11 @@ module _ (s r : List ℕ) (n : ℕ) (loads reach : List ℕ) (p k slots channels
 
 module _ (s : List ℕ) (slots channels : ℕ) (short : length s < nowhere) (h : Head) (e : h ≡ headRead s) where
   pub first-bad : h .next ≡ nowhere → badAt 1 ≡ readSheet s slots channels
-  first-bad n = sym (way s slots channels ∙ rw (head-bad s short h e n))
+  unfolding readSheet
+  first-bad n = rw (head-bad s short h e n)
 
   pub first-good : (h .next ≡ nowhere → ⊥) → (h .cells ≡ cellsIn s) × (cellsRead (h .cells) (drop (h .next) s) slots channels ≡ readSheet s slots channels)
-  unfolding body
+  unfolding readSheet body
   first-good n =
       let g = head-good s short h e n in
-      (ap (λ (x : Head). x .cells) (g .1), rw (g .1) (sym (way s slots channels ∙ rw (g .0))))
+      (ap (λ (x : Head). x .cells) (g .1), rw (g .1, g .0))

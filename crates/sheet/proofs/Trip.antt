@@ -1,207 +1,224 @@
--- The round trips of the sheet: each line is read as it was written, and each line that is read is written as it stands. Assumes nothing.
-use Prim.Native.Nat.{ℕ, zero, suc, _+_, _-_, _≤_, _<_}
+-- Between a sheet and its reader, both ways. Lines that are written are passed one by one, so that the first line and the lines of some cells bring the reader
+-- to what stands after them; and lines that are passed are the lines of the site that they make. Assumes nothing.
+use Prim.Native.Nat.{ℕ, zero, suc, _+_, _-_, _^_, _≤_, _<_}
 use mathlib.Core.Path.{_≡_, refl, sym, ap, _∙_}
-use mathlib.Core.Bool.{Bool, true, false, not}
-use mathlib.Core.List.{List, [], _∷_, _++_}
+use mathlib.Core.Bool.{true, false, not}
+use mathlib.Core.List.{List, [], _++_, append-assoc, append-nil}
 use native.Mathlib.Omega.{arith}
-use native.Mathlib.Nat.{zero-add, mod-lt}
+use native.Mathlib.Decide.{decLt}
+use native.Mathlib.Nat.{mod-lt, zero-lt-suc, pow-le-pow-right}
 use lib.ListN.{length}
+use lib.Pow.{pow-pos}
 use lib.Seq.{drop-append-seam}
-use lib.Dec.{ltb, lit<}
-use borrow.Author.Tests.{ltb-false, le-ltb, not-false}
-use Rattle.laws.specs.Choice.{pick}
-use Rattle.laws.proofs.Search.{first-none, first-before, first-most}
-use Rattle.site.specs.Record.{loadAt, rowOf, faultOf}
+use lib.Dec.{lit<}
+use borrow.Author.Tests.{lt-ltb, le-ltb}
+use Rattle.laws.proofs.Search.{first-none, first-is}
+use Rattle.site.specs.Record.{siteOf, loadAt, rowOf, faultOf}
+use Rattle.site.specs.Means.{UpTo}
 use Rattle.site.specs.declared.Site.{Site}
-use Rattle.site.specs.declared.Fault.{Fault}
-use Rattle.site.specs.declared.Fault.the-variants.{Fine, Size, Load, Reach}
+use Rattle.site.specs.declared.Fault.the-variants.{Fine}
 use Rattle.site.proofs.Accepted.{fine-sound, fine-loads, fine-rows-past, fine-rows}
 use Rattle.site.proofs.Faults.{sizes}
-use Rattle.lines.specs.Format.{header, cellLine, marks, bitsOf}
-use Rattle.lines.specs.Content.{cellsIn, headOk, loadIn, rowIn, marksIn, markAt, lineIn, lineOk}
-use Rattle.lines.proofs.Lines.{load-written, line-written, ok-written, row-written, line-there, weigh-bit, mark-two, marks-same}
-use Rattle.lines.proofs.Heads.{cells-written, head-written, head-is, cells-few}
-use Rattle.sheet.specs.Sheet.{lineOf, linesFrom, sheetBytes}
-use Rattle.sheet.specs.Read.{from, badCell, body, siteIn, judged, badAt, cellsRead, readSheet}
+use Rattle.lines.specs.Format.{header, bitsOf}
+use Rattle.lines.specs.Content.{loadIn, rowIn, marksIn, markAt, lineIn, lineOk}
+use Rattle.lines.proofs.Lines.{load-written, line-written, ok-written, row-written, line-there, line-content, weigh-lt, mark-two}
+use Rattle.lines.proofs.Heads.{cells-written, head-written}
 use Rattle.sitefile.specs.Held.{Held}
-use Rattle.sheet.specs.declared.SheetRead.{SheetRead}
-use Rattle.sheet.proofs.Fill.{fill-at, fill-is, loads-fill, rows-fill}
-use Rattle.sheet.proofs.Way.{way}
+use Rattle.sheet.specs.Sheet.{lineOf, linesFrom, sheetBytes}
+use Rattle.sheet.specs.Read.{from, loadsIn, rowsIn, badCell, body, siteIn, judged, badAt, lineNumber, cellsRead, readSheet}
+use Rattle.sheet.specs.Means.{FitsSheet}
 use Rattle.sheet.specs.declared.SheetAnswer.the-variants.{Done}
+use Rattle.sheet.proofs.Fill.{fill-long, fill-past, fill-at, fill-is, loads-fill, rows-fill}
 
-bits-two : (x b : ℕ) → bitsOf x b < 2
+pub bits-two : (x b : ℕ) → bitsOf x b < 2
 unfolding bitsOf
 bits-two x b = mod-lt _ (lit< tt)
 
--- ---- written, then read
+-- ---- lines that are written, and any bytes after them
 
-module _ (s : Site) (held : Held s) (few : (k : ℕ) → loadAt s k ≤ 65535) (fine : faultOf s ≡ Fine) where
-  range : (1 ≤ s .cells) × (s .cells ≤ 32)
-  range = let r = sizes _ _ _ (fine-sound s fine .sizes) in (r .cells-some, r .cells-most)
+module _ (s : Site) (fits : FitsSheet s) where
+  some : 0 < s .cells
+  some = omega (arith, fits .cells)
 
-  module _ (k : ℕ) (rest : List ℕ) where
-    line-load : loadIn k (lineOf s k ++ rest) ≡ loadAt s k
+  module _ (k : ℕ) (r : List ℕ) where
+    line-load : loadIn k (lineOf s k ++ r) ≡ loadAt s k
     unfolding lineOf
-    line-load = load-written (s .cells) k (loadAt s k) (bitsOf (rowOf s k)) rest (omega (arith, few k)) (bits-two (rowOf s k)) (omega (arith, range))
+    line-load = load-written (s .cells) k (loadAt s k) (bitsOf (rowOf s k)) r (omega (arith, fits .few k)) (bits-two (rowOf s k)) some
 
-    line-same : lineIn (s .cells) k (lineOf s k ++ rest) ≡ lineOf s k
+    line-same : lineIn (s .cells) k (lineOf s k ++ r) ≡ lineOf s k
     unfolding lineOf
-    line-same = line-written (s .cells) k (loadAt s k) (bitsOf (rowOf s k)) rest (omega (arith, few k)) (bits-two (rowOf s k)) (omega (arith, range))
+    line-same = line-written (s .cells) k (loadAt s k) (bitsOf (rowOf s k)) r (omega (arith, fits .few k)) (bits-two (rowOf s k)) some
 
-    line-well : lineOk (s .cells) k (lineOf s k ++ rest) ≡ true
+    line-well : lineOk (s .cells) k (lineOf s k ++ r) ≡ true
     unfolding lineOf
-    line-well = ok-written (s .cells) k (loadAt s k) (bitsOf (rowOf s k)) rest (omega (arith, few k)) (bits-two (rowOf s k)) (omega (arith, range)) (few k)
+    line-well = ok-written (s .cells) k (loadAt s k) (bitsOf (rowOf s k)) r (omega (arith, fits .few k)) (bits-two (rowOf s k)) some (fits .few k)
 
-    line-row : k < s .cells → rowIn (s .cells) k (lineOf s k ++ rest) ≡ rowOf s k
+    line-row : k < s .cells → rowIn (s .cells) k (lineOf s k ++ r) ≡ rowOf s k
     unfolding lineOf bitsOf
     line-row h =
-        row-written (s .cells) k (loadAt s k) (bitsOf (rowOf s k)) rest (omega (arith, few k)) (bits-two (rowOf s k)) (omega (arith, range))
-        (rowOf s k) (fine-rows s fine k h .0) (λ i l. refl)
+        row-written (s .cells) k (loadAt s k) (bitsOf (rowOf s k)) r (omega (arith, fits .few k)) (bits-two (rowOf s k)) some
+        (rowOf s k) (fits .rows k h) (λ i l. refl)
 
-  lines : List ℕ
-  lines = linesFrom s 0 (s .cells)
+  -- the lines of the first k cells
+  module _ (k : ℕ) (rest : List ℕ) where
+    abbrev lines : List ℕ
+    lines = linesFrom s 0 k ++ rest
 
-  lines-step : (k : ℕ) → k < s .cells → linesFrom s k (s .cells - k) ≡ lineOf s k ++ linesFrom s (suc k) (s .cells - suc k)
-  unfolding linesFrom
-  lines-step k h = let e : s .cells - k ≡ suc (s .cells - suc k) = omega arith in rw e
+    lines-step : (j : ℕ) → j < k → linesFrom s j (k - j) ++ rest ≡ lineOf s j ++ (linesFrom s (suc j) (k - suc j) ++ rest)
+    unfolding linesFrom
+    lines-step j h = let e : k - j ≡ suc (k - suc j) = omega arith in rw e (append-assoc (lineOf s j) (linesFrom s (suc j) (k - suc j)) rest)
 
-  -- where each line begins
-  from-written : (k : ℕ) → k ≤ s .cells → from (s .cells) lines k ≡ linesFrom s k (s .cells - k)
-  unfolding from lines
-  from-written zero h = let e : s .cells - 0 ≡ s .cells = omega arith in rw e
-  from-written (suc k) h =
-      let e : from (s .cells) lines k ≡ lineOf s k ++ linesFrom s (suc k) (s .cells - suc k) = from-written k (omega arith) ∙ lines-step k (omega arith) in
-      rw (e, line-same k (linesFrom s (suc k) (s .cells - suc k))) (drop-append-seam (lineOf s k) _)
+    -- where each line begins
+    from-written : (j : ℕ) → j ≤ k → from (s .cells) lines j ≡ linesFrom s j (k - j) ++ rest
+    unfolding from
+    from-written zero h = let e : k - 0 ≡ k = omega arith in rw e
+    from-written (suc j) h =
+        let e : from (s .cells) lines j ≡ lineOf s j ++ (linesFrom s (suc j) (k - suc j) ++ rest) =
+        from-written j (omega arith) ∙ lines-step j (omega arith) in
+        rw (e, line-same j (linesFrom s (suc j) (k - suc j) ++ rest)) (drop-append-seam (lineOf s j) _)
 
-  at-line : (k : ℕ) → k < s .cells → from (s .cells) lines k ≡ lineOf s k ++ linesFrom s (suc k) (s .cells - suc k)
-  at-line k h = from-written k (omega arith) ∙ lines-step k h
+    at-line : (j : ℕ) → j < k → from (s .cells) lines j ≡ lineOf s j ++ (linesFrom s (suc j) (k - suc j) ++ rest)
+    at-line j h = from-written j (omega arith) ∙ lines-step j h
 
-  no-bad : badCell (s .cells) lines ≡ s .cells
-  unfolding badCell
-  no-bad = first-none (λ k. not (lineOk (s .cells) k (from (s .cells) lines k))) 0 (s .cells) (omega arith)
-      (λ k l h. ap not (ap (lineOk (s .cells) k) (at-line k h) ∙ line-well k _))
+    line-passed : (j : ℕ) → j < k → lineOk (s .cells) j (from (s .cells) lines j) ≡ true
+    line-passed j h = ap (lineOk (s .cells) j) (at-line j h) ∙ line-well j _
 
-  none-after : from (s .cells) lines (s .cells) ≡ []
-  unfolding linesFrom
-  none-after = let e : s .cells - s .cells ≡ 0 = omega arith in from-written (s .cells) (omega arith) ∙ rw e
+    rest-left : from (s .cells) lines k ≡ rest
+    unfolding linesFrom
+    rest-left = let e : k - k ≡ 0 = omega arith in from-written k (omega arith) ∙ rw e
 
-  -- what is read is the site
-  site-same : siteIn (s .cells) lines (s .slots) (s .channels) ≡ s
-  unfolding siteIn
-  site-same =
-      rw (
-        loads-fill (s .cells) lines (s .cells),
-        rows-fill (s .cells) lines (s .cells),
-        fill-is (λ j. loadIn j (from (s .cells) lines j)) (s .cells) (s .loads) (held .loads) (λ j h. ap (loadIn j) (at-line j h) ∙ line-load j _) (fine-loads s fine),
-        fill-is (λ j. rowIn (s .cells) j (from (s .cells) lines j)) (s .cells) (s .reach) (held .rows) (λ j h. ap (rowIn (s .cells) j) (at-line j h) ∙ line-row j _ h) (fine-rows-past s fine),
-      )
+    -- the first line is passed
+    module _ (slots channels : ℕ) where
+      first-passed : readSheet (header (s .cells) ++ lines) slots channels ≡ cellsRead (s .cells) lines slots channels
+      unfolding readSheet body
+      first-passed =
+          let u = fits .cells in
+          rw (head-written (s .cells) lines (u .0) (u .1), cells-written (s .cells) lines (u .1), drop-append-seam (header (s .cells)) lines)
 
-  cells-same : cellsRead (s .cells) lines (s .slots) (s .channels) ≡ record { site = s; answer = Done }
-  unfolding cellsRead judged
-  cells-same =
-      rw (no-bad, le-ltb (s .cells) (s .cells) (omega arith), none-after, site-same, fine)
+      -- and the next line is bad
+      pub bad-after : k < s .cells → lineOk (s .cells) k rest ≡ false → readSheet (header (s .cells) ++ lines) slots channels ≡ badAt (lineNumber k)
+      unfolding cellsRead badCell
+      bad-after low bad =
+          let is = first-is (λ j. not (lineOk (s .cells) j (from (s .cells) lines j))) 0 k (s .cells) (omega arith) low
+          (ap not (ap (lineOk (s .cells) k) rest-left ∙ bad)) (λ j g m. ap not (line-passed j m)) in
+          first-passed ∙ rw (is, lt-ltb k (s .cells) low)
 
-  -- "Reading a written sheet gives the site"
-  pub written-then-read : readSheet (sheetBytes s) (s .slots) (s .channels) ≡ record { site = s; answer = Done }
-  unfolding sheetBytes body lines
-  written-then-read =
-      let r = range in
-      way (sheetBytes s) (s .slots) (s .channels)
-      ∙ rw (head-written (s .cells) lines (r .0) (r .1), cells-written (s .cells) lines (r .1), drop-append-seam (header (s .cells)) lines) cells-same
+  -- the lines of all cells
+  module _ (rest : List ℕ) (slots channels : ℕ) where
+    abbrev all : List ℕ
+    all = lines (s .cells) rest
 
--- ---- read, then written
+    no-bad : badCell (s .cells) all ≡ s .cells
+    unfolding badCell
+    no-bad =
+        first-none (λ k. not (lineOk (s .cells) k (from (s .cells) all k))) 0 (s .cells) (omega arith)
+        (λ k l h. ap not (line-passed (s .cells) rest k h))
 
--- what the lines make, where all of them are of the format and nothing stands after them
-module _ (n : ℕ) (r : List ℕ) (slots channels : ℕ) (few : n ≤ 32) (whole : badCell n r ≡ n) (none : from n r n ≡ []) where
-  read : Site
-  read = siteIn n r slots channels
+    -- and something after them
+    pub extra-after : 0 < length rest → readSheet (header (s .cells) ++ all) slots channels ≡ badAt (lineNumber (s .cells))
+    unfolding cellsRead
+    extra-after h =
+        first-passed (s .cells) rest slots channels
+        ∙ rw (no-bad, le-ltb (s .cells) (s .cells) (omega arith), rest-left (s .cells) rest, lt-ltb 0 (length rest) h)
 
-  well : (k : ℕ) → k < n → lineOk n k (from n r k) ≡ true
-  unfolding badCell
-  well k h = not-false _ (first-before (λ j. not (lineOk n j (from n r j))) 0 n k (omega arith) (omega arith))
+    -- what is read is what was written
+    site-same : siteIn (s .cells) all slots channels ≡ siteOf (s .cells) slots channels (s .loads) (s .reach)
+    unfolding siteIn
+    site-same =
+        rw (
+          loads-fill (s .cells) all (s .cells),
+          rows-fill (s .cells) all (s .cells),
+          fill-is (λ j. loadIn j (from (s .cells) all j)) (s .cells) (s .loads) (fits .held .loads)
+              (λ j h. ap (loadIn j) (at-line (s .cells) rest j h) ∙ line-load j _) (fits .loads-past),
+          fill-is (λ j. rowIn (s .cells) j (from (s .cells) all j)) (s .cells) (s .reach) (fits .held .rows)
+              (λ j h. ap (rowIn (s .cells) j) (at-line (s .cells) rest j h) ∙ line-row j _ h) (fits .rows-past),
+        )
 
-  next : (k : ℕ) → k < n → from n r k ≡ lineIn n k (from n r k) ++ from n r (suc k)
-  unfolding from
-  next k h = line-there n k (from n r k) (well k h) .1
+    all-judged : rest ≡ [] → readSheet (header (s .cells) ++ all) slots channels ≡ judged (siteOf (s .cells) slots channels (s .loads) (s .reach))
+    unfolding cellsRead
+    all-judged e =
+        first-passed (s .cells) rest slots channels
+        ∙ rw (no-bad, le-ltb (s .cells) (s .cells) (omega arith), rest-left (s .cells) rest, site-same, e)
 
-  load-is : (k : ℕ) → k < n → loadAt read k ≡ loadIn k (from n r k)
-  unfolding read siteIn
-  load-is k h = rw (loads-fill n r n) (fill-at (λ j. loadIn j (from n r j)) n k h (omega arith))
+  -- reading the sheet of a record, fine or not, is judging the record
+  pub sheet-judged : readSheet (sheetBytes s) (s .slots) (s .channels) ≡ judged s
+  unfolding sheetBytes
+  sheet-judged =
+      ap (λ (r : List ℕ). readSheet (header (s .cells) ++ r) (s .slots) (s .channels)) (sym (append-nil (linesFrom s 0 (s .cells))))
+      ∙ all-judged [] (s .slots) (s .channels) refl
 
-  row-is : (k : ℕ) → k < n → rowOf read k ≡ rowIn n k (from n r k)
-  unfolding read siteIn
-  row-is k h = rw (rows-fill n r n) (fill-at (λ j. rowIn n j (from n r j)) n k h (omega arith))
+-- a fine record can be held
+pub fine-fits : (s : Site) → Held s → ((k : ℕ) → loadAt s k ≤ 65535) → faultOf s ≡ Fine → FitsSheet s
+fine-fits s held few fine =
+    let r = sizes _ _ _ (fine-sound s fine .sizes) in
+    record {
+      held = held;
+      few = few;
+      cells = (r .cells-some, r .cells-most);
+      loads-past = fine-loads s fine;
+      rows-past = fine-rows-past s fine;
+      rows = λ k h. fine-rows s fine k h .0;
+    }
 
-  marks-are : (k : ℕ) → k < n → marks (bitsOf (rowOf read k)) 0 n ≡ marks (markAt (marksIn k (from n r k))) 0 n
-  unfolding rowIn bitsOf
-  marks-are k h =
-      marks-same (bitsOf (rowOf read k)) (markAt (marksIn k (from n r k))) n 0
-      (λ i l. rw (row-is k h, zero-add i) (weigh-bit (markAt (marksIn k (from n r k))) (mark-two (marksIn k (from n r k))) n i 0 l ∙ ap (markAt (marksIn k (from n r k))) (zero-add i)))
-
-  line-is : (k : ℕ) → k < n → lineOf read k ≡ lineIn n k (from n r k)
-  unfolding lineOf lineIn cellLine read siteIn
-  line-is k h = rw (load-is k h, marks-are k h)
-
-  lines-are : (d k : ℕ) → k + d ≡ n → linesFrom read k d ≡ from n r k
-  unfolding linesFrom
-  lines-are zero k e = let g : n ≡ k = omega arith in sym (ap (from n r) (sym g) ∙ none)
-  lines-are (suc d) k e =
-      rw (line-is k (omega arith), lines-are d (suc k) (omega arith)) (sym (next k (omega arith)))
-
--- which way the choices went
-done-at : (t u v : Bool) (a b c : ℕ) (j : SheetRead) → pick t (pick u (badAt a) (pick v (badAt b) j)) (badAt c) .answer ≡ Done →
-    (t ≡ true) × (u ≡ false) × (v ≡ false) × (j .answer ≡ Done)
-unfolding badAt
-done-at false u v a b c j e = let z : _≡_ {A = ℕ} 0 1 = cc in absurd (omega arith)
-done-at true true v a b c j e = let z : _≡_ {A = ℕ} 0 1 = cc in absurd (omega arith)
-done-at true false true a b c j e = let z : _≡_ {A = ℕ} 0 1 = cc in absurd (omega arith)
-done-at true false false a b c j e = (refl, refl, refl, e)
-
--- a record that is accepted has no fault, and is the answer
-judged-at : (s : Site) (f : Fault) → faultOf s ≡ f → judged s .answer ≡ Done → (f ≡ Fine) × (judged s .site ≡ s)
+-- "Reading a written sheet gives the site"
+pub written-then-read : (s : Site) → FitsSheet s → faultOf s ≡ Fine → readSheet (sheetBytes s) (s .slots) (s .channels) ≡ record { site = s; answer = Done }
 unfolding judged
-judged-at s Fine q e = (refl, rw q)
-judged-at s Size q e = let w = rw q at e in let z : _≡_ {A = ℕ} 0 1 = cc in absurd (omega arith)
-judged-at s (Load k) q e = let w = rw q at e in let z : _≡_ {A = ℕ} 0 1 = cc in absurd (omega arith)
-judged-at s (Reach k) q e = let w = rw q at e in let z : _≡_ {A = ℕ} 0 1 = cc in absurd (omega arith)
+written-then-read s fits fine = sheet-judged s fits ∙ rw fine
 
-no-length : (l : List ℕ) → length l ≤ 0 → l ≡ []
-no-length [] h = refl
-no-length (x ∷ l) h = absurd (omega arith)
+-- ---- lines that are passed
 
-module _ (b : List ℕ) (slots channels : ℕ) (accepted : readSheet b slots channels .answer ≡ Done) where
-  abbrev cells : ℕ
-  cells = cellsIn b
+-- the site that the first k lines make
+abbrev pub made : ℕ → List ℕ → ℕ → ℕ → ℕ → Site
+made n r slots channels k = siteOf n slots channels (loadsIn n r k) (rowsIn n r k)
 
-  ways : (headOk b ≡ true) × (ltb (badCell cells (body b)) cells ≡ false) × (ltb 0 (length (from cells (body b) cells)) ≡ false)
-      × (judged (siteIn cells (body b) slots channels) .answer ≡ Done)
-  unfolding cellsRead
-  ways =
-      done-at (headOk b) (ltb (badCell cells (body b)) cells) (ltb 0 (length (from cells (body b) cells))) _ _ 1
-      (judged (siteIn cells (body b) slots channels)) (sym (ap (λ (r : SheetRead). r .answer) (way b slots channels)) ∙ accepted)
+module _ (n : ℕ) (r : List ℕ) (slots channels k : ℕ) (cells : UpTo 32 n) (most : k ≤ n) (well : (j : ℕ) → j < k → lineOk n j (from n r j) ≡ true) where
+  next : (j : ℕ) → j < k → from n r j ≡ lineIn n j (from n r j) ++ from n r (suc j)
+  unfolding from
+  next j h = line-there n j (from n r j) (well j h) .1
 
-  pub all-well : badCell cells (body b) ≡ cells
-  unfolding badCell
-  all-well = let h : cells ≤ badCell cells (body b) = ltb-false _ _ (ways .1) in omega (arith, first-most (λ k. not (lineOk cells k (from cells (body b) k))) 0 cells (omega arith))
+  load-is : (j : ℕ) → j < k → loadAt (made n r slots channels k) j ≡ loadIn j (from n r j)
+  load-is j h = rw (loads-fill n r k) (fill-at (λ i. loadIn i (from n r i)) k j h (omega arith))
 
-  no-more : from cells (body b) cells ≡ []
-  no-more = no-length _ (ltb-false _ _ (ways .2))
+  row-is : (j : ℕ) → j < k → rowOf (made n r slots channels k) j ≡ rowIn n j (from n r j)
+  row-is j h = rw (rows-fill n r k) (fill-at (λ i. rowIn n i (from n r i)) k j h (omega arith))
 
-  kept : (faultOf (siteIn cells (body b) slots channels) ≡ Fine) × (judged (siteIn cells (body b) slots channels) .site ≡ siteIn cells (body b) slots channels)
-  kept = judged-at (siteIn cells (body b) slots channels) (faultOf (siteIn cells (body b) slots channels)) refl (ways .3)
+  line-is : (j : ℕ) → j < k → lineOf (made n r slots channels k) j ≡ lineIn n j (from n r j)
+  unfolding lineOf
+  line-is j h = rw (load-is j h, row-is j h) (line-content n j (from n r j))
 
-  pub site-read : readSheet b slots channels .site ≡ siteIn cells (body b) slots channels
-  unfolding cellsRead
-  site-read = ap (λ (r : SheetRead). r .site) (way b slots channels) ∙ rw (ways .0, ways .1, ways .2) (kept .1)
+  -- they are its lines
+  pub lines-made : (d j : ℕ) → j + d ≡ k → from n r j ≡ linesFrom (made n r slots channels k) j d ++ from n r k
+  unfolding linesFrom
+  lines-made zero j e = let g : j ≡ k = omega arith in ap (from n r) g
+  lines-made (suc d) j e =
+      let m = made n r slots channels k in
+      next j (omega arith)
+      ∙ rw (line-is j (omega arith), append-assoc (lineIn n j (from n r j)) (linesFrom m (suc j) d) (from n r k))
+      (ap (λ (x : List ℕ). lineIn n j (from n r j) ++ x) (lines-made d (suc j) (omega arith)))
 
-  -- what is read has no fault
-  pub read-fine : faultOf (readSheet b slots channels .site) ≡ Fine
-  read-fine = ap faultOf site-read ∙ kept .0
+  loads-few : (j : ℕ) → Dec (j < k) → loadAt (made n r slots channels k) j ≤ 65535
+  loads-few j (yes h) = omega (arith, load-is j h, line-there n j (from n r j) (well j h) .0)
+  loads-few j (no h) = rw (loads-fill n r k, fill-past (λ i. loadIn i (from n r i)) k j (omega arith)) (omega arith)
 
-  -- "an accepted sheet written again is the same bytes"
-  pub read-then-written : sheetBytes (readSheet b slots channels .site) ≡ b
-  unfolding sheetBytes body siteIn from read
-  read-then-written =
-      rw site-read
-      (ap (λ (l : List ℕ). header cells ++ l) (lines-are cells (body b) slots channels (cells-few b) all-well no-more cells 0 (omega arith))
-      ∙ sym (head-is b (ways .0) .1))
+  rows-narrow : (j : ℕ) → Dec (j < k) → rowOf (made n r slots channels k) j < 2 ^ n
+  unfolding rowIn
+  rows-narrow j (yes h) = rw (row-is j h) (weigh-lt (markAt (marksIn j (from n r j))) (mark-two (marksIn j (from n r j))) n 0)
+  rows-narrow j (no h) = rw (rows-fill n r k, fill-past (λ i. rowIn n i (from n r i)) k j (omega arith)) (pow-pos n)
+
+  -- and a sheet can hold it
+  pub fits-made : FitsSheet (made n r slots channels k)
+  fits-made =
+      let wide : 2 ^ n ≤ 2 ^ 32 = pow-le-pow-right (zero-lt-suc 1) (cells .1) in
+      record {
+        held =
+            record {
+              loads = rw (loads-fill n r k) (fill-long _ k);
+              rows = rw (rows-fill n r k) (fill-long _ k);
+              bits = λ j l. omega (arith, rows-narrow j (decLt j k), wide);
+            };
+        few = λ j. loads-few j (decLt j k);
+        cells = cells;
+        loads-past = λ j l h. rw (loads-fill n r k) (fill-past (λ i. loadIn i (from n r i)) k j (omega arith));
+        rows-past = λ j l h. rw (rows-fill n r k) (fill-past (λ i. rowIn n i (from n r i)) k j (omega arith));
+        rows = λ j h. rows-narrow j (decLt j k);
+      }

@@ -1,38 +1,68 @@
--- What the reader's answer means, said a second time; proofs/Answers shows that the answer says this and nothing else.
-use Prim.Native.Nat.{ℕ, _+_, _<_, _≤_}
+-- What the reader's answer means, said a second time over the format alone: no word of how the reader goes.
+-- proofs/Answers shows that the answer says this and nothing else.
+use Prim.Native.Nat.{ℕ, _+_, _*_, _^_, _<_, _≤_}
 use mathlib.Core.Path.{_≡_}
-use mathlib.Core.Bool.{Bool, true, false, _&&_}
-use mathlib.Core.List.{List}
-use lib.Dec.{ltb, eqb}
+use mathlib.Core.Bool.{true, false, _&&_}
+use mathlib.Core.List.{List, _∷_, _++_}
+use lib.Dec.{ltb}
+use lib.ListN.{length}
 use Rattle.laws.specs.Choice.{pick}
 use Rattle.laws.specs.Search.{first}
-use Rattle.lines.specs.Content.{marksIn, markAt}
-use Rattle.site.specs.Record.{loadAt, faultOf, upTo}
+use Rattle.text.specs.Decimal.{decimal}
+use Rattle.lines.specs.Format.{header, label, cellLine, bitsOf}
+use Rattle.site.specs.Record.{loadAt, rowOf, upTo}
+use Rattle.site.specs.Reach.{reaches}
+use Rattle.site.specs.Means.{UpTo}
 use Rattle.site.specs.declared.Site.{Site}
 use Rattle.site.specs.declared.Fault.{Fault}
 use Rattle.site.specs.declared.Fault.the-variants.{Fine, Size, Reach}
 use Rattle.sitefile.specs.Held.{Held}
-use Rattle.sheet.specs.Sheet.{sheetBytes}
-use Rattle.sheet.specs.Read.{from, lineGood}
+use Rattle.sheet.specs.Sheet.{linesFrom, sheetBytes}
 
--- line l is the first bad line: it is not as the format asks, and all before it are
-pub record FirstBad (b : List ℕ) (l : ℕ) : Type 0 where
-  pub bad : lineGood b l ≡ false
-  pub before : (j : ℕ) → j < l → lineGood b j ≡ true
-
--- the bytes are the sheet of this site: one in order, with these slots and channels. `held` and `few` are what the types of the code give: 32 loads of 16 bits and 32 rows of 32 bits
-pub record SheetOf (b : List ℕ) (slots channels : ℕ) (s : Site) : Type 0 where
+-- a record that a sheet can hold, fine or not: 1 to 32 cells, and no load, row or bit beyond them. Its slots and channels may be out of range, and a cell may
+-- mark itself. `held` and `few` are what the types of the code give: 32 loads of 16 bits and 32 rows of 32 bits
+pub record FitsSheet (s : Site) : Type 0 where
   pub held : Held s
   pub few : (k : ℕ) → loadAt s k ≤ 65535
-  pub fine : faultOf s ≡ Fine
+  pub cells : UpTo 32 (s .cells)
+  pub loads-past : (k : ℕ) → s .cells ≤ k → k < 32 → loadAt s k ≡ 0
+  pub rows-past : (k : ℕ) → s .cells ≤ k → k < 32 → rowOf s k ≡ 0
+  pub rows : (k : ℕ) → k < s .cells → rowOf s k < 2 ^ s .cells
+
+-- "its first bad line (from 1; missing and extra lines count)": line l of the bytes b
+pub data FirstBad (b : List ℕ) (l : ℕ) : Type 0 where
+  -- b begins with no first line, of any number of cells
+  no-first-line : l ≡ 1 → ((n : ℕ) (r : List ℕ) → UpTo 32 n → b ≡ header n ++ r → ⊥) → FirstBad b l
+  -- a first line and the lines of k cells stand there, as the format has them, and then no line of the next cell, whatever its load and its marks
+  no-cell-line : (s : Site) (k : ℕ) (rest : List ℕ) → l ≡ k + 2 → FitsSheet s → k < s .cells → b ≡ header (s .cells) ++ (linesFrom s 0 k ++ rest)
+      → ((load row : ℕ) (r : List ℕ) → load ≤ 65535 → rest ≡ cellLine (s .cells) k load (bitsOf row) ++ r → ⊥) → FirstBad b l
+  -- a whole sheet stands there, and something after it
+  one-too-many : (s : Site) (x : ℕ) (rest : List ℕ) → l ≡ s .cells + 2 → FitsSheet s → b ≡ sheetBytes s ++ (x ∷ rest) → FirstBad b l
+
+-- the bytes are the sheet of this record, and it has these slots and channels
+pub record SheetOf (b : List ℕ) (slots channels : ℕ) (s : Site) : Type 0 where
+  pub fits : FitsSheet s
   pub slots-are : s .slots ≡ slots
   pub channels-are : s .channels ≡ channels
   pub bytes : sheetBytes s ≡ b
 
--- the lowest cell, by index, that marks itself; n where none does
-unfoldable pub ownMark : ℕ → List ℕ → ℕ
-ownMark n r = first (λ k. eqb (markAt (marksIn k (from n r k)) k) 1) 0 n
+-- the lowest cell, by index, that reaches itself; I where none does
+unfoldable pub ownMark : Site → ℕ
+ownMark s = first (λ k. reaches (s .reach) k k) 0 (s .cells)
 
 -- "after it 1, then 3 for a mark on oneself": slots or channels out of range, then the lowest row that marks itself; never 2
-unfoldable pub sheetFault : ℕ → List ℕ → ℕ → ℕ → Fault
-sheetFault n r slots channels = pick (upTo 128 slots && upTo 16 channels) (pick (ltb (ownMark n r) n) (Reach (ownMark n r + 1)) Fine) Size
+unfoldable pub sheetFault : Site → Fault
+sheetFault s = pick (upTo 128 (s .slots) && upTo 16 (s .channels)) (pick (ltb (ownMark s) (s .cells)) (Reach (ownMark s + 1)) Fine) Size
+
+-- when it is 3, word for word: slots and channels are in range, and the cell at index k is the lowest that marks itself
+pub record MarksItself (s : Site) (k : ℕ) : Type 0 where
+  pub slots : UpTo 128 (s .slots)
+  pub channels : UpTo 16 (s .channels)
+  pub cell : k < s .cells
+  pub itself : reaches (s .reach) k k ≡ true
+  pub lower : (j : ℕ) → j < k → reaches (s .reach) j j ≡ false
+
+-- where the mark of the cell at index b stands, in the line of the cell at index a: after the first line, the lines before, the cell's number and comma, its
+-- load, and for each mark before it a comma and a digit, then a comma
+unfoldable pub markPlace : Site → ℕ → ℕ → ℕ
+markPlace s a b = length (header (s .cells)) + (length (linesFrom s 0 a) + (length (label a) + (length (decimal (loadAt s a)) + (2 * b + 1))))

@@ -1,9 +1,9 @@
 -- What reading a sheet answers, over its lines: the first bad line, then what is wrong with the record that the lines make.
 use Prim.Native.Nat.{ℕ, zero, suc, _+_}
-use mathlib.Core.Bool.{Bool, true, not}
+use mathlib.Core.Bool.{not}
 use mathlib.Core.List.{List}
 use lib.ListN.{length, drop, set, replicate}
-use lib.Dec.{ltb, eqb}
+use lib.Dec.{ltb}
 use Rattle.laws.specs.Choice.{pick}
 use Rattle.laws.specs.Search.{first}
 use Rattle.lines.specs.Format.{header}
@@ -33,21 +33,7 @@ rowsIn n r (suc k) = set (rowsIn n r k) k (rowIn n k (from n r k))
 unfoldable pub siteIn : ℕ → List ℕ → ℕ → ℕ → Site
 siteIn n r slots channels = siteOf n slots channels (loadsIn n r n) (rowsIn n r n)
 
--- ---- the lines of a sheet by their numbers, from 1
-
-unfoldable pub body : List ℕ → List ℕ
-body b = drop (length (header (cellsIn b))) b
-
--- whether line l is as the format asks: line 1 is the first line, line k + 2 that of the cell at index k; after the lines of all the cells nothing may stand
-unfoldable pub lineGood : List ℕ → ℕ → Bool
-lineGood b zero = true
-lineGood b (suc zero) = headOk b
-lineGood b (suc (suc k)) =
-    pick (ltb k (cellsIn b)) (lineOk (cellsIn b) k (from (cellsIn b) (body b) k)) (eqb (length (from (cellsIn b) (body b) (cellsIn b))) 0)
-
--- "its first bad line (from 1; missing and extra lines count)": the last that can be bad is the one after all the cells' lines, I + 2; I + 3 where none is
-unfoldable pub badLine : List ℕ → ℕ
-badLine b = first (λ l. not (lineGood b l)) 1 (cellsIn b + 3)
+-- ---- the answer
 
 -- "17, sheet malformed, with its first bad line"; "each gives a site of zeros"
 unfoldable pub badAt : ℕ → SheetRead
@@ -57,16 +43,24 @@ badAt line = record { site = zeroSite; answer = BadLine line }
 unfoldable pub judged : Site → SheetRead
 judged s = pick (isFine (faultOf s)) (record { site = s; answer = Done }) (record { site = zeroSite; answer = Refused (faultOf s) })
 
-unfoldable pub readSheet : List ℕ → ℕ → ℕ → SheetRead
-readSheet b slots channels = pick (ltb (badLine b) (cellsIn b + 3)) (badAt (badLine b)) (judged (siteIn (cellsIn b) (body b) slots channels))
-
--- ---- the same for what stands after the first line, r, by the cells' indices
+-- the number of the line of the cell at index k: the first line is line 1
+abbrev pub lineNumber : ℕ → ℕ
+lineNumber k = k + 2
 
 -- the index of the first line that is not good; n where all are
 unfoldable pub badCell : ℕ → List ℕ → ℕ
 badCell n r = first (λ k. not (lineOk n k (from n r k))) 0 n
 
+-- the lines of n cells, and nothing after them: "missing and extra lines count"
 unfoldable pub cellsRead : ℕ → List ℕ → ℕ → ℕ → SheetRead
 cellsRead n r slots channels =
-    pick (ltb (badCell n r) n) (badAt (badCell n r + 2))
-    (pick (ltb 0 (length (from n r n))) (badAt (n + 2)) (judged (siteIn n r slots channels)))
+    pick (ltb (badCell n r) n) (badAt (lineNumber (badCell n r)))
+    (pick (ltb 0 (length (from n r n))) (badAt (lineNumber n)) (judged (siteIn n r slots channels)))
+
+-- what stands after the first line
+unfoldable pub body : List ℕ → List ℕ
+body b = drop (length (header (cellsIn b))) b
+
+-- the first line, and then those of the cells
+unfoldable pub readSheet : List ℕ → ℕ → ℕ → SheetRead
+readSheet b slots channels = pick (headOk b) (cellsRead (cellsIn b) (body b) slots channels) (badAt 1)

@@ -47,19 +47,19 @@ returns c = let e = c .before .before in
     c .no-flow .ensures ∙ no-line _ _ (short e) (e .before .before .before .before .before .read-field .result) (e .before .before .before .before .read-field2 .result) (e .before .before .before .read-field3 .result) (e .before .before .read-field4 .result) (e .before .read-field5 .result) (e .eat .result) (e .before .before .before .before .before .read-field .ensures) (e .before .before .before .before .read-field2 .ensures) (e .before .before .before .read-field3 .ensures) (e .before .before .read-field4 .ensures) (e .before .read-field5 .ensures) (e .eat .ensures) (c .before .if1 .taken)
 
 cast-t11 : tie.Need-cast-t11
-cast-t11 c = record { fits = omega (arith, fits (c .before) .0) }
+cast-t11 c = record { fits = omega (arith, fits (c .before)) }
 
 cast-t12 : tie.Need-cast-t12
-cast-t12 c = record { fits = omega (arith, fits (c .before .before) .1) }
+cast-t12 c = record { fits = omega (arith, fits (c .before .before)) }
 
 cast-t13 : tie.Need-cast-t13
-cast-t13 c = record { fits = omega (arith, fits (c .before .before .before) .2) }
+cast-t13 c = record { fits = omega (arith, fits (c .before .before .before)) }
 
 cast-t14 : tie.Need-cast-t14
-cast-t14 c = record { fits = omega (arith, fits (c .before .before .before .before) .3) }
+cast-t14 c = record { fits = omega (arith, fits (c .before .before .before .before)) }
 
 cast-t15 : tie.Need-cast-t15
-cast-t15 c = record { fits = omega (arith, fits (c .before .before .before .before .before) .4) }
+cast-t15 c = record { fits = omega (arith, fits (c .before .before .before .before .before)) }
 
 returns-2 : tie.Need-returns-2
 returns-2 c = let i = c .before .before .before .before .before in

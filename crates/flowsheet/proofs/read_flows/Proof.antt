@@ -7,7 +7,7 @@ use denote.Ref.{now}
 use Rattle.lines.specs.Match.{nowhere, eaten}
 use Rattle.flowsheet.specs.Format.{flowHead}
 use Rattle.flowsheet.proofs.Reading.{no-head, after-head}
-use Rattle.flowsheet.proofs.Trip.{few-read}
+use Rattle.flowsheet.proofs.Answers.{few-read}
 use borrow.Author.Needs.{needs}
 use Rattle.flowsheet.proofs.read_flows.Statement.{statement}
 use Rattle.flowsheet.proofs.read_flows.Tie as tie

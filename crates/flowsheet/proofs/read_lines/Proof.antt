@@ -1,13 +1,13 @@
 -- `flowsheet::read_lines` meets its contract: the flows of what is left, from here, are the whole answer. Assumes nothing.
 use native.Mathlib.Omega.{arith}
 use Prim.Native.Nat.{suc, _+_, _-_, _≤_, _<_}
-use mathlib.Core.Path.{_≡_, ap, _∙_}
+use mathlib.Core.Path.{_≡_, sym, ap, _∙_}
 use lib.ListN.{length, drop}
 use denote.Ref.{now}
 use Rattle.lines.specs.Match.{nowhere}
 use Rattle.flowlist.specs.List.{noFlows}
 use Rattle.flowlist.specs.declared.FlowList.{FlowList}
-use Rattle.flowsheet.specs.Read.{badAt, flowsFrom}
+use Rattle.flowsheet.specs.Read.{badAt, lineNumber, flowsFrom}
 use Rattle.flowsheet.proofs.Reading.{none-yet, ended, full, stopped, passed}
 use borrow.Author.Needs.{needs}
 use Rattle.flowsheet.proofs.read_lines.Statement.{statement}
@@ -49,7 +49,7 @@ returns-2 : tie.Need-returns-2 Inv-loop μ-loop
 returns-2 c = let r = c .before .before in
     let l = r .before .before .before in
     let e : 16 - l .loop .k ≡ suc (15 - l .loop .k) = omega arith in
-    let n : l .loop .k + 2 ≡ l .loop .l .count + 2 = omega (arith, l .loop .inv .1) in
+    let n : lineNumber (l .loop .k) ≡ lineNumber (l .loop .l .count) = ap lineNumber (sym (l .loop .inv .1)) in
     c .bad-at .ensures ∙ ap badAt n
     ∙ stopped _ (l .loop .p) (shorter l) (omega arith) (r .read-flow .result) (r .read-flow .ensures) (15 - l .loop .k) (l .loop .l) (c .before .if2 .taken)
     ∙ rw e at (l .loop .inv .2)
