@@ -1,5 +1,5 @@
--- The words of demands 2 and 3, over site records and tables. A site is accepted when its record has none of the faults 1, 2 and 3, and a table is valid by the paper's
--- definition, `Valid`, whatever the checker says of it; that the checker says the same is a theorem.
+-- The words of demands 2 and 3, over site records and tables. A site is accepted when its record has none of the faults 1, 2 and 3, and a table is valid by the
+-- paper's Definition 1, whatever the checker says of it; that the checker says the same is a theorem. Cells and positions are counted from 0.
 use mathlib.Core.Path.{_≡_}
 use mathlib.Core.Bool.{true}
 use mathlib.Core.List.{List}
@@ -7,9 +7,10 @@ use Prim.Native.Nat.{ℕ, _+_, _≤_, _<_}
 use lib.ListN.{length}
 use Rattle.laws.specs.Choice.{pick}
 use Rattle.laws.specs.Sum.{count, sum}
-use Rattle.theory.specs.Greedy.{reserved}
+use Rattle.theory.specs.Greedy.{Outcome, reserved}
+use Rattle.theory.specs.Figure.{figureOne}
 use Rattle.site.specs.Record.{positions, loadAt, faultOf, size}
-use Rattle.site.specs.Reach.{clashOf}
+use Rattle.site.specs.Reach.{clashOf, netOf}
 use Rattle.site.specs.Given.{faultGiven}
 use Rattle.site.specs.declared.Site.{Site}
 use Rattle.promises.specs.Numbers.{done}
@@ -49,6 +50,10 @@ ChainedSite s =
 -- "for each cell, its load plus the loads of its lower-numbered clashing cells is at most N (000, claim C1)." W2: "the load test skips cells with load 0".
 abbrev pub ClaimOne : Site → Type 0
 ClaimOne s = (i : ℕ) → i < s .cells → 0 < loadAt s i → loadAt s i + sum (λ j. pick (clashOf s j i) (loadAt s j) 0) i ≤ positions s
+
+-- "the paper's greedy schedule" (000, Figure 1) of a site: a table, or the cell that finds no room. Its lines stand in theory/specs/Figure.antt.
+abbrev pub greedySchedule : Site → Outcome
+greedySchedule s = figureOne (netOf s) (s .slots) (s .channels)
 
 -- "a site with the same cells, loads and reach": its slots and channels may be others
 pub record Alike (other site : Site) : Type 0 where

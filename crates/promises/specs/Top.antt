@@ -7,9 +7,7 @@ use mathlib.Core.Logic.{_↔_}
 use mathlib.Core.List.{List, [], _∷_, _++_}
 use Prim.Native.Nat.{ℕ, _≤_}
 use lib.ListN.{length, take, drop}
-use Rattle.theory.specs.Figure.{figureOne}
 use Rattle.site.specs.Record.{size}
-use Rattle.site.specs.Reach.{netOf}
 use Rattle.site.specs.declared.Site.{Site}
 use Rattle.judges.specs.Given.{loadGiven, chainGiven}
 use Rattle.judges.specs.declared.LoadAnswer.{LoadAnswer}
@@ -35,7 +33,7 @@ use Rattle.contracts.specs.CheckerSays.{Check}
 use Rattle.contracts.specs.SitefileSays.{ReadSite, WriteSite}
 use Rattle.contracts.specs.PlanfileSays.{ReadPlan, WritePlan}
 use Rattle.promises.specs.Numbers.{done, doneWith, runGiven}
-use Rattle.promises.specs.Demands.{Accepted, LongEnough, DefinitionOne, Easier, ChainedSite, ClaimOne}
+use Rattle.promises.specs.Demands.{Accepted, LongEnough, DefinitionOne, Easier, ChainedSite, ClaimOne, greedySchedule}
 use Rattle.promises.specs.Untouched.{IdleIfNoRoom, Untouched, UntouchedInC}
 
 -- That every function ends, and stays within what it is lent, is the prover's own. That no call of the product asks anything of its caller (a `requires`) is
@@ -50,11 +48,10 @@ pub record DemandOne : Type 0 where
   pub others-untouched-in-c : UntouchedInC
 
 pub record DemandTwo : Type 0 where
-  -- "The plan equals the paper's greedy schedule, mark for mark": Figure 1 comes to a table, or to a cell that finds no room; bytes past the site's part stay
+  -- "The plan equals the paper's greedy schedule, mark for mark": number, table, and the bytes past the site's part as they were
   pub plan-is-figure-one : (site : Site) → Accepted site
       → (lent left : List ℕ) (answer : PlanAnswer) → LongEnough site lent → Plan site lent answer left
-      → let figure = figureOne (netOf site) (site .slots) (site .channels) in
-      (planGiven answer ≡ runGiven figure) × (left ≡ tableOf (size site) figure ++ drop (size site) lent)
+      → (planGiven answer ≡ runGiven (greedySchedule site)) × (left ≡ tableOf (size site) (greedySchedule site) ++ drop (size site) lent)
   -- "The checker says yes exactly to the paper's valid schedules."
   pub yes-is-valid : (site : Site) (table : List ℕ) (answer : CheckAnswer) → Check site table answer
       → checkGiven answer ≡ done ↔ ((Accepted site) × (LongEnough site table) × (DefinitionOne site table))
