@@ -4,7 +4,7 @@ use mathlib.Core.Path.{_≡_, sym, _∙_}
 use mathlib.Core.List.{List}
 use Prim.Native.Nat.{ℕ}
 use Rattle.flowlist.specs.declared.Flow.{Flow}
-use Rattle.promises.specs.CapiSays.{DuggAdmit, DuggChain, DuggCheck, DuggCheckWords, DuggClash, DuggClearReach, DuggFault, DuggLeast, DuggLoadTest, DuggMend, DuggPlan, DuggPlanWords, DuggReadPlan, DuggReadSheet, DuggReadSite, DuggSetLoad, DuggSetReach, DuggShare, DuggShareRepeated, DuggToBytes, DuggToWords, DuggWritePlan, DuggWriteSheet, DuggWriteSite}
+use Rattle.promises.specs.CapiSays.{DuggAdmit, DuggChain, DuggCheck, DuggCheckWords, DuggClash, DuggClearReach, DuggFault, DuggHeaviest, DuggLeast, DuggLoadTest, DuggMend, DuggPlan, DuggPlanWords, DuggReadPlan, DuggReadSheet, DuggReadSite, DuggSetLoad, DuggSetReach, DuggShare, DuggShareRepeated, DuggToBytes, DuggToWords, DuggWritePlan, DuggWriteSheet, DuggWriteSite}
 use Rattle.site.specs.declared.Site.{Site}
 use Rattle.told.specs.declared.Answer.{Answer}
 use Rattle.told.specs.declared.EditedSite.{EditedSite}
@@ -41,6 +41,10 @@ duggChain-one site r q says also = says .answer ∙ sym (also .answer)
 -- capi::dugg_least
 pub duggLeast-one : (site : Site) (r q : Answer) → DuggLeast site r → DuggLeast site q → (r ≡ q)
 duggLeast-one site r q says also = says .answer ∙ sym (also .answer)
+
+-- capi::dugg_heaviest
+pub duggHeaviest-one : (site : Site) (r q : Answer) → DuggHeaviest site r → DuggHeaviest site q → (r ≡ q)
+duggHeaviest-one site r q says also = says .answer ∙ sym (also .answer)
 
 -- capi::dugg_plan
 pub duggPlan-one : (site : Site) (table : List ℕ) (r q : Answer) (table′ table″ : List ℕ) → DuggPlan site table r table′ → DuggPlan site table q table″ → (r ≡ q) × (table′ ≡ table″)

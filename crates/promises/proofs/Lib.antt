@@ -6,6 +6,7 @@ pub mod Demand2
 pub mod Names
 pub mod Demand3
 pub mod Least
+pub mod Heaviest
 pub mod Files
 pub mod Sheets
 pub mod Admission
@@ -26,6 +27,7 @@ pub mod MenderOne
 pub mod SharesOne
 pub mod FlowlistOne
 pub mod BestsetOne
+pub mod HeaviestOne
 pub mod AdmissionOne
 pub mod RecordsOne
 pub mod SitefileOne

@@ -3,6 +3,7 @@
 use mathlib.Core.Path.{_≡_, sym, _∙_}
 use Rattle.admission.specs.declared.AdmitAnswer.{AdmitAnswer}
 use Rattle.checker.specs.declared.CheckAnswer.{CheckAnswer}
+use Rattle.heaviest.specs.declared.HeaviestAnswer.{HeaviestAnswer}
 use Rattle.judges.specs.declared.ChainAnswer.{ChainAnswer}
 use Rattle.judges.specs.declared.LeastAnswer.{LeastAnswer}
 use Rattle.judges.specs.declared.LoadAnswer.{LoadAnswer}
@@ -10,7 +11,7 @@ use Rattle.mender.specs.declared.MendAnswer.{MendAnswer}
 use Rattle.planfile.specs.declared.PlanRead.{PlanRead}
 use Rattle.planfile.specs.declared.PlanWritten.{PlanWritten}
 use Rattle.planner.specs.declared.PlanAnswer.{PlanAnswer}
-use Rattle.promises.specs.ToldSays.{ToldAdmitAnswer, ToldChainAnswer, ToldCheckAnswer, ToldClashAnswer, ToldEditedAnswer, ToldFaultAnswer, ToldFormAnswer, ToldLeastAnswer, ToldLoadAnswer, ToldMendAnswer, ToldPlanAnswer, ToldPlanRead, ToldPlanWritten, ToldReadAnswer, ToldShareAnswer, ToldSheetAnswer, ToldSheetRead, ToldSheetWritten, ToldSiteRead, ToldSiteWritten}
+use Rattle.promises.specs.ToldSays.{ToldAdmitAnswer, ToldChainAnswer, ToldCheckAnswer, ToldClashAnswer, ToldEditedAnswer, ToldFaultAnswer, ToldFormAnswer, ToldHeaviestAnswer, ToldLeastAnswer, ToldLoadAnswer, ToldMendAnswer, ToldPlanAnswer, ToldPlanRead, ToldPlanWritten, ToldReadAnswer, ToldShareAnswer, ToldSheetAnswer, ToldSheetRead, ToldSheetWritten, ToldSiteRead, ToldSiteWritten}
 use Rattle.records.specs.declared.ReadAnswer.{ReadAnswer}
 use Rattle.shares.specs.declared.ShareAnswer.{ShareAnswer}
 use Rattle.sheet.specs.declared.SheetAnswer.{SheetAnswer}
@@ -45,6 +46,10 @@ toldChainAnswer-one said r q says also = says .answer ∙ sym (also .answer)
 -- told::least_answer
 pub toldLeastAnswer-one : (said : LeastAnswer) (r q : Answer) → ToldLeastAnswer said r → ToldLeastAnswer said q → (r ≡ q)
 toldLeastAnswer-one said r q says also = says .answer ∙ sym (also .answer)
+
+-- told::heaviest_answer
+pub toldHeaviestAnswer-one : (said : HeaviestAnswer) (r q : Answer) → ToldHeaviestAnswer said r → ToldHeaviestAnswer said q → (r ≡ q)
+toldHeaviestAnswer-one said r q says also = says .answer ∙ sym (also .answer)
 
 -- told::plan_answer
 pub toldPlanAnswer-one : (said : PlanAnswer) (r q : Answer) → ToldPlanAnswer said r → ToldPlanAnswer said q → (r ≡ q)

@@ -4,7 +4,7 @@ use mathlib.Core.Path.{_≡_, sym, _∙_}
 use mathlib.Core.Bool.{Bool}
 use mathlib.Core.List.{List}
 use Prim.Native.Nat.{ℕ}
-use Rattle.promises.specs.WordsSays.{WordsAddRow, WordsFirstIn, WordsHas, WordsJoinRow, WordsLay, WordsLowest, WordsSecondIn, WordsWordAt}
+use Rattle.promises.specs.WordsSays.{WordsAddRow, WordsApart, WordsFirstIn, WordsGreater, WordsHas, WordsJoinRow, WordsLay, WordsLoaded, WordsLoadedIn, WordsLoadsOf, WordsLowest, WordsSecondIn, WordsWide, WordsWordAt}
 
 -- words::lay
 pub wordsLay-one : (words : List ℕ) (from : ℕ) (m : ℕ) (word : ℕ) (words′ words″ : List ℕ) → WordsLay words from m word words′ → WordsLay words from m word words″ → (words′ ≡ words″)
@@ -26,6 +26,10 @@ wordsWordAt-one table n cells p r q says also = says .answer ∙ sym (also .answ
 pub wordsHas-one : (word : ℕ) (i : ℕ) (r q : Bool) → WordsHas word i r → WordsHas word i q → (r ≡ q)
 wordsHas-one word i r q says also = says .answer ∙ sym (also .answer)
 
+-- words::apart
+pub wordsApart-one : (word : ℕ) (other : ℕ) (r q : ℕ) → WordsApart word other r → WordsApart word other q → (r ≡ q)
+wordsApart-one word other r q says also = says .answer ∙ sym (also .answer)
+
 -- words::lowest
 pub wordsLowest-one : (word : ℕ) (from : ℕ) (end : ℕ) (r q : ℕ) → WordsLowest word from end r → WordsLowest word from end q → (r ≡ q)
 wordsLowest-one word from end r q says also = says .answer ∙ sym (also .answer)
@@ -37,3 +41,23 @@ wordsSecondIn-one word clash cells a r q says also = says .answer ∙ sym (also 
 -- words::first_in
 pub wordsFirstIn-one : (word : ℕ) (clash : List ℕ) (cells : ℕ) (r q : ℕ) → WordsFirstIn word clash cells r → WordsFirstIn word clash cells q → (r ≡ q)
 wordsFirstIn-one word clash cells r q says also = says .answer ∙ sym (also .answer)
+
+-- words::wide
+pub wordsWide-one : (x : ℕ) (r q : ℕ) → WordsWide x r → WordsWide x q → (r ≡ q)
+wordsWide-one x r q says also = says .answer ∙ sym (also .answer)
+
+-- words::greater
+pub wordsGreater-one : (a : ℕ) (b : ℕ) (r q : ℕ) → WordsGreater a b r → WordsGreater a b q → (r ≡ q)
+wordsGreater-one a b r q says also = says .answer ∙ sym (also .answer)
+
+-- words::loaded_in
+pub wordsLoadedIn-one : (loads : List ℕ) (cells : ℕ) (r q : ℕ) → WordsLoadedIn loads cells r → WordsLoadedIn loads cells q → (r ≡ q)
+wordsLoadedIn-one loads cells r q says also = says .answer ∙ sym (also .answer)
+
+-- words::loaded
+pub wordsLoaded-one : (loads : List ℕ) (cells : ℕ) (r q : ℕ) → WordsLoaded loads cells r → WordsLoaded loads cells q → (r ≡ q)
+wordsLoaded-one loads cells r q says also = says .answer ∙ sym (also .answer)
+
+-- words::loads_of
+pub wordsLoadsOf-one : (loads : List ℕ) (word : ℕ) (r q : ℕ) → WordsLoadsOf loads word r → WordsLoadsOf loads word q → (r ≡ q)
+wordsLoadsOf-one loads word r q says also = says .answer ∙ sym (also .answer)
