@@ -35,6 +35,7 @@ typedef struct {
     dugg_answer (*to_words)(dugg_site, const uint8_t *, size_t, uint32_t *, size_t);
     dugg_answer (*to_bytes)(dugg_site, const uint32_t *, size_t, uint8_t *, size_t);
     dugg_answer (*mend)(dugg_site, uint8_t *, size_t, uint16_t *, size_t);
+    dugg_answer (*heaviest)(dugg_site);
 } maker;
 
 extern const maker makers[MAKERS];
@@ -83,5 +84,7 @@ int words_agree(void);
 void words_table(void);
 int mend_agree(void);
 void mend_table(void);
+int heaviest_agree(void);
+void heaviest_table(void);
 
 #endif

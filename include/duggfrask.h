@@ -89,6 +89,13 @@ dugg_answer dugg_chain(dugg_site site);
  * that a site has. value[1] is 0 on a chained site: fewer never do, whoever plans; otherwise it is 1: fewer may. */
 dugg_answer dugg_least(dugg_site site);
 
+/* The heaviest clash: of all sets of cells that clash with one another the one with the greatest load; of equals, the
+ * one with the smallest word. No two of them transmit at one position, so every valid table has at least so many
+ * positions, and where the load is above slots times channels no plan exists. On a chained site the load is the number
+ * that dugg_least gives. Done: value[0] is the load, value[1] the cells, bit i-1 for cell i; 0 and 0 if no cell has a
+ * load. */
+dugg_answer dugg_heaviest(dugg_site site);
+
 /* Plans the site into the table, one byte per cell and position, cell after cell: 0 idle, 1 reserved, 2 forbidden.
  * The table needs cells * slots * channels bytes (refusal 4); bytes past those are not written. Refusal 5 gives the
  * first cell without room and how many fragments are short, and leaves those bytes 0. */

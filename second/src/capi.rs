@@ -4,7 +4,7 @@ use crate::admit::Flow;
 use crate::answer::{done, Answer, Outcome};
 use crate::share::{Fragments, Repeats, Share, Slots};
 use crate::site::Site;
-use crate::{admit, checker, files, judge, mender, planner, share, sheet, words};
+use crate::{admit, checker, files, heaviest, judge, mender, planner, share, sheet, words};
 
 #[repr(C)]
 #[derive(Clone, Copy, Debug, PartialEq, Eq)]
@@ -98,6 +98,11 @@ pub extern "C" fn second_chain(site: Site) -> Answer {
 #[no_mangle]
 pub extern "C" fn second_least(site: Site) -> Answer {
     answer(judge::least(&site), |least| [least.channel_slots, least.fewer_may_do as u64])
+}
+
+#[no_mangle]
+pub extern "C" fn second_heaviest(site: Site) -> Answer {
+    answer(heaviest::heaviest(&site), |heaviest| [heaviest.load, heaviest.cells as u64])
 }
 
 /// # Safety

@@ -20,17 +20,17 @@ use Rattle.bestset.specs.Best.{total}
 
 -- ---- which flows are in a number
 
-none-in : (k : ℕ) → bitAt 0 k ≡ false
+pub none-in : (k : ℕ) → bitAt 0 k ≡ false
 none-in k = ap (λ (n : ℕ). eqb (n % 2) 1) (zero-div (2 ^ k))
 
-in-low : (a k y j : ℕ) → j < k → bitAt (a * 2 ^ k + y) j ≡ bitAt y j
+pub in-low : (a k y j : ℕ) → j < k → bitAt (a * 2 ^ k + y) j ≡ bitAt y j
 in-low a k y j h =
     let m : ℕ = k - j - 1 in
     let e : k ≡ suc m + j = omega arith in
     let q : a * 2 ^ k ≡ a * 2 ^ suc m * 2 ^ j = ap (λ (n : ℕ). a * 2 ^ n) e ∙ ap (λ (n : ℕ). a * n) (pow-add 2 (suc m) j) ∙ sym (mul-assoc a (2 ^ suc m) (2 ^ j)) in
     ap (λ (n : ℕ). eqb n 1) (ap (λ (n : ℕ). (n + y) / 2 ^ j % 2) q ∙ ap (λ (n : ℕ). n % 2) (mul-add-div-right (pow-pos j) (a * 2 ^ suc m) y) ∙ block-odd a m (y / 2 ^ j))
 
-in-high : (a k y j : ℕ) → y < 2 ^ k → bitAt (a * 2 ^ k + y) (k + j) ≡ bitAt a j
+pub in-high : (a k y j : ℕ) → y < 2 ^ k → bitAt (a * 2 ^ k + y) (k + j) ≡ bitAt a j
 in-high a k y j h = ap (λ (n : ℕ). eqb n 1) (ap (λ (n : ℕ). n % 2) (sym (shr-shr (a * 2 ^ k + y) k j) ∙ ap (λ (n : ℕ). n / 2 ^ j) (high a k h)))
 
 -- ---- sums over sets

@@ -14,6 +14,8 @@ ghost use Rattle.site.specs.Edit.{setLoadOf, setReachOf, clearReachOf};
 ghost use Rattle.site.specs.Given.{faultGiven, clashGiven};
 ghost use Rattle.judges.specs.Judges.{loadAnswer, chainAnswer, leastAnswer};
 ghost use Rattle.judges.specs.Given.{loadGiven, chainGiven, leastGiven};
+ghost use Rattle.heaviest.specs.Sets.{heaviestOf};
+ghost use Rattle.heaviest.specs.Given.{heaviestGiven};
 ghost use Rattle.planner.specs.Plan.{planAnswer, planTable};
 ghost use Rattle.planner.specs.Given.{planGiven};
 ghost use Rattle.checker.specs.Check.{checkAnswer};
@@ -94,6 +96,13 @@ pub extern "C" fn dugg_least(site: Site) -> Answer
     ensures { λ r. ⌜ r ≡ told (leastGiven (leastAnswer site)) ⌝ }
 {
     told::least_answer(judges::least(site))
+}
+
+#[no_mangle]
+pub extern "C" fn dugg_heaviest(site: Site) -> Answer
+    ensures { λ r. ⌜ r ≡ told (heaviestGiven (heaviestOf site)) ⌝ }
+{
+    told::heaviest_answer(heaviest::heaviest(site))
 }
 
 #[no_mangle]

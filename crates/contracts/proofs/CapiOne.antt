@@ -7,8 +7,10 @@ use Rattle.admission.specs.Admit.{admitAnswer}
 use Rattle.admission.specs.Given.{admitGiven}
 use Rattle.checker.specs.Check.{checkAnswer}
 use Rattle.checker.specs.Given.{checkGiven}
-use Rattle.contracts.specs.CapiSays.{DuggAdmit, DuggChain, DuggCheck, DuggCheckWords, DuggClash, DuggClearReach, DuggFault, DuggLeast, DuggLoadTest, DuggMend, DuggPlan, DuggPlanWords, DuggReadPlan, DuggReadSheet, DuggReadSite, DuggSetLoad, DuggSetReach, DuggShare, DuggShareRepeated, DuggToBytes, DuggToWords, DuggWritePlan, DuggWriteSheet, DuggWriteSite}
+use Rattle.contracts.specs.CapiSays.{DuggAdmit, DuggChain, DuggCheck, DuggCheckWords, DuggClash, DuggClearReach, DuggFault, DuggHeaviest, DuggLeast, DuggLoadTest, DuggMend, DuggPlan, DuggPlanWords, DuggReadPlan, DuggReadSheet, DuggReadSite, DuggSetLoad, DuggSetReach, DuggShare, DuggShareRepeated, DuggToBytes, DuggToWords, DuggWritePlan, DuggWriteSheet, DuggWriteSite}
 use Rattle.flowlist.specs.declared.Flow.{Flow}
+use Rattle.heaviest.specs.Given.{heaviestGiven}
+use Rattle.heaviest.specs.Sets.{heaviestOf}
 use Rattle.judges.specs.Given.{chainGiven, leastGiven, loadGiven}
 use Rattle.judges.specs.Judges.{chainAnswer, leastAnswer, loadAnswer}
 use Rattle.mender.specs.Given.{mendGiven}
@@ -116,6 +118,16 @@ pub duggLeast-one : (site : Site)
     × ((q : Answer) → DuggLeast site q → (q ≡ r))
 duggLeast-one site = (
   told (leastGiven (leastAnswer site)),
+  record { answer = refl },
+  λ q says. says .answer,
+)
+
+-- capi::dugg_heaviest
+pub duggHeaviest-one : (site : Site)
+    → (r : Answer) × (DuggHeaviest site r)
+    × ((q : Answer) → DuggHeaviest site q → (q ≡ r))
+duggHeaviest-one site = (
+  told (heaviestGiven (heaviestOf site)),
   record { answer = refl },
   λ q says. says .answer,
 )

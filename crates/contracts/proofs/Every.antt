@@ -1,8 +1,9 @@
 -- Every call of the product has one answer: crate by crate. Made by tools/surface from the source. Assumes nothing.
 use Rattle.contracts.proofs.AdmissionOne.{admit-one, decide-one, shareIn-one}
-use Rattle.contracts.proofs.CapiOne.{duggAdmit-one, duggChain-one, duggCheck-one, duggCheckWords-one, duggClash-one, duggClearReach-one, duggFault-one, duggLeast-one, duggLoadTest-one, duggMend-one, duggPlan-one, duggPlanWords-one, duggReadPlan-one, duggReadSheet-one, duggReadSite-one, duggSetLoad-one, duggSetReach-one, duggShare-one, duggShareRepeated-one, duggToBytes-one, duggToWords-one, duggWritePlan-one, duggWriteSheet-one, duggWriteSite-one}
+use Rattle.contracts.proofs.CapiOne.{duggAdmit-one, duggChain-one, duggCheck-one, duggCheckWords-one, duggClash-one, duggClearReach-one, duggFault-one, duggHeaviest-one, duggLeast-one, duggLoadTest-one, duggMend-one, duggPlan-one, duggPlanWords-one, duggReadPlan-one, duggReadSheet-one, duggReadSite-one, duggSetLoad-one, duggSetReach-one, duggShare-one, duggShareRepeated-one, duggToBytes-one, duggToWords-one, duggWritePlan-one, duggWriteSheet-one, duggWriteSite-one}
 use Rattle.contracts.proofs.CheckerOne.{check-one}
 use Rattle.contracts.proofs.FlowsheetOne.{readFlows-one}
+use Rattle.contracts.proofs.HeaviestOne.{heaviest-one}
 use Rattle.contracts.proofs.JudgesOne.{chain-one, least-one, loadTest-one}
 use Rattle.contracts.proofs.MenderOne.{mend-one, mendOnly-one}
 use Rattle.contracts.proofs.PlanfileOne.{readPlan-one, writePlan-one}
@@ -38,6 +39,7 @@ every-call = record {
   mendOnly = mendOnly-one;
   shareOf = shareOf-one;
   share = share-one;
+  heaviest = heaviest-one;
   shareIn = shareIn-one;
   decide = decide-one;
   admit = admit-one;
@@ -56,6 +58,7 @@ every-call = record {
   duggLoadTest = duggLoadTest-one;
   duggChain = duggChain-one;
   duggLeast = duggLeast-one;
+  duggHeaviest = duggHeaviest-one;
   duggPlan = duggPlan-one;
   duggCheck = duggCheck-one;
   duggPlanWords = duggPlanWords-one;

@@ -13,6 +13,7 @@ pub mod MenderOne
 pub mod SharesOne
 pub mod FlowlistOne
 pub mod BestsetOne
+pub mod HeaviestOne
 pub mod AdmissionOne
 pub mod RecordsOne
 pub mod SitefileOne

@@ -5,7 +5,9 @@ use Rattle.admission.specs.Given.{admitGiven}
 use Rattle.admission.specs.declared.AdmitAnswer.{AdmitAnswer}
 use Rattle.checker.specs.Given.{checkGiven}
 use Rattle.checker.specs.declared.CheckAnswer.{CheckAnswer}
-use Rattle.contracts.specs.ToldSays.{ToldAdmitAnswer, ToldChainAnswer, ToldCheckAnswer, ToldClashAnswer, ToldEditedAnswer, ToldFaultAnswer, ToldFormAnswer, ToldLeastAnswer, ToldLoadAnswer, ToldMendAnswer, ToldPlanAnswer, ToldPlanRead, ToldPlanWritten, ToldReadAnswer, ToldShareAnswer, ToldSheetAnswer, ToldSheetRead, ToldSheetWritten, ToldSiteRead, ToldSiteWritten}
+use Rattle.contracts.specs.ToldSays.{ToldAdmitAnswer, ToldChainAnswer, ToldCheckAnswer, ToldClashAnswer, ToldEditedAnswer, ToldFaultAnswer, ToldFormAnswer, ToldHeaviestAnswer, ToldLeastAnswer, ToldLoadAnswer, ToldMendAnswer, ToldPlanAnswer, ToldPlanRead, ToldPlanWritten, ToldReadAnswer, ToldShareAnswer, ToldSheetAnswer, ToldSheetRead, ToldSheetWritten, ToldSiteRead, ToldSiteWritten}
+use Rattle.heaviest.specs.Given.{heaviestGiven}
+use Rattle.heaviest.specs.declared.HeaviestAnswer.{HeaviestAnswer}
 use Rattle.judges.specs.Given.{chainGiven, leastGiven, loadGiven}
 use Rattle.judges.specs.declared.ChainAnswer.{ChainAnswer}
 use Rattle.judges.specs.declared.LeastAnswer.{LeastAnswer}
@@ -85,6 +87,16 @@ pub toldLeastAnswer-one : (said : LeastAnswer)
     × ((q : Answer) → ToldLeastAnswer said q → (q ≡ r))
 toldLeastAnswer-one said = (
   told (leastGiven said),
+  record { answer = refl },
+  λ q says. says .answer,
+)
+
+-- told::heaviest_answer
+pub toldHeaviestAnswer-one : (said : HeaviestAnswer)
+    → (r : Answer) × (ToldHeaviestAnswer said r)
+    × ((q : Answer) → ToldHeaviestAnswer said q → (q ≡ r))
+toldHeaviestAnswer-one said = (
+  told (heaviestGiven said),
   record { answer = refl },
   λ q says. says .answer,
 )

@@ -1,16 +1,20 @@
 -- For any arguments one answer and one content of what is lent meet the contract, and no other, in crate `words`: by its equalities alone. Made by tools/surface from the source.
 -- Assumes nothing.
 use mathlib.Core.Path.{_≡_, refl}
-use mathlib.Core.Bool.{Bool}
+use mathlib.Core.Bool.{Bool, _&&_, not}
 use mathlib.Core.List.{List}
 use Prim.Native.Nat.{ℕ}
-use Rattle.contracts.specs.WordsSays.{WordsAddRow, WordsFirstIn, WordsHas, WordsJoinRow, WordsLay, WordsLowest, WordsSecondIn, WordsWordAt}
-use Rattle.laws.specs.Bits.{bitAt}
+use Rattle.contracts.specs.WordsSays.{WordsAddRow, WordsApart, WordsFirstIn, WordsGreater, WordsHas, WordsJoinRow, WordsLay, WordsLoaded, WordsLoadedIn, WordsLoadsOf, WordsLowest, WordsSecondIn, WordsWide, WordsWordAt}
+use Rattle.laws.specs.Bits.{bitAt, wordOf}
+use Rattle.laws.specs.Most.{greater}
 use Rattle.laws.specs.Part.{listOf}
 use Rattle.laws.specs.Search.{first}
 use Rattle.theory.specs.Greedy.{reserved}
 use Rattle.words.specs.Clashes.{firstIn, secondIn}
+use Rattle.words.specs.Loads.{loadsIn}
 use Rattle.words.specs.Words.{joinedAt, markedAt, wordAt}
+use lib.Dec.{ltb}
+use lib.ListN.{getD}
 use lib.Seq.{sets}
 
 -- words::lay
@@ -64,6 +68,16 @@ wordsHas-one word i = (
   λ q says. says .answer,
 )
 
+-- words::apart
+pub wordsApart-one : (word : ℕ) (other : ℕ)
+    → (r : ℕ) × (WordsApart word other r)
+    × ((q : ℕ) → WordsApart word other q → (q ≡ r))
+wordsApart-one word other = (
+  wordOf (λ b. bitAt word b && not (bitAt other b)) 32,
+  record { answer = refl },
+  λ q says. says .answer,
+)
+
 -- words::lowest
 pub wordsLowest-one : (word : ℕ) (from : ℕ) (end : ℕ)
     → (r : ℕ) × (WordsLowest word from end r)
@@ -90,6 +104,56 @@ pub wordsFirstIn-one : (word : ℕ) (clash : List ℕ) (cells : ℕ)
     × ((q : ℕ) → WordsFirstIn word clash cells q → (q ≡ r))
 wordsFirstIn-one word clash cells = (
   firstIn word clash cells,
+  record { answer = refl },
+  λ q says. says .answer,
+)
+
+-- words::wide
+pub wordsWide-one : (x : ℕ)
+    → (r : ℕ) × (WordsWide x r)
+    × ((q : ℕ) → WordsWide x q → (q ≡ r))
+wordsWide-one x = (
+  x,
+  record { answer = refl },
+  λ q says. says .answer,
+)
+
+-- words::greater
+pub wordsGreater-one : (a : ℕ) (b : ℕ)
+    → (r : ℕ) × (WordsGreater a b r)
+    × ((q : ℕ) → WordsGreater a b q → (q ≡ r))
+wordsGreater-one a b = (
+  greater a b,
+  record { answer = refl },
+  λ q says. says .answer,
+)
+
+-- words::loaded_in
+pub wordsLoadedIn-one : (loads : List ℕ) (cells : ℕ)
+    → (r : ℕ) × (WordsLoadedIn loads cells r)
+    × ((q : ℕ) → WordsLoadedIn loads cells q → (q ≡ r))
+wordsLoadedIn-one loads cells = (
+  wordOf (λ i. ltb 0 (getD loads i 0)) cells,
+  record { answer = refl },
+  λ q says. says .answer,
+)
+
+-- words::loaded
+pub wordsLoaded-one : (loads : List ℕ) (cells : ℕ)
+    → (r : ℕ) × (WordsLoaded loads cells r)
+    × ((q : ℕ) → WordsLoaded loads cells q → (q ≡ r))
+wordsLoaded-one loads cells = (
+  wordOf (λ i. ltb 0 (getD loads i 0)) cells,
+  record { answer = refl },
+  λ q says. says .answer,
+)
+
+-- words::loads_of
+pub wordsLoadsOf-one : (loads : List ℕ) (word : ℕ)
+    → (r : ℕ) × (WordsLoadsOf loads word r)
+    × ((q : ℕ) → WordsLoadsOf loads word q → (q ≡ r))
+wordsLoadsOf-one loads word = (
+  loadsIn loads word,
   record { answer = refl },
   λ q says. says .answer,
 )

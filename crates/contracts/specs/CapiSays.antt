@@ -7,6 +7,8 @@ use Rattle.admission.specs.Given.{admitGiven}
 use Rattle.checker.specs.Check.{checkAnswer}
 use Rattle.checker.specs.Given.{checkGiven}
 use Rattle.flowlist.specs.declared.Flow.{Flow}
+use Rattle.heaviest.specs.Given.{heaviestGiven}
+use Rattle.heaviest.specs.Sets.{heaviestOf}
 use Rattle.judges.specs.Given.{chainGiven, leastGiven, loadGiven}
 use Rattle.judges.specs.Judges.{chainAnswer, leastAnswer, loadAnswer}
 use Rattle.mender.specs.Given.{mendGiven}
@@ -69,6 +71,10 @@ pub record DuggChain (site : Site) (r : Answer) : Type 0 where
 -- capi::dugg_least
 pub record DuggLeast (site : Site) (r : Answer) : Type 0 where
   pub answer : r ≡ told (leastGiven (leastAnswer site))
+
+-- capi::dugg_heaviest
+pub record DuggHeaviest (site : Site) (r : Answer) : Type 0 where
+  pub answer : r ≡ told (heaviestGiven (heaviestOf site))
 
 -- capi::dugg_plan
 pub record DuggPlan (site : Site) (table : List ℕ) (r : Answer) (table′ : List ℕ) : Type 0 where

@@ -6,9 +6,10 @@ use Prim.Native.Nat.{ℕ}
 use Rattle.admission.specs.declared.AdmitAnswer.{AdmitAnswer}
 use Rattle.checker.specs.declared.CheckAnswer.{CheckAnswer}
 use Rattle.contracts.specs.AdmissionSays.{Admit, Decide, ShareIn}
-use Rattle.contracts.specs.CapiSays.{DuggAdmit, DuggChain, DuggCheck, DuggCheckWords, DuggClash, DuggClearReach, DuggFault, DuggLeast, DuggLoadTest, DuggMend, DuggPlan, DuggPlanWords, DuggReadPlan, DuggReadSheet, DuggReadSite, DuggSetLoad, DuggSetReach, DuggShare, DuggShareRepeated, DuggToBytes, DuggToWords, DuggWritePlan, DuggWriteSheet, DuggWriteSite}
+use Rattle.contracts.specs.CapiSays.{DuggAdmit, DuggChain, DuggCheck, DuggCheckWords, DuggClash, DuggClearReach, DuggFault, DuggHeaviest, DuggLeast, DuggLoadTest, DuggMend, DuggPlan, DuggPlanWords, DuggReadPlan, DuggReadSheet, DuggReadSite, DuggSetLoad, DuggSetReach, DuggShare, DuggShareRepeated, DuggToBytes, DuggToWords, DuggWritePlan, DuggWriteSheet, DuggWriteSite}
 use Rattle.contracts.specs.CheckerSays.{Check}
 use Rattle.contracts.specs.FlowsheetSays.{ReadFlows}
+use Rattle.contracts.specs.HeaviestSays.{Heaviest}
 use Rattle.contracts.specs.JudgesSays.{Chain, Least, LoadTest}
 use Rattle.contracts.specs.MenderSays.{Mend, MendOnly}
 use Rattle.contracts.specs.PlanfileSays.{ReadPlan, WritePlan}
@@ -21,6 +22,7 @@ use Rattle.contracts.specs.WordtableSays.{CheckWords, PlanWords, ToBytes
 use Rattle.flowlist.specs.declared.Flow.{Flow}
 use Rattle.flowlist.specs.declared.FlowList.{FlowList}
 use Rattle.flowsheet.specs.declared.FlowsRead.{FlowsRead}
+use Rattle.heaviest.specs.declared.HeaviestAnswer.{HeaviestAnswer}
 use Rattle.judges.specs.declared.ChainAnswer.{ChainAnswer}
 use Rattle.judges.specs.declared.LeastAnswer.{LeastAnswer}
 use Rattle.judges.specs.declared.LoadAnswer.{LoadAnswer}
@@ -133,6 +135,10 @@ pub record EveryCall : Type 0 where
   pub share : (slots : Slots) (burst : Fragments) (period : Slots)
       → (r : ShareAnswer) × (Share slots burst period r)
       × ((q : ShareAnswer) → Share slots burst period q → (q ≡ r))
+  -- heaviest::heaviest
+  pub heaviest : (site : Site)
+      → (r : HeaviestAnswer) × (Heaviest site r)
+      × ((q : HeaviestAnswer) → Heaviest site q → (q ≡ r))
   -- admission::share_in
   pub shareIn : (slots : ℕ) (f : Flow)
       → (r : ShareAnswer) × (ShareIn slots f r)
@@ -205,6 +211,10 @@ pub record EveryCall : Type 0 where
   pub duggLeast : (site : Site)
       → (r : Answer) × (DuggLeast site r)
       × ((q : Answer) → DuggLeast site q → (q ≡ r))
+  -- capi::dugg_heaviest
+  pub duggHeaviest : (site : Site)
+      → (r : Answer) × (DuggHeaviest site r)
+      × ((q : Answer) → DuggHeaviest site q → (q ≡ r))
   -- capi::dugg_plan
   pub duggPlan : (site : Site) (table : List ℕ)
       → (r : Answer) × (table′ : List ℕ) × (DuggPlan site table r table′)

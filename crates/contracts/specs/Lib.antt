@@ -13,6 +13,7 @@ pub mod MenderSays
 pub mod SharesSays
 pub mod FlowlistSays
 pub mod BestsetSays
+pub mod HeaviestSays
 pub mod AdmissionSays
 pub mod RecordsSays
 pub mod SitefileSays

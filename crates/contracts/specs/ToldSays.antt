@@ -4,6 +4,8 @@ use Rattle.admission.specs.Given.{admitGiven}
 use Rattle.admission.specs.declared.AdmitAnswer.{AdmitAnswer}
 use Rattle.checker.specs.Given.{checkGiven}
 use Rattle.checker.specs.declared.CheckAnswer.{CheckAnswer}
+use Rattle.heaviest.specs.Given.{heaviestGiven}
+use Rattle.heaviest.specs.declared.HeaviestAnswer.{HeaviestAnswer}
 use Rattle.judges.specs.Given.{chainGiven, leastGiven, loadGiven}
 use Rattle.judges.specs.declared.ChainAnswer.{ChainAnswer}
 use Rattle.judges.specs.declared.LeastAnswer.{LeastAnswer}
@@ -56,6 +58,10 @@ pub record ToldChainAnswer (said : ChainAnswer) (r : Answer) : Type 0 where
 -- told::least_answer
 pub record ToldLeastAnswer (said : LeastAnswer) (r : Answer) : Type 0 where
   pub answer : r ≡ told (leastGiven said)
+
+-- told::heaviest_answer
+pub record ToldHeaviestAnswer (said : HeaviestAnswer) (r : Answer) : Type 0 where
+  pub answer : r ≡ told (heaviestGiven said)
 
 -- told::plan_answer
 pub record ToldPlanAnswer (said : PlanAnswer) (r : Answer) : Type 0 where

@@ -1,14 +1,18 @@
 -- The equalities that the contracts of crate `words` state: r is the answer, and x′ what a lent x holds afterwards. Made by tools/surface from the source.
 use mathlib.Core.Path.{_≡_}
-use mathlib.Core.Bool.{Bool}
+use mathlib.Core.Bool.{Bool, _&&_, not}
 use mathlib.Core.List.{List}
 use Prim.Native.Nat.{ℕ}
-use Rattle.laws.specs.Bits.{bitAt}
+use Rattle.laws.specs.Bits.{bitAt, wordOf}
+use Rattle.laws.specs.Most.{greater}
 use Rattle.laws.specs.Part.{listOf}
 use Rattle.laws.specs.Search.{first}
 use Rattle.theory.specs.Greedy.{reserved}
 use Rattle.words.specs.Clashes.{firstIn, secondIn}
+use Rattle.words.specs.Loads.{loadsIn}
 use Rattle.words.specs.Words.{joinedAt, markedAt, wordAt}
+use lib.Dec.{ltb}
+use lib.ListN.{getD}
 use lib.Seq.{sets}
 
 -- words::lay
@@ -32,6 +36,10 @@ pub record WordsWordAt (table : List ℕ) (n : ℕ) (cells : ℕ) (p : ℕ) (r :
 pub record WordsHas (word : ℕ) (i : ℕ) (r : Bool) : Type 0 where
   pub answer : r ≡ bitAt word i
 
+-- words::apart
+pub record WordsApart (word : ℕ) (other : ℕ) (r : ℕ) : Type 0 where
+  pub answer : r ≡ wordOf (λ b. bitAt word b && not (bitAt other b)) 32
+
 -- words::lowest
 pub record WordsLowest (word : ℕ) (from : ℕ) (end : ℕ) (r : ℕ) : Type 0 where
   pub answer : r ≡ first (bitAt word) from end
@@ -43,3 +51,23 @@ pub record WordsSecondIn (word : ℕ) (clash : List ℕ) (cells : ℕ) (a : ℕ)
 -- words::first_in
 pub record WordsFirstIn (word : ℕ) (clash : List ℕ) (cells : ℕ) (r : ℕ) : Type 0 where
   pub answer : r ≡ firstIn word clash cells
+
+-- words::wide
+pub record WordsWide (x : ℕ) (r : ℕ) : Type 0 where
+  pub answer : r ≡ x
+
+-- words::greater
+pub record WordsGreater (a : ℕ) (b : ℕ) (r : ℕ) : Type 0 where
+  pub answer : r ≡ greater a b
+
+-- words::loaded_in
+pub record WordsLoadedIn (loads : List ℕ) (cells : ℕ) (r : ℕ) : Type 0 where
+  pub answer : r ≡ wordOf (λ i. ltb 0 (getD loads i 0)) cells
+
+-- words::loaded
+pub record WordsLoaded (loads : List ℕ) (cells : ℕ) (r : ℕ) : Type 0 where
+  pub answer : r ≡ wordOf (λ i. ltb 0 (getD loads i 0)) cells
+
+-- words::loads_of
+pub record WordsLoadsOf (loads : List ℕ) (word : ℕ) (r : ℕ) : Type 0 where
+  pub answer : r ≡ loadsIn loads word

@@ -6,14 +6,7 @@ use lib.Dec.{ltb}
 use lib.ListN.{getD}
 use Rattle.laws.specs.Bits.{bitAt}
 use Rattle.laws.specs.Choice.{pick}
-use Rattle.laws.specs.Sum.{sum}
-
--- the loads of the cells below n that a word has
-abbrev pub loadsBelow : List ℕ → ℕ → ℕ → ℕ
-loadsBelow loads word n = sum (λ j. pick (bitAt word j) (getD loads j 0) 0) n
-
-abbrev pub loadsIn : List ℕ → ℕ → ℕ
-loadsIn loads word = loadsBelow loads word 32
+use Rattle.words.specs.Loads.{loadsBelow}
 
 -- "its load plus the loads of its lower-numbered clashing cells", by the cell's clash row
 abbrev pub demandIn : List ℕ → ℕ → ℕ → ℕ

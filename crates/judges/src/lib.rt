@@ -1,22 +1,22 @@
 // The verdicts on a site: the load test, the judge of the chain, and the least number of channel-slots that do. All ask the clash rows and the word of the cells that count, those with load above 0. The chain
-// and a sum of few loads go from one cell of a word to the next without a look at those between.
+// goes from one cell of a word to the next without a look at those between.
 ghost use mathlib.Core.Path.{_≡_};
 ghost use Prim.Native.Nat.{_≤_, _<_};
-ghost use lib.Dec.{ltb};
 ghost use lib.ListN.{getD};
-ghost use Rattle.laws.specs.Bits.{bitAt, wordOf};
-ghost use Rattle.laws.specs.Choice.{pick};
-ghost use Rattle.laws.specs.Most.{greater, most};
+ghost use Rattle.laws.specs.Most.{most};
 ghost use Rattle.laws.specs.Search.{first};
-ghost use Rattle.judges.specs.Judges.{countedIn, loadAnswer, chainAnswer, leastAnswer};
-ghost use Rattle.judges.specs.Words.{loadsIn, demandIn, overIn, askedIn};
+ghost use Rattle.judges.specs.Judges.{loadAnswer, chainAnswer, leastAnswer};
+ghost use Rattle.judges.specs.Words.{demandIn, overIn, askedIn};
 use chainwords::break_of;
 use chainwords::first_break;
 use chainwords::gap;
 use site::Fault;
 use site::Site;
 use words::has;
-use words::lowest;
+use words::loads::greater;
+use words::loads::loaded;
+use words::loads::loads_of;
+use words::loads::wide;
 
 // The load test's verdict: it holds, or the lowest cell that is over, by number, and by how much.
 pub enum LoadAnswer {
@@ -37,71 +37,6 @@ pub enum LeastAnswer {
     Least(usize),
     Enough(usize),
     Refused(Fault),
-}
-
-// A load as a number that sums of loads fit, with its bound.
-fn wide(x: u16) -> u32
-    ensures { λ r. ⌜ (r ≡ x) × (r ≤ 65535) ⌝ }
-{
-    x as u32
-}
-
-// The bit of a cell where its load is above 0, else 0.
-fn weight(load: u16, bit: u32) -> u32
-    ensures { λ r. ⌜ r ≡ pick (ltb 0 load) bit 0 ⌝ }
-{
-    if 0 < load {
-        return bit;
-    }
-    0
-}
-
-// The word of the cells that the two rules are about: those with load above 0. One pass without a branch.
-fn counted(loads: &[u16; 32]) -> u32
-    ensures { λ r. ⌜ r ≡ wordOf (countedIn (now (loads .entry))) 32 ⌝ }
-{
-    let mut word: u32 = 0;
-    for i in 0..32 {
-        word = word | weight(loads[i], 1 << i);
-    }
-    word
-}
-
-// The load of cell j where a word has it, else 0.
-fn load_at(load: u16, word: u32, j: usize) -> u32
-    requires { ⌜ j < 32 ⌝ }
-    ensures { λ r. ⌜ (r ≡ pick (bitAt word j) load 0) × (r ≤ 65535) ⌝ }
-{
-    (word >> j) % 2 * (load as u32)
-}
-
-// The loads of the cells of a word, each cell asked: fast for a word with many.
-fn loads_of_many(loads: &[u16; 32], word: u32) -> u32
-    ensures { λ r. ⌜ (r ≡ loadsIn (now (loads .entry)) word) × (r ≤ 2097120) ⌝ }
-{
-    let mut sum: u32 = 0;
-    for j in 0..32 {
-        sum += load_at(loads[j], word, j);
-    }
-    sum
-}
-
-// The loads of the cells of a word: those of up to three cells one by one.
-fn loads_of(loads: &[u16; 32], word: u32) -> u32
-    ensures { λ r. ⌜ (r ≡ loadsIn (now (loads .entry)) word) × (r ≤ 2097120) ⌝ }
-{
-    let mut sum: u32 = 0;
-    let mut summed: usize = 0;
-    let mut j = lowest(word, 0, 32);
-    while j < 32 {
-        if 3 <= summed {
-            return loads_of_many(loads, word);
-        }
-        sum += wide(loads[j]);
-        summed += 1;
-        j = lowest(word, j + 1, 32);
-    }
-    sum
 }
 
 // The load of cell i, and the loads of the cells below i in its clash row.
@@ -150,7 +85,7 @@ pub fn load_test(site: Site) -> LoadAnswer
     let room = site.slots as u32 * site.channels as u32;
     let loads = site.loads;
     let clash = site.clash_rows();
-    let who = counted(&loads);
+    let who = loaded(&loads, 32);
     let i = first_over(&loads, &clash, who, cells, room);
     if i < cells {
         let d = demand(&loads, clash[i], i);
@@ -170,7 +105,7 @@ pub fn chain(site: Site) -> ChainAnswer
     let cells = site.cells as usize;
     let loads = site.loads;
     let clash = site.clash_rows();
-    let who = counted(&loads);
+    let who = loaded(&loads, 32);
     let a = first_break(&clash, who, cells);
     if a < cells {
         let c = break_of(clash[a], who, a, cells);
@@ -189,16 +124,6 @@ fn asked(loads: &[u16; 32], row: u32, who: u32, i: usize) -> u32
         return demand(loads, row, i);
     }
     0
-}
-
-// The greater of two numbers.
-fn greater(a: u32, b: u32) -> u32
-    ensures { λ r. ⌜ r ≡ greater a b ⌝ }
-{
-    if a < b {
-        return b;
-    }
-    a
 }
 
 // The greatest demand of the cells that count.
@@ -226,7 +151,7 @@ pub fn least(site: Site) -> LeastAnswer
     let cells = site.cells as usize;
     let loads = site.loads;
     let clash = site.clash_rows();
-    let who = counted(&loads);
+    let who = loaded(&loads, 32);
     let n = most_demand(&loads, &clash, who, cells) as usize;
     if first_break(&clash, who, cells) < cells {
         return LeastAnswer::Enough(n);

@@ -11,6 +11,8 @@ use Rattle.site.specs.Record.{upTo, sizeOk, rowBad, extraLoad, badRow, faultOf}
 use Rattle.site.specs.Reach.{reaches, clashIn}
 use Rattle.planner.specs.Plan.{planAnswer, planTable}
 use Rattle.judges.specs.Judges.{loadAnswer, chainAnswer, leastAnswer}
+use Rattle.bestset.specs.Best.{bestOf}
+use Rattle.heaviest.specs.Sets.{mutualIn, heaviestIn, heaviestOf}
 use Rattle.checker.specs.Check.{verdictOf, checkAnswer}
 use Rattle.laws.specs.Bits.{wordOf}
 use Rattle.wordtable.specs.Words.{bytesOf}
@@ -25,6 +27,6 @@ use Rattle.promises.specs.Desk.{withZeros, deskTable}
 pub desk-holds : map (λ l. l .asked) deskTable ≡ map (λ l. l .said) deskTable
 unfolding withZeros firstOf sum any most part listOf forbid marked fill unmet run overloaded lowestOver loadVerdict mostDemand gap breaks breakOf
     firstBreak chainVerdict secondAt clashesAt firstAt lowestClash wrongIn lowestWrong tableVerdict upTo sizeOk rowBad extraLoad badRow faultOf
-    reaches clashIn planAnswer planTable loadAnswer chainAnswer leastAnswer verdictOf checkAnswer wordOf bytesOf planWordsAnswer planWords
+    reaches clashIn planAnswer planTable loadAnswer chainAnswer leastAnswer bestOf mutualIn heaviestIn heaviestOf verdictOf checkAnswer wordOf bytesOf planWordsAnswer planWords
     checkWordsAnswer formAnswer toWords toBytes stand overlay cellChanges changes mendAnswer mendTable mendList
 desk-holds = refl

@@ -1,5 +1,6 @@
 -- In C a value that the document does not name is 0. So a good verdict is 0, 0, 0, and this is told apart from every other answer: cells are numbered from 1.
--- The least number of channel-slots always has its two values, so they are read back whatever they are, 0 and 0 too: no call refuses with the fault that is none.
+-- The least number of channel-slots and the heaviest clash always have their two values, so they are read back whatever they are, 0 and 0 too: no call refuses with the fault
+-- that is none.
 -- Assumes nothing.
 use mathlib.Core.Path.{_≡_, refl, ap}
 use mathlib.Core.Logic.{_↔_}
@@ -19,6 +20,11 @@ use Rattle.judges.specs.declared.ChainAnswer.the-variants as chain
 use Rattle.judges.specs.declared.LeastAnswer.{LeastAnswer}
 use Rattle.judges.specs.declared.LeastAnswer.the-variants as least
 use Rattle.judges.proofs.Given.{least-proper}
+use Rattle.heaviest.specs.Sets.{heaviestOf}
+use Rattle.heaviest.specs.Given.{heaviestGiven, heaviestProper}
+use Rattle.heaviest.specs.declared.HeaviestAnswer.{HeaviestAnswer}
+use Rattle.heaviest.specs.declared.HeaviestAnswer.the-variants as heaviest
+use Rattle.heaviest.proofs.Given.{heaviest-proper}
 use Rattle.judges.proofs.Meaning.{over-means, broken-means}
 use Rattle.told.specs.Told.{numbered, told}
 use Rattle.told.specs.declared.Answer.{Answer}
@@ -41,6 +47,15 @@ least-told (least.Refused Fine) n k p e = absurd (false≢true p)
 least-told (least.Refused Size) n k p e = let z : _≡_ {A = ℕ} 1 0 = ap numberIn e in absurd (omega arith)
 least-told (least.Refused (Load i)) n k p e = let z : _≡_ {A = ℕ} 2 0 = ap numberIn e in absurd (omega arith)
 least-told (least.Refused (Reach i)) n k p e = let z : _≡_ {A = ℕ} 3 0 = ap numberIn e in absurd (omega arith)
+
+heaviest-told : (a : HeaviestAnswer) (load cells : ℕ) → heaviestProper a ≡ true → told (heaviestGiven a) ≡ numbered 0 load cells 0
+    → heaviestGiven a ≡ doneWith (load ∷ cells ∷ [])
+unfolding told numberIn valueIn flagIn
+heaviest-told (heaviest.Done m x) load cells p e = let z : m ≡ load = ap valueIn e in let y : x ≡ cells = ap flagIn e in cc
+heaviest-told (heaviest.Refused Fine) load cells p e = absurd (false≢true p)
+heaviest-told (heaviest.Refused Size) load cells p e = let z : _≡_ {A = ℕ} 1 0 = ap numberIn e in absurd (omega arith)
+heaviest-told (heaviest.Refused (Load i)) load cells p e = let z : _≡_ {A = ℕ} 2 0 = ap numberIn e in absurd (omega arith)
+heaviest-told (heaviest.Refused (Reach i)) load cells p e = let z : _≡_ {A = ℕ} 3 0 = ap numberIn e in absurd (omega arith)
 
 module _ (s : Site) where
   load-in-c : (a : LoadAnswer) → loadAnswer s ≡ a → told (loadGiven a) ≡ numbered 0 0 0 0 → loadGiven a ≡ done
@@ -75,3 +90,9 @@ module _ (s : Site) where
   pub least-in-c : (n k : ℕ) → told (leastGiven (leastAnswer s)) ≡ numbered 0 n k 0 ↔ leastGiven (leastAnswer s) ≡ doneWith (n ∷ k ∷ [])
   unfolding told
   least-in-c n k = (least-told (leastAnswer s) n k (least-proper s), ap told)
+
+  -- `dugg_heaviest` gives 0 and load, cells, 0 exactly where the answer is this load and this word
+  pub heaviest-in-c : (load cells : ℕ)
+      → told (heaviestGiven (heaviestOf s)) ≡ numbered 0 load cells 0 ↔ heaviestGiven (heaviestOf s) ≡ doneWith (load ∷ cells ∷ [])
+  unfolding told
+  heaviest-in-c load cells = (heaviest-told (heaviestOf s) load cells (heaviest-proper s), ap told)

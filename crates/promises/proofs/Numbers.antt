@@ -24,6 +24,10 @@ use Rattle.judges.specs.declared.LoadAnswer.the-variants as load
 use Rattle.judges.specs.declared.ChainAnswer.the-variants as chain
 use Rattle.judges.specs.declared.LeastAnswer.the-variants as least
 use Rattle.judges.proofs.Given.{load-apart, load-proper, chain-apart, chain-proper, least-apart, least-proper}
+use Rattle.heaviest.specs.Sets.{heaviestOf}
+use Rattle.heaviest.specs.Given.{heaviestGiven}
+use Rattle.heaviest.specs.declared.HeaviestAnswer.the-variants as heaviest
+use Rattle.heaviest.proofs.Given.{heaviest-apart, heaviest-proper}
 use Rattle.promises.specs.Numbers.{done, doneWith, refused, runGiven}
 use Rattle.promises.specs.Demands.{Accepted}
 
@@ -68,3 +72,6 @@ least-number s n = (least-apart (leastAnswer s) (least.Least n) (least-proper s)
 
 pub enough-number : (s : Site) (n : ℕ) → leastGiven (leastAnswer s) ≡ doneWith (n ∷ 1 ∷ []) ↔ leastAnswer s ≡ least.Enough n
 enough-number s n = (least-apart (leastAnswer s) (least.Enough n) (least-proper s) refl, ap leastGiven)
+
+pub heaviest-number : (s : Site) (load cells : ℕ) → heaviestGiven (heaviestOf s) ≡ doneWith (load ∷ cells ∷ []) ↔ heaviestOf s ≡ heaviest.Done load cells
+heaviest-number s load cells = (heaviest-apart (heaviestOf s) (heaviest.Done load cells) (heaviest-proper s) refl, ap heaviestGiven)

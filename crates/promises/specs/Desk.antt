@@ -11,6 +11,8 @@ use Rattle.planner.specs.Plan.{planAnswer, planTable}
 use Rattle.planner.specs.Given.{planGiven}
 use Rattle.judges.specs.Judges.{loadAnswer, chainAnswer, leastAnswer}
 use Rattle.judges.specs.Given.{loadGiven, chainGiven, leastGiven}
+use Rattle.heaviest.specs.Sets.{heaviestOf}
+use Rattle.heaviest.specs.Given.{heaviestGiven}
 use Rattle.checker.specs.Check.{checkAnswer}
 use Rattle.checker.specs.Given.{checkGiven}
 use Rattle.wordtable.specs.Plan.{planWordsAnswer, planWords}
@@ -90,6 +92,9 @@ chainCall s = gives (chainGiven (chainAnswer s))
 
 abbrev pub leastCall : Site → Reply
 leastCall s = gives (leastGiven (leastAnswer s))
+
+abbrev pub heaviestCall : Site → Reply
+heaviestCall s = gives (heaviestGiven (heaviestOf s))
 
 abbrev pub checkCall : Site → List ℕ → Reply
 checkCall s table = gives (checkGiven (checkAnswer s table))
@@ -201,4 +206,19 @@ deskTable =
     ∷ mendCall pair (0 ∷ 0 ∷ 1 ∷ 0 ∷ []) 12 ⇒ mends (doneWith (3 ∷ [])) (1 ∷ 0 ∷ 0 ∷ 1 ∷ []) (1 ∷ 0 ∷ 0 ∷ 1 ∷ 2 ∷ 0 ∷ 1 ∷ 0 ∷ 2 ∷ 1 ∷ 0 ∷ 1 ∷ [])
     -- P4's idle table: refusal 5, cell 4, short 1, and nothing is written
     ∷ mendCall P4 (0 ∷ 0 ∷ 0 ∷ 0 ∷ 0 ∷ 0 ∷ 0 ∷ 0 ∷ []) 4 ⇒ mends (refused 5 (4 ∷ 1 ∷ [])) (0 ∷ 0 ∷ 0 ∷ 0 ∷ 0 ∷ 0 ∷ 0 ∷ 0 ∷ []) (9 ∷ 9 ∷ 9 ∷ 9 ∷ [])
+    -- the heaviest clash. P1: cells 1 and 2, 5 + 1, and not 2 and 3, 1 + 4; the spare fourth cell changes nothing. P2: 5 + 2, more than its 6 positions
+    ∷ heaviestCall P1 ⇒ gives (doneWith (6 ∷ 3 ∷ []))
+    ∷ heaviestCall P1spare ⇒ gives (doneWith (6 ∷ 3 ∷ []))
+    ∷ heaviestCall P2 ⇒ gives (doneWith (7 ∷ 3 ∷ []))
+    -- P3: cells 1 and 3, 5 as a word, and not 2 and 3, 6; with loads 2, 1, 0 cell 1 alone, and not with the spare cell 3, which clashes with it
+    ∷ heaviestCall P3 ⇒ gives (doneWith (2 ∷ 5 ∷ []))
+    ∷ heaviestCall P3spare ⇒ gives (doneWith (2 ∷ 1 ∷ []))
+    -- P4: cells 1 and 3, of three pairs of load 2; P6: cells 2 and 3, of four; P7: cells 1 and 4, since cell 2 is spare
+    ∷ heaviestCall P4 ⇒ gives (doneWith (2 ∷ 5 ∷ []))
+    ∷ heaviestCall P6 ⇒ gives (doneWith (2 ∷ 6 ∷ []))
+    ∷ heaviestCall P7 ⇒ gives (doneWith (2 ∷ 9 ∷ []))
+    -- nothing is loaded; one cell; a site without channels is refused
+    ∷ heaviestCall (alone 0) ⇒ gives (doneWith (0 ∷ 0 ∷ []))
+    ∷ heaviestCall (alone 2) ⇒ gives (doneWith (2 ∷ 1 ∷ []))
+    ∷ heaviestCall (siteWith 1 0 (2 ∷ []) []) ⇒ gives (refused 1 [])
     ∷ []

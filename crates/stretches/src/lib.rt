@@ -4,7 +4,6 @@
 // takes its last one. So there are at most I + 1 stretches. For each, two loops go over the cells of its word, from one to the next by the bits that are set: one finds
 // them, and how long they last, and one takes that off what they have left. One store a position lays the word down. The local room is a load for each cell.
 ghost use mathlib.Core.Path.{_≡_};
-ghost use mathlib.Core.Bool.{_&&_, not};
 ghost use mathlib.Core.List.{_++_};
 ghost use Prim.Native.Nat.{_-_, _^_, _≤_, _<_, min};
 ghost use lib.Bits.{bitOr};
@@ -19,8 +18,10 @@ ghost use Rattle.theory.specs.Greedy.{greedy};
 ghost use Rattle.theory.specs.Positions.{chosen, leftAt, needAt, takes};
 ghost use Rattle.site.specs.Reach.{netIn};
 ghost use Rattle.words.specs.Words.{wordsOf, outWords};
-ghost use Rattle.stretches.specs.Stretches.{inNeed, shortest, spent, endedBy, stoodOf};
+ghost use Rattle.stretches.specs.Stretches.{shortest, spent, endedBy, stoodOf};
+use words::apart;
 use words::lay;
+use words::loads::loaded_in;
 use words::lowest;
 
 // How a run stood at its end: planned, or the number of the cell that found no room and how many fragments it is short.
@@ -34,35 +35,6 @@ struct Stretch {
     word: u32,
     run: usize,
     ended: u32,
-}
-
-// The bit of a cell where it has something left, else 0.
-fn weight(left: u16, bit: u32) -> u32
-    ensures { λ r. ⌜ r ≡ pick (ltb 0 left) bit 0 ⌝ }
-{
-    if 0 < left {
-        return bit;
-    }
-    0
-}
-
-// The word of the cells in need.
-fn need_of(left: &[u16], cells: usize) -> u32
-    requires { ⌜ (cells ≤ 32) × (cells ≤ length (now left)) ⌝ }
-    ensures { λ r. ⌜ r ≡ wordOf (inNeed (now (left .entry))) cells ⌝ }
-{
-    let mut need: u32 = 0;
-    for i in 0..cells {
-        need = need | weight(left[i], 1 << i);
-    }
-    need
-}
-
-// The cells of a word that are not in another.
-fn apart(word: u32, other: u32) -> u32
-    ensures { λ r. ⌜ (r ≡ wordOf (λ b. bitAt word b && not (bitAt other b)) 32) × (r ≤ word) ⌝ }
-{
-    word & !other
 }
 
 // The run, or what a cell has left where that is less.
@@ -146,7 +118,7 @@ fn lay_all(words: &mut [u32], left: &mut [u16], clash: &[u32; 32], cells: usize,
     ensures words { λ _. ⌜ now (words .exit) ≡ sets (now (words .entry)) 0 (wordsOf cells n (takes (netIn cells n (now (left .entry)) (bitIn (now (clash .entry))) unblocked))) ⌝ }
     ensures left { λ _. ⌜ now (left .exit) ≡ sets (now (left .entry)) 0 (listOf (leftAt (netIn cells n (now (left .entry)) (bitIn (now (clash .entry))) unblocked) n) cells) ⌝ }
 {
-    let mut need = need_of(left, cells);
+    let mut need = loaded_in(left, cells);
     let mut k: usize = 0;
     while k < n {
         let s = stretch_of(need, left, clash, cells, n - k);

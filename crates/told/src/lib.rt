@@ -1,6 +1,7 @@
 // Each answer of the product as a C caller gets it: document 01's number and its values.
 use admission::AdmitAnswer;
 use checker::CheckAnswer;
+use heaviest::HeaviestAnswer;
 use judges::ChainAnswer;
 use judges::LeastAnswer;
 use judges::LoadAnswer;
@@ -23,6 +24,7 @@ use wordtable::FormAnswer;
 ghost use mathlib.Core.Path.{_≡_};
 ghost use Rattle.site.specs.Given.{faultGiven, clashGiven};
 ghost use Rattle.judges.specs.Given.{loadGiven, chainGiven, leastGiven};
+ghost use Rattle.heaviest.specs.Given.{heaviestGiven};
 ghost use Rattle.planner.specs.Given.{planGiven};
 ghost use Rattle.checker.specs.Given.{checkGiven};
 ghost use Rattle.wordtable.specs.Given.{formGiven};
@@ -117,6 +119,15 @@ pub fn least_answer(said: LeastAnswer) -> Answer
         LeastAnswer::Least(n) => give(0, n as u64, 0, 0),
         LeastAnswer::Enough(n) => give(0, n as u64, 1, 0),
         LeastAnswer::Refused(f) => fault_answer(f),
+    }
+}
+
+pub fn heaviest_answer(said: HeaviestAnswer) -> Answer
+    ensures { λ r. ⌜ r ≡ told (heaviestGiven said) ⌝ }
+{
+    match said {
+        HeaviestAnswer::Done(load, cells) => give(0, load as u64, cells as u64, 0),
+        HeaviestAnswer::Refused(f) => fault_answer(f),
     }
 }
 

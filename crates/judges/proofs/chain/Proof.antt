@@ -35,8 +35,8 @@ cast-cells c = search needs
 clash-rows-requires : tie.Need-clash-rows-requires
 clash-rows-requires c κs = search needs
 
-counted-requires : tie.Need-counted-requires
-counted-requires c κs = search needs
+loaded-requires : tie.Need-loaded-requires
+loaded-requires c κs = search needs
 
 first-break-requires : tie.Need-first-break-requires
 first-break-requires c κs = fine-sized _ (fine (c .before .before .before .before .before .before)) .cells-most
@@ -57,7 +57,7 @@ c-range c =
     let at = c .before .before in
     let cells = at .before .before .before .before .before .before .before .before .before .before .args .site .cells in
     let net = chainIn cells (bitIn (at .before .before .before .before .clash-rows .result)) in
-    let who = bitAt (at .before .before .counted .result) in
+    let who = bitAt (at .before .before .loaded .result) in
     let most = fine-sized _ (fine (at .before .before .before .before .before .before .before)) .cells-most in
     let low = break-least net who (at .first-break .result) in
     let high = break-inside net who (at .first-break .result) (at .first-break .ensures) (c .before .if1 .taken) in
@@ -91,7 +91,7 @@ returns-2 c =
     let fine-here = fine (at .before .before .before .before .before .before .before .before .before) in
     let rows = at .before .before .before .before .before .before .clash-rows .result in
     sym (chain-broken _ fine-here rows (at .before .before .before .before .before .before .clash-rows .ensures .1 fine-here) _
-    (at .before .before .before .before .counted .ensures) _ (at .before .before .first-break .ensures) _ _ (at .before .if1 .taken)
+    (at .before .before .before .before .loaded .ensures) _ (at .before .before .first-break .ensures) _ _ (at .before .if1 .taken)
     (at .break-of .ensures) (c .gap .ensures))
 
 returns-3 : tie.Need-returns-3
@@ -99,7 +99,7 @@ returns-3 c =
     let fine-here = fine (c .before .before .before .before .before .before .before .before) in
     let rows = c .before .before .before .before .before .clash-rows .result in
     sym (chain-none _ fine-here rows (c .before .before .before .before .before .clash-rows .ensures .1 fine-here) _
-    (c .before .before .before .counted .ensures) _ (c .before .first-break .ensures) (c .if1 .left))
+    (c .before .before .before .loaded .ensures) _ (c .before .first-break .ensures) (c .if1 .left))
 
 pub chain-spec : {M : Type 1} → statement M
 chain-spec =
@@ -110,7 +110,7 @@ chain-spec =
     returns
     cast-cells
     clash-rows-requires
-    counted-requires
+    loaded-requires
     first-break-requires
     mul-break-of
     array-read-break-of

@@ -29,8 +29,8 @@ cast-cells c = search needs
 clash-rows-requires : tie.Need-clash-rows-requires
 clash-rows-requires c κs = search needs
 
-counted-requires : tie.Need-counted-requires
-counted-requires c κs = search needs
+loaded-requires : tie.Need-loaded-requires
+loaded-requires c κs = search needs
 
 most-demand-requires : tie.Need-most-demand-requires
 most-demand-requires c κs = fine-sized _ (fine (c .before .before .before .before .before .before .before)) .cells-most
@@ -47,7 +47,7 @@ returns-2 c =
     let count = most .before .before .before in
     let rows = count .before .before in
     let ok = fine (rows .before .before .before) in
-    sym (least-enough _ ok (rows .clash-rows .result) (rows .clash-rows .ensures .1 ok) (count .counted .result) (count .counted .ensures)
+    sym (least-enough _ ok (rows .clash-rows .result) (rows .clash-rows .ensures .1 ok) (count .loaded .result) (count .loaded .ensures)
     (most .most-demand .result) (most .most-demand .ensures) (c .before .first-break .result) (c .before .first-break .ensures) (c .if1 .taken))
 
 returns-3 : tie.Need-returns-3
@@ -56,7 +56,7 @@ returns-3 c =
     let count = most .before .before .before in
     let rows = count .before .before in
     let ok = fine (rows .before .before .before) in
-    sym (least-chained _ ok (rows .clash-rows .result) (rows .clash-rows .ensures .1 ok) (count .counted .result) (count .counted .ensures)
+    sym (least-chained _ ok (rows .clash-rows .result) (rows .clash-rows .ensures .1 ok) (count .loaded .result) (count .loaded .ensures)
     (most .most-demand .result) (most .most-demand .ensures) (c .before .first-break .result) (c .before .first-break .ensures) (c .if1 .left))
 
 pub least-spec : {M : Type 1} → statement M
@@ -68,7 +68,7 @@ least-spec =
     returns
     cast-cells
     clash-rows-requires
-    counted-requires
+    loaded-requires
     most-demand-requires
     cast-n
     first-break-requires

@@ -44,8 +44,8 @@ mul-room c = omega (arith, few-positions (fine-sized _ (fine (c .before .before 
 clash-rows-requires : tie.Need-clash-rows-requires
 clash-rows-requires c κs = search needs
 
-counted-requires : tie.Need-counted-requires
-counted-requires c κs = search needs
+loaded-requires : tie.Need-loaded-requires
+loaded-requires c κs = search needs
 
 first-over-requires : tie.Need-first-over-requires
 first-over-requires c κs = fine-sized _ (fine (c .before .before .before .before .before .before .before .before .before)) .cells-most
@@ -69,7 +69,7 @@ told c =
     let site = at .before .before .before .before .before .before .before .before .before .before .before .before .before .args .site in
     let rows = at .before .before .before .before .before .clash-rows .result in
     let relation = at .before .before .before .before .before .clash-rows .ensures .1 fine-here in
-    let counted = at .before .before .before .counted in
+    let counted = at .before .before .before .loaded in
     let i = at .first-over .result in
     let d : c .demand .result ≡ demand (netOf site) i = c .demand .ensures ∙ demand-is site rows relation i in
     rw d (load-over site fine-here rows relation (counted .result) (counted .ensures) (positions site) (sym (net-open site)) i (at .first-over .ensures) (c .before .before .if1 .taken))
@@ -92,7 +92,7 @@ returns-3 c =
     let fine-here = fine (at .before .before .before .before .before .before .before .before .before .before) in
     let site = at .before .before .before .before .before .before .before .before .before .before .before .before .before .args .site in
     let rows = at .before .before .before .before .before .clash-rows .result in
-    let counted = at .before .before .before .counted in
+    let counted = at .before .before .before .loaded in
     sym (load-none site fine-here rows (at .before .before .before .before .before .clash-rows .ensures .1 fine-here) (counted .result) (counted .ensures) (positions site) (sym (net-open site)) _ (at .first-over .ensures) (c .if1 .left))
 
 pub load-test-spec : {M : Type 1} → statement M
@@ -107,7 +107,7 @@ load-test-spec =
     cast-room-2
     mul-room
     clash-rows-requires
-    counted-requires
+    loaded-requires
     first-over-requires
     mul-demand
     array-read-demand

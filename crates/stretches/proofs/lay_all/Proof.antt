@@ -37,13 +37,13 @@ some c =
 word-small : (p : ℕ → Bool) (x n : ℕ) → x ≡ wordOf p n → x < 2 ^ n
 word-small p x n e = omega (arith, word-lt p n)
 
-need-of-requires : tie.Need-need-of-requires Inv-loop μ-loop
-need-of-requires c κs = search needs
+loaded-in-requires : tie.Need-loaded-in-requires Inv-loop μ-loop
+loaded-in-requires c κs = search needs
 
 loop-holds : tie.Need-loop-holds Inv-loop μ-loop
 loop-holds c =
     let a = c .before .before .before .before .args in
-    (begun unblocked (a .clash .now) (a .words .now) (a .left .now) (a .cells) (a .n) (omega arith), c .need-of .ensures)
+    (begun unblocked (a .clash .now) (a .words .now) (a .left .now) (a .cells) (a .n) (omega arith), c .loaded-in .ensures)
 
 sub-stretch-of : tie.Need-sub-stretch-of Inv-loop μ-loop
 sub-stretch-of c = search needs
@@ -104,7 +104,7 @@ lay-all-spec =
     (tie.spec
     Inv-loop
     μ-loop
-    need-of-requires
+    loaded-in-requires
     loop-holds
     sub-stretch-of
     stretch-of-requires

@@ -15,6 +15,7 @@ extern "C" {
     fn dugg_load_test(site: Site) -> Answer;
     fn dugg_chain(site: Site) -> Answer;
     fn dugg_least(site: Site) -> Answer;
+    fn dugg_heaviest(site: Site) -> Answer;
     fn dugg_plan(site: Site, table: *mut u8, len: usize) -> Answer;
     fn dugg_check(site: Site, table: *const u8, len: usize) -> Answer;
     fn dugg_share(slots: u16, burst: u16, period: u16) -> Answer;
@@ -42,6 +43,7 @@ pub struct Calls {
     pub load_test: unsafe extern "C" fn(Site) -> Answer,
     pub chain: unsafe extern "C" fn(Site) -> Answer,
     pub least: unsafe extern "C" fn(Site) -> Answer,
+    pub heaviest: unsafe extern "C" fn(Site) -> Answer,
     pub plan: unsafe extern "C" fn(Site, *mut u8, usize) -> Answer,
     pub check: unsafe extern "C" fn(Site, *const u8, usize) -> Answer,
     pub share: unsafe extern "C" fn(u16, u16, u16) -> Answer,
@@ -69,6 +71,7 @@ pub const LIBRARY: Calls = Calls {
     load_test: dugg_load_test,
     chain: dugg_chain,
     least: dugg_least,
+    heaviest: dugg_heaviest,
     plan: dugg_plan,
     check: dugg_check,
     share: dugg_share,
@@ -96,6 +99,7 @@ pub const SECOND: Calls = Calls {
     load_test: second_load_test,
     chain: second_chain,
     least: second_least,
+    heaviest: second_heaviest,
     plan: second_plan,
     check: second_check,
     share: second_share,

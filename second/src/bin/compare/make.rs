@@ -23,6 +23,8 @@ const CALLS: &[Call] = &[
     Call::LoadTest,
     Call::Chain,
     Call::Least,
+    Call::Heaviest,
+    Call::Heaviest,
     Call::Plan,
     Call::Plan,
     Call::Check,
