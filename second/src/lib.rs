@@ -7,6 +7,7 @@ pub mod capi;
 pub mod checker;
 pub mod desk;
 pub mod files;
+pub mod heaviest;
 pub mod judge;
 pub mod listing;
 pub mod mender;

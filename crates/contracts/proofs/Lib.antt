@@ -13,12 +13,14 @@ pub mod MenderOne
 pub mod SharesOne
 pub mod FlowlistOne
 pub mod BestsetOne
+pub mod HeaviestOne
 pub mod AdmissionOne
 pub mod RecordsOne
 pub mod SitefileOne
 pub mod PlanfileOne
 pub mod TextOne
 pub mod SpeechOne
+pub mod PhrasesOne
 pub mod RefusalsOne
 pub mod ChangewordsOne
 pub mod ListingOne

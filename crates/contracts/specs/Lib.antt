@@ -13,12 +13,14 @@ pub mod MenderSays
 pub mod SharesSays
 pub mod FlowlistSays
 pub mod BestsetSays
+pub mod HeaviestSays
 pub mod AdmissionSays
 pub mod RecordsSays
 pub mod SitefileSays
 pub mod PlanfileSays
 pub mod TextSays
 pub mod SpeechSays
+pub mod PhrasesSays
 pub mod RefusalsSays
 pub mod ChangewordsSays
 pub mod ListingSays

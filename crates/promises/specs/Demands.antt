@@ -38,9 +38,3 @@ pub record Easier (second first : Site) : Type 0 where
   pub as-many-channel-slots : positions first ≤ positions second
   pub no-greater-load : (i : ℕ) → i < second .cells → loadAt second i ≤ loadAt first i
   pub no-new-clash : (a c : ℕ) → a < second .cells → c < second .cells → clashOf second a c ≡ true → clashOf first a c ≡ true
-
--- "a site with the same cells, loads and reach": its slots and channels may be others
-pub record Alike (other site : Site) : Type 0 where
-  pub same-cells : other .cells ≡ site .cells
-  pub same-loads : other .loads ≡ site .loads
-  pub same-reach : other .reach ≡ site .reach
