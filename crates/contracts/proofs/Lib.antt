@@ -20,6 +20,7 @@ pub mod SitefileOne
 pub mod PlanfileOne
 pub mod TextOne
 pub mod SpeechOne
+pub mod PhrasesOne
 pub mod RefusalsOne
 pub mod ChangewordsOne
 pub mod ListingOne

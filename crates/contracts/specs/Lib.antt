@@ -20,6 +20,7 @@ pub mod SitefileSays
 pub mod PlanfileSays
 pub mod TextSays
 pub mod SpeechSays
+pub mod PhrasesSays
 pub mod RefusalsSays
 pub mod ChangewordsSays
 pub mod ListingSays

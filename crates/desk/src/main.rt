@@ -236,6 +236,7 @@ fn mend(
 
 // The verdicts on a site, in words.
 fn why(input: &[u8], table: &mut [u8], words: &mut [u8])
+    requires { ⌜ 65536 ≤ length (now table) ⌝ }
     requires { ⌜ 65536 ≤ length (now words) ⌝ }
 {
     let read = sitefile::read_site(input);
@@ -245,11 +246,7 @@ fn why(input: &[u8], table: &mut [u8], words: &mut [u8])
         refuse(words, answer);
         return;
     };
-    let judge = judges::chain(site);
-    let load = why::chain_words(words, 0, judge);
-    let plan = why::load_words(words, load, site);
-    let least = why::plan_words(words, plan, judge, planner::plan(site, table));
-    let end = why::least_words(words, least, site, judges::least(site));
+    let end = why::why(site, table, words);
     yes(words, end);
 }
 

@@ -23,7 +23,8 @@ use Rattle.heaviest.specs.declared.HeaviestAnswer.the-variants as heaviest
 use Rattle.heaviest.proofs.Mutual.{heaviest-is, heaviest-only}
 use Rattle.heaviest.proofs.Meaning.{done-fine, done-is-fine, done-means, done-mutual, done-fits, done-enough, done-chain}
 use Rattle.promises.specs.Numbers.{done, doneWith}
-use Rattle.promises.specs.Demands.{Accepted, DefinitionOne, Alike}
+use Rattle.site.specs.Alike.{Alike}
+use Rattle.promises.specs.Demands.{Accepted, DefinitionOne}
 use Rattle.promises.proofs.Numbers.{accepted-number, chain-number, least-number, enough-number, heaviest-number}
 use Rattle.promises.proofs.Demand2.{valid-is-definition-one, check-is-valid, planned-checks}
 

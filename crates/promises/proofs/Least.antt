@@ -21,11 +21,12 @@ use Rattle.judges.specs.Judges.{counted, loadAnswer, chainAnswer, leastAnswer}
 use Rattle.judges.specs.Given.{loadGiven, chainGiven, leastGiven}
 use Rattle.judges.proofs.Meaning.{least-means, enough-means}
 use Rattle.why.specs.Words.{fewest}
+use Rattle.site.specs.Alike.{Alike}
 use Rattle.why.proofs.Sizes.{fewest-exact}
 use Rattle.checker.specs.Check.{checkAnswer}
 use Rattle.checker.specs.Given.{checkGiven}
 use Rattle.promises.specs.Numbers.{done, doneWith}
-use Rattle.promises.specs.Demands.{Accepted, LongEnough, Easier, Alike}
+use Rattle.promises.specs.Demands.{Accepted, LongEnough, Easier}
 use Rattle.promises.proofs.Numbers.{accepted-number, least-number, enough-number}
 use Rattle.promises.proofs.Demand2.{load-is-C1, judge-is-chained}
 use Rattle.promises.proofs.Demand3.{demand-three-calls, chained-exact, holds-plans}

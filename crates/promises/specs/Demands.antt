@@ -54,9 +54,3 @@ ClaimOne s = (i : ℕ) → i < s .cells → 0 < loadAt s i → loadAt s i + sum 
 -- "the paper's greedy schedule" (000, Figure 1) of a site: a table, or the cell that finds no room. Its lines stand in theory/specs/Figure.antt.
 abbrev pub greedySchedule : Site → Outcome
 greedySchedule s = figureOne (netOf s) (s .slots) (s .channels)
-
--- "a site with the same cells, loads and reach": its slots and channels may be others
-pub record Alike (other site : Site) : Type 0 where
-  pub same-cells : other .cells ≡ site .cells
-  pub same-loads : other .loads ≡ site .loads
-  pub same-reach : other .reach ≡ site .reach

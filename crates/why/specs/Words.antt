@@ -1,124 +1,136 @@
--- The words of `duggfrask why`: "the verdicts in words: chained or the triple that breaks it; load test, and if over, by how much, and the cells that share the air there with
--- their loads; planned or not; and what a "no" means here". And how many channel-slots do, with the slots and the channels that this takes.
-use Prim.Native.Nat.{ℕ, zero, suc, _+_, _-_, _*_, _/_, _%_}
-use mathlib.Core.Bool.{Bool, _&&_, _||_}
-use mathlib.Core.List.{List, [], _++_}
+-- What `duggfrask why` says of a site: a list of phrases, each a row of the lines with its values, made from the answers of the calls. "A "no" is
+-- full when L is above N, chained or not. Only what is left is "this order found no room, and there may be another"."
+use Prim.Native.Nat.{ℕ, zero, suc, _+_, _/_, _%_}
+use mathlib.Core.List.{List, [], _∷_, _++_}
 use lib.Dec.{ltb, eqb}
 use lib.ListN.{getD}
 use Rattle.laws.specs.Bits.{bitAt}
 use Rattle.laws.specs.Choice.{pick}
-use Rattle.theory.specs.Full.{around}
-use Rattle.site.specs.Record.{loadAt, positions}
-use Rattle.site.specs.Reach.{netOf}
+use Rattle.site.specs.Record.{positions}
 use Rattle.site.specs.declared.Site.{Site}
+use Rattle.planner.specs.Plan.{planAnswer}
 use Rattle.planner.specs.declared.PlanAnswer.{PlanAnswer}
 use Rattle.planner.specs.declared.PlanAnswer.the-variants as plan
+use Rattle.judges.specs.Judges.{chainAnswer, loadAnswer, leastAnswer}
 use Rattle.judges.specs.declared.LoadAnswer.{LoadAnswer}
 use Rattle.judges.specs.declared.LoadAnswer.the-variants as load
 use Rattle.judges.specs.declared.ChainAnswer.{ChainAnswer}
 use Rattle.judges.specs.declared.ChainAnswer.the-variants as chain
 use Rattle.judges.specs.declared.LeastAnswer.{LeastAnswer}
 use Rattle.judges.specs.declared.LeastAnswer.the-variants as least
-use Rattle.speech.specs.Speech.{said}
+use Rattle.heaviest.specs.Sets.{heaviestOf}
+use Rattle.heaviest.specs.declared.HeaviestAnswer.{HeaviestAnswer}
+use Rattle.heaviest.specs.declared.HeaviestAnswer.the-variants as heavy
+use Rattle.phrases.specs.Phrases.{phrase}
+use Rattle.phrases.specs.declared.Phrase.{Phrase}
+use Rattle.phrases.specs.declared.Phrase.the-variants.{Silent, Row}
+use Rattle.why.specs.Lines.{lines, chainedRow, brokenRow, holdsRow, overRow, offChainRow, plannedRow, fullRow, gaveUpRow, exactRow, rangeRow}
+use Rattle.why.specs.Lines.{setRow, cellRow, slotsRow, channelsRow}
 
--- ---- the lines
+-- ---- the verdicts
 
-abbrev pub chainedLine : List ℕ
-chainedLine = said "chained\n" 0 0 0 0
+abbrev pub chainPhrase : ChainAnswer → Phrase
+chainPhrase chain.Chained = Row chainedRow 0 0 0 0
+chainPhrase (chain.Broken a b c) = Row brokenRow a b c 0
+chainPhrase (chain.Refused f) = Silent
 
-abbrev pub brokenLine : (a b c : ℕ) → List ℕ
-brokenLine a b c = said "not chained: cells @1 and @3 disturb each other, and cell @2 between them does not disturb cell @1\n" a b c 0
+-- "off the chain a load test that fails means nothing, and the sentence says that"
+abbrev pub overPhrase : ChainAnswer → (cell excess : ℕ) → Phrase
+overPhrase chain.Chained cell excess = Row overRow cell excess 0 0
+overPhrase (chain.Broken a b c) cell excess = Row offChainRow cell excess 0 0
+overPhrase (chain.Refused f) cell excess = Silent
 
-abbrev pub holdsLine : List ℕ
-holdsLine = said "the load test holds\n" 0 0 0 0
+abbrev pub loadPhrase : ChainAnswer → LoadAnswer → Phrase
+loadPhrase judge load.Holds = Row holdsRow 0 0 0 0
+loadPhrase judge (load.Over cell excess) = overPhrase judge cell excess
+loadPhrase judge (load.Refused f) = Silent
 
-abbrev pub overLine : (cell excess : ℕ) → List ℕ
-overLine cell excess = said "the load test fails: cell @1 is over by @2 fragment@b; the air there has to carry:\n" cell excess 0 0
+-- l is the load of the heaviest clash, n the positions
+abbrev pub planPhrase : (l n : ℕ) → PlanAnswer → Phrase
+planPhrase l n plan.Done = Row plannedRow 0 0 0 0
+planPhrase l n plan.TableShort = Silent
+planPhrase l n (plan.NoRoom cell short) = Row (pick (ltb n l) fullRow gaveUpRow) cell short 0 0
+planPhrase l n (plan.Refused f) = Silent
 
-abbrev pub airLine : (cell load : ℕ) → List ℕ
-airLine cell load = said "  cell @1, load @2\n" cell load 0 0
+-- ---- "It takes at least L (the heaviest clash, whose cells it names with their loads); U will do. L = U: "it takes L, and no fewer"."
 
-abbrev pub plannedLine : List ℕ
-plannedLine = said "planned\n" 0 0 0 0
+-- the number that `least` answers
+abbrev pub leastNumber : LeastAnswer → ℕ
+leastNumber (least.Least n) = n
+leastNumber (least.Enough n) = n
+leastNumber (least.Refused f) = 0
 
-abbrev pub fullLine : (cell short : ℕ) → List ℕ
-fullLine cell short = said "not planned: cell @1 is @2 fragment@b short. The site is full: it is chained, and so no planner can do better\n" cell short 0 0
+-- U: "the smaller of `least`'s number and, where the site is planned, N itself"
+abbrev pub willDo : PlanAnswer → (n m : ℕ) → ℕ
+willDo plan.Done n m = pick (ltb n m) n m
+willDo plan.TableShort n m = m
+willDo (plan.NoRoom cell short) n m = m
+willDo (plan.Refused f) n m = m
 
-abbrev pub gaveUpLine : (cell short : ℕ) → List ℕ
-gaveUpLine cell short = said "not planned: cell @1 is @2 fragment@b short. This order found no room; the site is not chained, and another order may find room\n" cell short 0 0
+unfoldable pub takesPhrase : (l u n : ℕ) → Phrase
+takesPhrase l u n = pick (eqb l u) (Row exactRow l n 0 0) (Row rangeRow l u n 0)
 
-abbrev pub leastLine : (n positions : ℕ) → List ℕ
-leastLine n positions = said "it takes @1 channel-slot@a, and no fewer; the site has @2\n" n positions 0 0
+unfoldable pub setPhrase : ℕ → Phrase
+setPhrase l = pick (ltb 0 l) (Row setRow l 0 0 0) Silent
 
-abbrev pub enoughLine : (n positions : ℕ) → List ℕ
-enoughLine n positions = said "@1 channel-slot@a will do, and fewer may; the site has @2\n" n positions 0 0
+-- the line of the cell at index j, where the set has it
+unfoldable pub cellPhrase : (set load j : ℕ) → Phrase
+cellPhrase set load j = pick (bitAt set j) (Row cellRow (j + 1) load 0 0) Silent
 
-abbrev pub slotsLine : (channels slots : ℕ) → List ℕ
-slotsLine channels slots = said "with @1 channel@a: @2 slot@b\n" channels slots 0 0
+-- of the first so many cells, in rising number
+unfoldable pub cellPhrases : List ℕ → ℕ → ℕ → List Phrase
+cellPhrases loads set zero = []
+cellPhrases loads set (suc j) = cellPhrases loads set j ++ (cellPhrase set (getD loads j 0) j ∷ [])
 
-abbrev pub manySlotsLine : (channels : ℕ) → List ℕ
-manySlotsLine channels = said "with @1 channel@a: more than 128 slots, which no site has\n" channels 0 0 0
-
-abbrev pub channelsLine : (slots channels : ℕ) → List ℕ
-channelsLine slots channels = said "with @1 slot@a: @2 channel@b\n" slots channels 0 0
-
-abbrev pub manyChannelsLine : (slots : ℕ) → List ℕ
-manyChannelsLine slots = said "with @1 slot@a: more than 16 channels, which no site has\n" slots 0 0 0
-
--- ---- the verdicts. A refused record has no words here: its fault has them
-
-abbrev pub chainWords : ChainAnswer → List ℕ
-chainWords chain.Chained = chainedLine
-chainWords (chain.Broken a b c) = brokenLine a b c
-chainWords (chain.Refused f) = []
-
--- "the cells that share the air there with their loads": the cells around cell i, as theory has them, of the first so many
-unfoldable pub airLines : Site → ℕ → ℕ → List ℕ
-airLines s i zero = []
-airLines s i (suc j) = airLines s i j ++ pick (around (netOf s) i j) (airLine (j + 1) (loadAt s j)) []
-
--- the same, as the loop asks it: by the clash row of the cell, and the loads
-abbrev pub aroundIn : (row load i j : ℕ) → Bool
-aroundIn row load i j = eqb j i || (ltb j i && (bitAt row j && ltb 0 load))
-
-unfoldable pub airIn : List ℕ → ℕ → ℕ → ℕ → List ℕ
-airIn loads row i zero = []
-airIn loads row i (suc j) = airIn loads row i j ++ pick (aroundIn row (getD loads j 0) i j) (airLine (j + 1) (getD loads j 0)) []
-
-abbrev pub loadWords : Site → LoadAnswer → List ℕ
-loadWords s load.Holds = holdsLine
-loadWords s (load.Over cell excess) = overLine cell excess ++ airLines s (cell - 1) (s .cells)
-loadWords s (load.Refused f) = []
-
--- "what a "no" means here: full (proved: no planner can), or only that this order found no room"
-abbrev pub noWords : ChainAnswer → (cell short : ℕ) → List ℕ
-noWords chain.Chained cell short = fullLine cell short
-noWords (chain.Broken a b c) cell short = gaveUpLine cell short
-noWords (chain.Refused f) cell short = []
-
-abbrev pub planWords : ChainAnswer → PlanAnswer → List ℕ
-planWords judge plan.Done = plannedLine
-planWords judge plan.TableShort = []
-planWords judge (plan.NoRoom cell short) = noWords judge cell short
-planWords judge (plan.Refused f) = []
-
--- ---- "the least number of channel-slots that would do, and so the least slots and the least channels"
+-- ---- "Sizes are printed from L ("fewer never do") and from U ("this will do")"
 
 -- the fewest slots of f channels (or channels of f slots) that make n channel-slots, and at least 1
 unfoldable pub fewest : ℕ → ℕ → ℕ
 fewest n f = pick (ltb 0 n) (pick (eqb (n % f) 0) (n / f) (n / f + 1)) 1
 
+-- with f of the one, how many of the other, of which a site has at most so many: `row` is the first of its four rows
+abbrev pub sizeRow : (row most f lo hi : ℕ) → Phrase
+sizeRow row most f lo hi =
+    pick (ltb most lo) (Row (row + 3) f 0 0 0) (pick (ltb most hi) (Row (row + 2) f lo 0 0) (pick (eqb lo hi) (Row row f lo 0 0) (Row (row + 1) f lo hi 0)))
+
+unfoldable pub sizePhrase : (row most f l u : ℕ) → Phrase
+sizePhrase row most f l u = sizeRow row most f (fewest l f) (fewest u f)
+
 -- a site has at most 128 slots, and at most 16 channels
-abbrev pub slotsWords : ℕ → ℕ → List ℕ
-slotsWords n channels = pick (ltb (128 * channels) n) (manySlotsLine channels) (slotsLine channels (fewest n channels))
+abbrev pub slotsPhrase : Site → (l u : ℕ) → Phrase
+slotsPhrase s l u = sizePhrase slotsRow 128 (s .channels) l u
 
-abbrev pub channelsWords : ℕ → ℕ → List ℕ
-channelsWords n slots = pick (ltb (16 * slots) n) (manyChannelsLine slots) (channelsLine slots (fewest n slots))
+abbrev pub channelsPhrase : Site → (l u : ℕ) → Phrase
+channelsPhrase s l u = sizePhrase channelsRow 16 (s .slots) l u
 
-abbrev pub sizesWords : Site → ℕ → List ℕ
-sizesWords s n = slotsWords n (s .channels) ++ channelsWords n (s .slots)
+-- ---- all of it
 
-abbrev pub leastWords : Site → LeastAnswer → List ℕ
-leastWords s (least.Least n) = leastLine n (positions s) ++ sizesWords s n
-leastWords s (least.Enough n) = enoughLine n (positions s) ++ sizesWords s n
-leastWords s (least.Refused f) = []
+abbrev pub verdictPhrases : ChainAnswer → LoadAnswer → PlanAnswer → (l n : ℕ) → List Phrase
+verdictPhrases judge test reply l n = chainPhrase judge ∷ loadPhrase judge test ∷ planPhrase l n reply ∷ []
+
+abbrev pub clashPhrases : Site → (l u set : ℕ) → List Phrase
+clashPhrases s l u set = takesPhrase l u (positions s) ∷ setPhrase l ∷ cellPhrases (s .loads) set (s .cells)
+
+abbrev pub sizesPhrases : Site → (l u : ℕ) → List Phrase
+sizesPhrases s l u = slotsPhrase s l u ∷ channelsPhrase s l u ∷ []
+
+abbrev pub numberPhrases : Site → (l u set : ℕ) → List Phrase
+numberPhrases s l u set = clashPhrases s l u set ++ sizesPhrases s l u
+
+-- a refused record has no words here: its fault has them
+abbrev pub sitePhrases : Site → PlanAnswer → HeaviestAnswer → List Phrase
+sitePhrases s reply (heavy.Done l set) =
+    verdictPhrases (chainAnswer s) (loadAnswer s) reply l (positions s) ++ numberPhrases s l (willDo reply (positions s) (leastNumber (leastAnswer s))) set
+sitePhrases s reply (heavy.Refused f) = []
+
+-- what `why` says of a site, with a table for the planner to plan in
+unfoldable pub whyPhrases : Site → List ℕ → List Phrase
+whyPhrases s table = sitePhrases s (planAnswer s table) (heaviestOf s)
+
+-- the words of some phrases, one after the other
+abbrev pub texts : List Phrase → List ℕ
+texts [] = []
+texts (p ∷ ps) = phrase lines p ++ texts ps
+
+unfoldable pub whyWords : Site → List ℕ → List ℕ
+whyWords s table = texts (whyPhrases s table)

@@ -1,285 +1,207 @@
-// The words of `duggfrask why`, written into a lent buffer. Each function puts its words at `at` and answers where the next byte goes.
+// What `duggfrask why` says of a site, written into a lent buffer: one public function, which asks the calls and puts their answers into words.
+use heaviest::HeaviestAnswer;
 use judges::ChainAnswer;
 use judges::LeastAnswer;
 use judges::LoadAnswer;
+use phrases::Phrase;
+use phrases::put_phrase;
 use planner::PlanAnswer;
 use site::Site;
-use speech::say;
 use words::has;
 ghost use mathlib.Core.Path.{_≡_};
-ghost use mathlib.Core.List.{[]};
 ghost use Prim.Native.Nat.{_+_, _*_, _≤_, _<_};
+ghost use lib.Dec.{ltb};
 ghost use lib.ListN.{length};
-ghost use lib.Seq.{sets};
 ghost use Rattle.laws.specs.Choice.{pick};
-ghost use Rattle.judges.specs.Judges.{loadAnswer};
-ghost use Rattle.judges.specs.declared.LoadAnswer.the-variants.{Over};
-ghost use Rattle.judges.specs.declared.LeastAnswer.the-variants.{Least, Enough};
-ghost use Rattle.why.specs.Words.{chainedLine, brokenLine, holdsLine, overLine, airLine, plannedLine, fullLine, gaveUpLine, leastLine, enoughLine, slotsLine, manySlotsLine, channelsLine, manyChannelsLine, chainWords, aroundIn, airIn, loadWords, noWords, planWords, fewest, slotsWords, channelsWords, sizesWords, leastWords};
+ghost use Rattle.site.specs.Record.{positions, faultOf};
+ghost use Rattle.site.specs.declared.Fault.the-variants.{Fine};
+ghost use Rattle.planner.specs.Plan.{planTable};
+ghost use Rattle.judges.specs.Judges.{chainAnswer, loadAnswer};
+ghost use Rattle.heaviest.specs.declared.HeaviestAnswer.the-variants.{Done};
+ghost use Rattle.phrases.specs.Put.{Put};
+ghost use Rattle.phrases.specs.Phrases.{phrase};
+ghost use Rattle.why.specs.Lines.{lines, fullRow, gaveUpRow};
+ghost use Rattle.why.specs.Words.{chainPhrase, overPhrase, loadPhrase, planPhrase, leastNumber, willDo, takesPhrase, setPhrase, cellPhrase};
+ghost use Rattle.why.specs.Words.{cellPhrases, fewest, sizeRow, sizePhrase, verdictPhrases, clashPhrases, sizesPhrases, sitePhrases, texts};
+ghost use Rattle.why.specs.Words.{whyWords};
 
-// A chained site.
-fn chained_line(out: &mut [u8], at: usize) -> usize
-    requires { ⌜ at + 1500 ≤ length (now out) ⌝ }
-    ensures stored { λ r. ⌜ now (out .exit) ≡ sets (now (out .entry)) at chainedLine ⌝ }
-    ensures next { λ r. ⌜ r ≡ at + length chainedLine ⌝ }
-    ensures short { λ r. ⌜ r ≤ at + 1500 ⌝ }
-{
-    say(out, at, b"chained\n", 0, 0, 0, 0)
-}
+const CHAINED: usize = 0;
 
-// The triple that breaks the chain.
-fn broken_line(out: &mut [u8], at: usize, a: usize, b: usize, c: usize) -> usize
+const BROKEN: usize = 1;
+
+const HOLDS: usize = 2;
+
+const OVER: usize = 3;
+
+const OFF_CHAIN: usize = 4;
+
+const PLANNED: usize = 5;
+
+const FULL: usize = 6;
+
+const GAVE_UP: usize = 7;
+
+const EXACT: usize = 8;
+
+const RANGE: usize = 9;
+
+const SET: usize = 10;
+
+const CELL: usize = 11;
+
+const SLOTS: usize = 12;
+
+const CHANNELS: usize = 16;
+
+// Puts a line: a row of the table with its values, or nothing.
+fn put(out: &mut [u8], at: usize, what: Phrase) -> usize
     requires { ⌜ at + 1500 ≤ length (now out) ⌝ }
-    ensures stored { λ r. ⌜ now (out .exit) ≡ sets (now (out .entry)) at (brokenLine a b c) ⌝ }
-    ensures next { λ r. ⌜ r ≡ at + length (brokenLine a b c) ⌝ }
-    ensures short { λ r. ⌜ r ≤ at + 1500 ⌝ }
+    ensures { λ r. ⌜ Put (now (out .entry)) at (phrase lines what) 1500 (now (out .exit)) r ⌝ }
 {
-    say(
+    put_phrase(
         out,
         at,
-        b"not chained: cells @1 and @3 disturb each other, and cell @2 between them does not disturb cell @1\n",
-        a,
-        b,
-        c,
-        0,
-    )
-}
-
-// The load test holds.
-fn holds_line(out: &mut [u8], at: usize) -> usize
-    requires { ⌜ at + 1500 ≤ length (now out) ⌝ }
-    ensures stored { λ r. ⌜ now (out .exit) ≡ sets (now (out .entry)) at holdsLine ⌝ }
-    ensures next { λ r. ⌜ r ≡ at + length holdsLine ⌝ }
-    ensures short { λ r. ⌜ r ≤ at + 1500 ⌝ }
-{
-    say(out, at, b"the load test holds\n", 0, 0, 0, 0)
-}
-
-// The lowest cell that is over.
-fn over_line(out: &mut [u8], at: usize, cell: usize, excess: usize) -> usize
-    requires { ⌜ at + 1500 ≤ length (now out) ⌝ }
-    ensures stored { λ r. ⌜ now (out .exit) ≡ sets (now (out .entry)) at (overLine cell excess) ⌝ }
-    ensures next { λ r. ⌜ r ≡ at + length (overLine cell excess) ⌝ }
-    ensures short { λ r. ⌜ r ≤ at + 1500 ⌝ }
-{
-    say(
-        out,
-        at,
-        b"the load test fails: cell @1 is over by @2 fragment@b; the air there has to carry:\n",
-        cell,
-        excess,
-        0,
-        0,
-    )
-}
-
-// A cell that shares the air.
-fn air_line(out: &mut [u8], at: usize, cell: usize, load: usize) -> usize
-    requires { ⌜ at + 200 ≤ length (now out) ⌝ }
-    ensures stored { λ r. ⌜ now (out .exit) ≡ sets (now (out .entry)) at (airLine cell load) ⌝ }
-    ensures next { λ r. ⌜ r ≡ at + length (airLine cell load) ⌝ }
-    ensures short { λ r. ⌜ r ≤ at + 200 ⌝ }
-{
-    say(out, at, b"  cell @1, load @2\n", cell, load, 0, 0)
-}
-
-// The planner plans the site.
-fn planned_line(out: &mut [u8], at: usize) -> usize
-    requires { ⌜ at + 1500 ≤ length (now out) ⌝ }
-    ensures stored { λ r. ⌜ now (out .exit) ≡ sets (now (out .entry)) at plannedLine ⌝ }
-    ensures next { λ r. ⌜ r ≡ at + length plannedLine ⌝ }
-    ensures short { λ r. ⌜ r ≤ at + 1500 ⌝ }
-{
-    say(out, at, b"planned\n", 0, 0, 0, 0)
-}
-
-// What a no means on a chained site.
-fn full_line(out: &mut [u8], at: usize, cell: usize, short: usize) -> usize
-    requires { ⌜ at + 1500 ≤ length (now out) ⌝ }
-    ensures stored { λ r. ⌜ now (out .exit) ≡ sets (now (out .entry)) at (fullLine cell short) ⌝ }
-    ensures next { λ r. ⌜ r ≡ at + length (fullLine cell short) ⌝ }
-    ensures short { λ r. ⌜ r ≤ at + 1500 ⌝ }
-{
-    say(
-        out,
-        at,
-        b"not planned: cell @1 is @2 fragment@b short. The site is full: it is chained, and so no planner can do better\n",
-        cell,
-        short,
-        0,
-        0,
-    )
-}
-
-// What a no means off the chain.
-fn gave_up_line(out: &mut [u8], at: usize, cell: usize, short: usize) -> usize
-    requires { ⌜ at + 1500 ≤ length (now out) ⌝ }
-    ensures stored { λ r. ⌜ now (out .exit) ≡ sets (now (out .entry)) at (gaveUpLine cell short) ⌝ }
-    ensures next { λ r. ⌜ r ≡ at + length (gaveUpLine cell short) ⌝ }
-    ensures short { λ r. ⌜ r ≤ at + 1500 ⌝ }
-{
-    say(
-        out,
-        at,
-        b"not planned: cell @1 is @2 fragment@b short. This order found no room; the site is not chained, and another order may find room\n",
-        cell,
-        short,
-        0,
-        0,
-    )
-}
-
-// How many channel-slots do, on a chained site.
-fn least_line(out: &mut [u8], at: usize, n: usize, positions: usize) -> usize
-    requires { ⌜ at + 1500 ≤ length (now out) ⌝ }
-    ensures stored { λ r. ⌜ now (out .exit) ≡ sets (now (out .entry)) at (leastLine n positions) ⌝ }
-    ensures next { λ r. ⌜ r ≡ at + length (leastLine n positions) ⌝ }
-    ensures short { λ r. ⌜ r ≤ at + 1500 ⌝ }
-{
-    say(
-        out,
-        at,
-        b"it takes @1 channel-slot@a, and no fewer; the site has @2\n",
-        n,
-        positions,
-        0,
-        0,
-    )
-}
-
-// How many channel-slots do, off the chain.
-fn enough_line(out: &mut [u8], at: usize, n: usize, positions: usize) -> usize
-    requires { ⌜ at + 1500 ≤ length (now out) ⌝ }
-    ensures stored { λ r. ⌜ now (out .exit) ≡ sets (now (out .entry)) at (enoughLine n positions) ⌝ }
-    ensures next { λ r. ⌜ r ≡ at + length (enoughLine n positions) ⌝ }
-    ensures short { λ r. ⌜ r ≤ at + 1500 ⌝ }
-{
-    say(
-        out,
-        at,
-        b"@1 channel-slot@a will do, and fewer may; the site has @2\n",
-        n,
-        positions,
-        0,
-        0,
-    )
-}
-
-// How many slots that takes.
-fn slots_line(out: &mut [u8], at: usize, channels: usize, slots: usize) -> usize
-    requires { ⌜ at + 1500 ≤ length (now out) ⌝ }
-    ensures stored { λ r. ⌜ now (out .exit) ≡ sets (now (out .entry)) at (slotsLine channels slots) ⌝ }
-    ensures next { λ r. ⌜ r ≡ at + length (slotsLine channels slots) ⌝ }
-    ensures short { λ r. ⌜ r ≤ at + 1500 ⌝ }
-{
-    say(
-        out,
-        at,
-        b"with @1 channel@a: @2 slot@b\n",
-        channels,
-        slots,
-        0,
-        0,
-    )
-}
-
-// More slots than a site has.
-fn many_slots_line(out: &mut [u8], at: usize, channels: usize) -> usize
-    requires { ⌜ at + 1500 ≤ length (now out) ⌝ }
-    ensures stored { λ r. ⌜ now (out .exit) ≡ sets (now (out .entry)) at (manySlotsLine channels) ⌝ }
-    ensures next { λ r. ⌜ r ≡ at + length (manySlotsLine channels) ⌝ }
-    ensures short { λ r. ⌜ r ≤ at + 1500 ⌝ }
-{
-    say(
-        out,
-        at,
-        b"with @1 channel@a: more than 128 slots, which no site has\n",
-        channels,
-        0,
-        0,
-        0,
-    )
-}
-
-// How many channels that takes.
-fn channels_line(out: &mut [u8], at: usize, slots: usize, channels: usize) -> usize
-    requires { ⌜ at + 1500 ≤ length (now out) ⌝ }
-    ensures stored { λ r. ⌜ now (out .exit) ≡ sets (now (out .entry)) at (channelsLine slots channels) ⌝ }
-    ensures next { λ r. ⌜ r ≡ at + length (channelsLine slots channels) ⌝ }
-    ensures short { λ r. ⌜ r ≤ at + 1500 ⌝ }
-{
-    say(
-        out,
-        at,
-        b"with @1 slot@a: @2 channel@b\n",
-        slots,
-        channels,
-        0,
-        0,
-    )
-}
-
-// More channels than a site has.
-fn many_channels_line(out: &mut [u8], at: usize, slots: usize) -> usize
-    requires { ⌜ at + 1500 ≤ length (now out) ⌝ }
-    ensures stored { λ r. ⌜ now (out .exit) ≡ sets (now (out .entry)) at (manyChannelsLine slots) ⌝ }
-    ensures next { λ r. ⌜ r ≡ at + length (manyChannelsLine slots) ⌝ }
-    ensures short { λ r. ⌜ r ≤ at + 1500 ⌝ }
-{
-    say(
-        out,
-        at,
-        b"with @1 slot@a: more than 16 channels, which no site has\n",
-        slots,
-        0,
-        0,
-        0,
+        b"chained\n|\
+          not chained: cells @1 and @3 clash, and cell @2 between them does not clash with cell @1\n|\
+          the load test holds\n|\
+          the load test fails: cell @1 is over by @2 fragment@b\n|\
+          the load test fails: cell @1 is over by @2 fragment@b; off the chain that alone decides nothing\n|\
+          planned\n|\
+          not planned: cell @1 is @2 fragment@b short. The site is full: no plan exists\n|\
+          not planned: cell @1 is @2 fragment@b short. This order found no room, and there may be another\n|\
+          it takes @1 channel-slot@a, and no fewer; the site has @2\n|\
+          it takes at least @1 channel-slot@a, and @2 will do; the site has @3\n|\
+          of all cells that clash with one another these need the most, @1:\n|\
+          \x20 cell @1, load @2\n|\
+          with @1 channel@a: @2 slot@b, and no fewer\n|\
+          with @1 channel@a: at least @2 slot@b, and @3 will do\n|\
+          with @1 channel@a: at least @2 slot@b\n|\
+          with @1 channel@a: more than 128 slots, which no site has\n|\
+          with @1 slot@a: @2 channel@b, and no fewer\n|\
+          with @1 slot@a: at least @2 channel@b, and @3 will do\n|\
+          with @1 slot@a: at least @2 channel@b\n|\
+          with @1 slot@a: more than 16 channels, which no site has\n|",
+        what,
     )
 }
 
 // Chained, or the triple that breaks it.
-pub fn chain_words(out: &mut [u8], at: usize, reply: ChainAnswer) -> usize
-    requires { ⌜ at + 1500 ≤ length (now out) ⌝ }
-    ensures stored { λ r. ⌜ now (out .exit) ≡ sets (now (out .entry)) at (chainWords reply) ⌝ }
-    ensures next { λ r. ⌜ r ≡ at + length (chainWords reply) ⌝ }
-    ensures short { λ r. ⌜ r ≤ at + 1500 ⌝ }
+fn chain_phrase(reply: ChainAnswer) -> Phrase
+    ensures { λ r. ⌜ r ≡ chainPhrase reply ⌝ }
 {
     match reply {
-        ChainAnswer::Chained => chained_line(out, at),
-        ChainAnswer::Broken(a, b, c) => broken_line(out, at, a, b, c),
-        ChainAnswer::Refused(_) => at,
+        ChainAnswer::Chained => Phrase::Row(CHAINED, 0, 0, 0, 0),
+        ChainAnswer::Broken(a, b, c) => Phrase::Row(BROKEN, a, b, c, 0),
+        ChainAnswer::Refused(_) => Phrase::Silent,
     }
 }
 
-// Whether the cell at index j shares the air with the cell at index i, by the clash row of that cell and the load.
-fn is_around(row: u32, load: usize, i: usize, j: usize) -> bool
-    requires { ⌜ j < 32 ⌝ }
-    ensures { λ r. ⌜ r ≡ aroundIn row load i j ⌝ }
+// The lowest cell that is over, and what that means.
+fn over_phrase(judge: ChainAnswer, cell: usize, excess: usize) -> Phrase
+    ensures { λ r. ⌜ r ≡ overPhrase judge cell excess ⌝ }
 {
-    if j == i {
-        return true;
+    match judge {
+        ChainAnswer::Chained => Phrase::Row(OVER, cell, excess, 0, 0),
+        ChainAnswer::Broken(_, _, _) => Phrase::Row(OFF_CHAIN, cell, excess, 0, 0),
+        ChainAnswer::Refused(_) => Phrase::Silent,
     }
-    if i < j {
-        return false;
-    }
-    if 0 < load {
-        return has(row, j);
-    }
-    false
 }
 
-// The line of a cell that shares the air; nothing for any other.
-fn air_of(out: &mut [u8], at: usize, row: u32, load: usize, i: usize, j: usize) -> usize
-    requires { ⌜ j < 32 ⌝ }
-    requires { ⌜ at + 200 ≤ length (now out) ⌝ }
-    ensures stored { λ r. ⌜ now (out .exit) ≡ sets (now (out .entry)) at (pick (aroundIn row load i j) (airLine (j + 1) load) []) ⌝ }
-    ensures next { λ r. ⌜ r ≡ at + length (pick (aroundIn row load i j) (airLine (j + 1) load) []) ⌝ }
-    ensures short { λ r. ⌜ r ≤ at + 200 ⌝ }
+// The load test: it holds, or who is over.
+fn load_phrase(judge: ChainAnswer, reply: LoadAnswer) -> Phrase
+    ensures { λ r. ⌜ r ≡ loadPhrase judge reply ⌝ }
 {
-    if is_around(row, load, i, j) {
-        return air_line(out, at, j + 1, load);
+    match reply {
+        LoadAnswer::Holds => Phrase::Row(HOLDS, 0, 0, 0, 0),
+        LoadAnswer::Over(cell, excess) => over_phrase(judge, cell, excess),
+        LoadAnswer::Refused(_) => Phrase::Silent,
     }
-    at
+}
+
+// The row of a no: full where the heaviest clash is above the positions.
+fn no_row(l: usize, n: usize) -> usize
+    ensures { λ r. ⌜ r ≡ pick (ltb n l) fullRow gaveUpRow ⌝ }
+{
+    if n < l {
+        return FULL;
+    }
+    GAVE_UP
+}
+
+// Planned or not, and what a no means.
+fn plan_phrase(l: usize, n: usize, reply: PlanAnswer) -> Phrase
+    ensures { λ r. ⌜ r ≡ planPhrase l n reply ⌝ }
+{
+    match reply {
+        PlanAnswer::Done => Phrase::Row(PLANNED, 0, 0, 0, 0),
+        PlanAnswer::TableShort => Phrase::Silent,
+        PlanAnswer::NoRoom(cell, short) => Phrase::Row(no_row(l, n), cell, short, 0, 0),
+        PlanAnswer::Refused(_) => Phrase::Silent,
+    }
+}
+
+// The number that `least` answers.
+fn least_number(reply: LeastAnswer) -> usize
+    ensures { λ r. ⌜ r ≡ leastNumber reply ⌝ }
+{
+    match reply {
+        LeastAnswer::Least(n) => n,
+        LeastAnswer::Enough(n) => n,
+        LeastAnswer::Refused(_) => 0,
+    }
+}
+
+// The smaller of two numbers.
+fn smaller(n: usize, m: usize) -> usize
+    ensures { λ r. ⌜ r ≡ pick (ltb n m) n m ⌝ }
+{
+    if n < m {
+        return n;
+    }
+    m
+}
+
+// The number of channel-slots that will do: where the site is planned, its own if that is smaller.
+fn will_do(reply: PlanAnswer, n: usize, m: usize) -> usize
+    ensures { λ r. ⌜ r ≡ willDo reply n m ⌝ }
+{
+    match reply {
+        PlanAnswer::Done => smaller(n, m),
+        PlanAnswer::TableShort => m,
+        PlanAnswer::NoRoom(_, _) => m,
+        PlanAnswer::Refused(_) => m,
+    }
+}
+
+// How many channel-slots it takes.
+fn takes_phrase(l: usize, u: usize, n: usize) -> Phrase
+    ensures { λ r. ⌜ r ≡ takesPhrase l u n ⌝ }
+{
+    if l == u {
+        return Phrase::Row(EXACT, l, n, 0, 0);
+    }
+    Phrase::Row(RANGE, l, u, n, 0)
+}
+
+// What stands before the cells of the heaviest clash.
+fn set_phrase(l: usize) -> Phrase
+    ensures { λ r. ⌜ r ≡ setPhrase l ⌝ }
+{
+    if 0 < l {
+        return Phrase::Row(SET, l, 0, 0, 0);
+    }
+    Phrase::Silent
+}
+
+// The line of a cell of the set; nothing for any other.
+fn cell_phrase(set: u32, load: usize, j: usize) -> Phrase
+    requires { ⌜ j < 32 ⌝ }
+    ensures { λ r. ⌜ r ≡ cellPhrase set load j ⌝ }
+{
+    if has(set, j) {
+        return Phrase::Row(CELL, j + 1, load, 0, 0);
+    }
+    Phrase::Silent
 }
 
 // A load as a number.
@@ -289,92 +211,23 @@ fn wide(x: u16) -> usize
     x as usize
 }
 
-// The lines of the cells that share the air with the cell at index i.
-fn air_lines(
-    out: &mut [u8],
-    at: usize,
-    loads: &[u16; 32],
-    row: u32,
-    i: usize,
-    cells: usize,
-) -> usize
-    requires { ⌜ (cells ≤ 32) × (at + 200 * cells ≤ length (now out)) ⌝ }
-    ensures stored { λ r. ⌜ now (out .exit) ≡ sets (now (out .entry)) at (airIn (now (loads .entry)) row i cells) ⌝ }
-    ensures next { λ r. ⌜ r ≡ at + length (airIn (now (loads .entry)) row i cells) ⌝ }
-    ensures short { λ r. ⌜ r ≤ at + 200 * cells ⌝ }
+// The lines of the cells of the set, of the first so many.
+fn put_cells(out: &mut [u8], at: usize, loads: &[u16; 32], set: u32, cells: usize) -> usize
+    requires { ⌜ (cells ≤ 32) × (at + 1500 * cells ≤ length (now out)) ⌝ }
+    ensures { λ r. ⌜ Put (now (out .entry)) at (texts (cellPhrases (now (loads .entry)) set cells)) (1500 * cells) (now (out .exit)) r ⌝ }
 {
     let mut next = at;
     let mut j = 0;
     while j < cells {
-        next = air_of(out, next, row, wide(loads[j]), i, j);
+        next = put(out, next, cell_phrase(set, wide(loads[j]), j));
         j += 1;
     }
     next
 }
 
-// The lowest cell that is over, and the cells that share the air there.
-fn over_words(out: &mut [u8], at: usize, site: Site, cell: usize, excess: usize) -> usize
-    requires { ⌜ at + 8000 ≤ length (now out) ⌝ }
-    requires { ⌜ loadAnswer site ≡ Over cell excess ⌝ }
-    ensures stored { λ r. ⌜ now (out .exit) ≡ sets (now (out .entry)) at (loadWords site (Over cell excess)) ⌝ }
-    ensures next { λ r. ⌜ r ≡ at + length (loadWords site (Over cell excess)) ⌝ }
-    ensures short { λ r. ⌜ r ≤ at + 8000 ⌝ }
-{
-    let middle = over_line(out, at, cell, excess);
-    let cells = site.cells as usize;
-    let loads = site.loads;
-    let rows = site.clash_rows();
-    let i = cell - 1;
-    air_lines(out, middle, &loads, rows[i], i, cells)
-}
-
-// The load test: it holds, or who is over and why.
-pub fn load_words(out: &mut [u8], at: usize, site: Site) -> usize
-    requires { ⌜ at + 8000 ≤ length (now out) ⌝ }
-    ensures stored { λ r. ⌜ now (out .exit) ≡ sets (now (out .entry)) at (loadWords site (loadAnswer site)) ⌝ }
-    ensures next { λ r. ⌜ r ≡ at + length (loadWords site (loadAnswer site)) ⌝ }
-    ensures short { λ r. ⌜ r ≤ at + 8000 ⌝ }
-{
-    let reply = judges::load_test(site);
-    match reply {
-        LoadAnswer::Holds => holds_line(out, at),
-        LoadAnswer::Over(cell, excess) => over_words(out, at, site, cell, excess),
-        LoadAnswer::Refused(_) => at,
-    }
-}
-
-// What a no means here.
-fn no_words(out: &mut [u8], at: usize, judge: ChainAnswer, cell: usize, short: usize) -> usize
-    requires { ⌜ at + 1500 ≤ length (now out) ⌝ }
-    ensures stored { λ r. ⌜ now (out .exit) ≡ sets (now (out .entry)) at (noWords judge cell short) ⌝ }
-    ensures next { λ r. ⌜ r ≡ at + length (noWords judge cell short) ⌝ }
-    ensures short { λ r. ⌜ r ≤ at + 1500 ⌝ }
-{
-    match judge {
-        ChainAnswer::Chained => full_line(out, at, cell, short),
-        ChainAnswer::Broken(_, _, _) => gave_up_line(out, at, cell, short),
-        ChainAnswer::Refused(_) => at,
-    }
-}
-
-// Planned or not, and what a no means.
-pub fn plan_words(out: &mut [u8], at: usize, judge: ChainAnswer, reply: PlanAnswer) -> usize
-    requires { ⌜ at + 1500 ≤ length (now out) ⌝ }
-    ensures stored { λ r. ⌜ now (out .exit) ≡ sets (now (out .entry)) at (planWords judge reply) ⌝ }
-    ensures next { λ r. ⌜ r ≡ at + length (planWords judge reply) ⌝ }
-    ensures short { λ r. ⌜ r ≤ at + 1500 ⌝ }
-{
-    match reply {
-        PlanAnswer::Done => planned_line(out, at),
-        PlanAnswer::TableShort => at,
-        PlanAnswer::NoRoom(cell, short) => no_words(out, at, judge, cell, short),
-        PlanAnswer::Refused(_) => at,
-    }
-}
-
 // The fewest slots of f channels, or channels of f slots, that make n channel-slots.
 fn fewest(n: usize, f: usize) -> usize
-    requires { ⌜ (n ≤ 128 * f) × (f ≤ 65535) ⌝ }
+    requires { ⌜ 0 < f ⌝ }
     ensures { λ r. ⌜ r ≡ fewest n f ⌝ }
 {
     if n < 1 {
@@ -386,77 +239,92 @@ fn fewest(n: usize, f: usize) -> usize
     n / f + 1
 }
 
-// How many slots that takes.
-fn slots_words(out: &mut [u8], at: usize, n: usize, channels: usize) -> usize
-    requires { ⌜ at + 1500 ≤ length (now out) ⌝ }
-    requires { ⌜ channels ≤ 65535 ⌝ }
-    ensures stored { λ r. ⌜ now (out .exit) ≡ sets (now (out .entry)) at (slotsWords n channels) ⌝ }
-    ensures next { λ r. ⌜ r ≡ at + length (slotsWords n channels) ⌝ }
-    ensures short { λ r. ⌜ r ≤ at + 1500 ⌝ }
+// The row of a size, of the four that begin at `row`, with its values.
+fn size_row(row: usize, most: usize, f: usize, lo: usize, hi: usize) -> Phrase
+    requires { ⌜ row ≤ 16 ⌝ }
+    ensures { λ r. ⌜ r ≡ sizeRow row most f lo hi ⌝ }
 {
-    if 128 * channels < n {
-        return many_slots_line(out, at, channels);
+    if most < lo {
+        return Phrase::Row(row + 3, f, 0, 0, 0);
     }
-    slots_line(out, at, channels, fewest(n, channels))
+    if most < hi {
+        return Phrase::Row(row + 2, f, lo, 0, 0);
+    }
+    if lo == hi {
+        return Phrase::Row(row, f, lo, 0, 0);
+    }
+    Phrase::Row(row + 1, f, lo, hi, 0)
 }
 
-// How many channels that takes.
-fn channels_words(out: &mut [u8], at: usize, n: usize, slots: usize) -> usize
-    requires { ⌜ at + 1500 ≤ length (now out) ⌝ }
-    requires { ⌜ slots ≤ 65535 ⌝ }
-    ensures stored { λ r. ⌜ now (out .exit) ≡ sets (now (out .entry)) at (channelsWords n slots) ⌝ }
-    ensures next { λ r. ⌜ r ≡ at + length (channelsWords n slots) ⌝ }
-    ensures short { λ r. ⌜ r ≤ at + 1500 ⌝ }
+// With f of the one, how many of the other make l channel-slots, and u.
+fn size_phrase(row: usize, most: usize, f: usize, l: usize, u: usize) -> Phrase
+    requires { ⌜ (row ≤ 16) × (0 < f) ⌝ }
+    ensures { λ r. ⌜ r ≡ sizePhrase row most f l u ⌝ }
 {
-    if 16 * slots < n {
-        return many_channels_line(out, at, slots);
-    }
-    channels_line(out, at, slots, fewest(n, slots))
+    size_row(row, most, f, fewest(l, f), fewest(u, f))
 }
 
-// How many slots and how many channels.
-fn sizes_words(out: &mut [u8], at: usize, site: Site, n: usize) -> usize
+// How many slots, and how many channels.
+fn put_sizes(out: &mut [u8], at: usize, site: Site, l: usize, u: usize) -> usize
     requires { ⌜ at + 3000 ≤ length (now out) ⌝ }
-    ensures stored { λ r. ⌜ now (out .exit) ≡ sets (now (out .entry)) at (sizesWords site n) ⌝ }
-    ensures next { λ r. ⌜ r ≡ at + length (sizesWords site n) ⌝ }
-    ensures short { λ r. ⌜ r ≤ at + 3000 ⌝ }
+    requires { ⌜ faultOf site ≡ Fine ⌝ }
+    ensures { λ r. ⌜ Put (now (out .entry)) at (texts (sizesPhrases site l u)) 3000 (now (out .exit)) r ⌝ }
 {
-    let middle = slots_words(out, at, n, site.channels as usize);
-    channels_words(out, middle, n, site.slots as usize)
+    let slots = size_phrase(SLOTS, 128, site.channels as usize, l, u);
+    let middle = put(out, at, slots);
+    let channels = size_phrase(CHANNELS, 16, site.slots as usize, l, u);
+    put(out, middle, channels)
 }
 
-// The least number of channel-slots, with the sizes.
-fn least_all(out: &mut [u8], at: usize, site: Site, n: usize) -> usize
-    requires { ⌜ at + 4500 ≤ length (now out) ⌝ }
-    ensures stored { λ r. ⌜ now (out .exit) ≡ sets (now (out .entry)) at (leastWords site (Least n)) ⌝ }
-    ensures next { λ r. ⌜ r ≡ at + length (leastWords site (Least n)) ⌝ }
-    ensures short { λ r. ⌜ r ≤ at + 4500 ⌝ }
+// How many channel-slots it takes, and the heaviest clash.
+fn put_clash(out: &mut [u8], at: usize, site: Site, n: usize, l: usize, u: usize, set: u32) -> usize
+    requires { ⌜ at + 51000 ≤ length (now out) ⌝ }
+    requires { ⌜ (faultOf site ≡ Fine) × (n ≡ positions site) ⌝ }
+    ensures { λ r. ⌜ Put (now (out .entry)) at (texts (clashPhrases site l u set)) 51000 (now (out .exit)) r ⌝ }
 {
-    let middle = least_line(out, at, n, site.slots as usize * site.channels as usize);
-    sizes_words(out, middle, site, n)
+    let second = put(out, at, takes_phrase(l, u, n));
+    let third = put(out, second, set_phrase(l));
+    let loads = site.loads;
+    put_cells(out, third, &loads, set, site.cells as usize)
 }
 
-// A number of channel-slots that is enough, with the sizes.
-fn enough_all(out: &mut [u8], at: usize, site: Site, n: usize) -> usize
-    requires { ⌜ at + 4500 ≤ length (now out) ⌝ }
-    ensures stored { λ r. ⌜ now (out .exit) ≡ sets (now (out .entry)) at (leastWords site (Enough n)) ⌝ }
-    ensures next { λ r. ⌜ r ≡ at + length (leastWords site (Enough n)) ⌝ }
-    ensures short { λ r. ⌜ r ≤ at + 4500 ⌝ }
+// The verdicts: the chain, the load test and the plan.
+fn put_verdicts(out: &mut [u8], site: Site, reply: PlanAnswer, l: usize, n: usize) -> usize
+    requires { ⌜ 4500 ≤ length (now out) ⌝ }
+    ensures { λ r. ⌜ Put (now (out .entry)) 0 (texts (verdictPhrases (chainAnswer site) (loadAnswer site) reply l n)) 4500 (now (out .exit)) r ⌝ }
 {
-    let middle = enough_line(out, at, n, site.slots as usize * site.channels as usize);
-    sizes_words(out, middle, site, n)
+    let judge = judges::chain(site);
+    let test = judges::load_test(site);
+    let second = put(out, 0, chain_phrase(judge));
+    let third = put(out, second, load_phrase(judge, test));
+    put(out, third, plan_phrase(l, n, reply))
 }
 
-// How many channel-slots do, and so how many slots and channels.
-pub fn least_words(out: &mut [u8], at: usize, site: Site, reply: LeastAnswer) -> usize
-    requires { ⌜ at + 4500 ≤ length (now out) ⌝ }
-    ensures stored { λ r. ⌜ now (out .exit) ≡ sets (now (out .entry)) at (leastWords site reply) ⌝ }
-    ensures next { λ r. ⌜ r ≡ at + length (leastWords site reply) ⌝ }
-    ensures short { λ r. ⌜ r ≤ at + 4500 ⌝ }
+// All that is said of an accepted site, with the planner's answer and the heaviest clash.
+fn put_all(out: &mut [u8], site: Site, reply: PlanAnswer, l: usize, set: u32) -> usize
+    requires { ⌜ 60000 ≤ length (now out) ⌝ }
+    requires { ⌜ faultOf site ≡ Fine ⌝ }
+    ensures { λ r. ⌜ Put (now (out .entry)) 0 (texts (sitePhrases site reply (Done l set))) 60000 (now (out .exit)) r ⌝ }
 {
-    match reply {
-        LeastAnswer::Least(n) => least_all(out, at, site, n),
-        LeastAnswer::Enough(n) => enough_all(out, at, site, n),
-        LeastAnswer::Refused(_) => at,
+    let n = site.slots as usize * site.channels as usize;
+    let least = judges::least(site);
+    let u = will_do(reply, n, least_number(least));
+    let second = put_verdicts(out, site, reply, l, n);
+    let third = put_clash(out, second, site, n, l, u, set);
+    put_sizes(out, third, site, l, u)
+}
+
+// What can be said of a site, from the start of `out`, and how long it is. The planner plans in `table`, which is long enough for every site. A
+// refused record has no words.
+pub fn why(site: Site, table: &mut [u8], out: &mut [u8]) -> usize
+    requires { ⌜ (65536 ≤ length (now table)) × (60000 ≤ length (now out)) ⌝ }
+    ensures words { λ r. ⌜ Put (now (out .entry)) 0 (whyWords site (now (table .entry))) 60000 (now (out .exit)) r ⌝ }
+    ensures table { λ _. ⌜ now (table .exit) ≡ planTable site (now (table .entry)) ⌝ }
+{
+    let reply = planner::plan(site, table);
+    let found = heaviest::heaviest(site);
+    match found {
+        HeaviestAnswer::Done(l, set) => put_all(out, site, reply, l, set),
+        HeaviestAnswer::Refused(_) => 0,
     }
 }

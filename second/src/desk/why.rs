@@ -1,73 +1,89 @@
 //! `duggfrask why`: what can be said of a site, line by line.
 
 use super::wording::counted;
+use crate::heaviest::{heaviest, Heaviest};
 use crate::judge::{chain, least, load_test};
 use crate::planner::plan;
 use crate::site::{Site, MOST_CHANNELS, MOST_SLOTS};
 
-/// Whether the site is chained, the load test, the plan or what a no means, and which slots and channels are enough.
-/// The site comes from a reader, and is sound.
+/// Whether the site is chained, the load test, the plan or what a no means; how many channel-slots it takes and the
+/// heaviest clash; and so how many slots and channels. The site comes from a reader, and is sound.
 pub fn why(site: &Site) -> String {
     let gap = chain(site).expect("a sound site");
-    let chained = gap.is_none();
+    let clash = heaviest(site).expect("a sound site");
     let chain = match gap {
         None => String::from("chained\n"),
-        Some((a, b, c)) => format!(
-            "not chained: cells {a} and {c} disturb each other, and cell {b} between them does not disturb cell {a}\n"
-        ),
+        Some((a, b, c)) => {
+            format!("not chained: cells {a} and {c} clash, and cell {b} between them does not clash with cell {a}\n")
+        }
     };
-    chain + &load_lines(site) + &plan_line(site, chained) + &enough_lines(site)
+    let room = site.positions() as u64;
+    let planned = plan(site, &mut vec![0; site.table_len()]);
+    let demand = least(site).expect("a sound site").channel_slots;
+    let enough = if planned.is_ok() { demand.min(room) } else { demand };
+    let plan = match planned {
+        Ok(()) => String::from("planned\n"),
+        Err(no) => no_line(no.value[0], no.value[1], clash.load > room),
+    };
+    chain
+        + &load_line(site, gap.is_none())
+        + &plan
+        + &takes_lines(site, &clash, enough)
+        + &size_lines(site, clash.load, enough)
 }
 
-/// The load test; where it fails, the cell that is over comes after the lower cells that share the air with it.
-fn load_lines(site: &Site) -> String {
+fn load_line(site: &Site, chained: bool) -> String {
     let Some((cell, excess)) = load_test(site).expect("a sound site") else {
         return String::from("the load test holds\n");
     };
-    let excess = counted(excess, "fragment");
-    let mut lines = format!("the load test fails: cell {cell} is over by {excess}; the air there has to carry:\n");
-    for sharing in (1..=cell).filter(|&lower| lower == cell || site.clash(lower, cell)) {
-        if site.load(sharing) > 0 {
-            lines += &format!("  cell {sharing}, load {}\n", site.load(sharing));
-        }
+    let decides = if chained { "" } else { "; off the chain that alone decides nothing" };
+    format!("the load test fails: cell {cell} is over by {}{decides}\n", counted(excess, "fragment"))
+}
+
+fn no_line(cell: u64, short: u64, full: bool) -> String {
+    let meaning =
+        if full { "The site is full: no plan exists" } else { "This order found no room, and there may be another" };
+    format!("not planned: cell {cell} is {} short. {meaning}\n", counted(short, "fragment"))
+}
+
+/// The number of channel-slots that it takes, or the two that it lies between; and the heaviest clash, cell by cell.
+fn takes_lines(site: &Site, clash: &Heaviest, enough: u64) -> String {
+    let least = counted(clash.load, "channel-slot");
+    let takes = if clash.load == enough {
+        format!("it takes {least}, and no fewer")
+    } else {
+        format!("it takes at least {least}, and {enough} will do")
+    };
+    let mut lines = format!("{takes}; the site has {}\n", site.positions());
+    if clash.load > 0 {
+        lines += &format!("of all cells that clash with one another these need the most, {}:\n", clash.load);
+    }
+    for cell in (1..=site.count()).filter(|cell| clash.cells >> (cell - 1) & 1 == 1) {
+        lines += &format!("  cell {cell}, load {}\n", site.load(cell));
     }
     lines
 }
 
-fn plan_line(site: &Site, chained: bool) -> String {
-    let Err(no) = plan(site, &mut vec![0; site.table_len()]) else {
-        return String::from("planned\n");
-    };
-    let meaning = if chained {
-        "The site is full: it is chained, and so no planner can do better"
-    } else {
-        "This order found no room; the site is not chained, and another order may find room"
-    };
-    format!("not planned: cell {} is {} short. {meaning}\n", no.value[0], counted(no.value[1], "fragment"))
-}
-
-/// How many channel-slots will do, and with the site's channels how many slots, with its slots how many channels.
-fn enough_lines(site: &Site) -> String {
-    let least = least(site).expect("a sound site");
-    let fewer_may_do = least.fewer_may_do;
-    let least = least.channel_slots;
+/// With the site's channels how many slots, and with its slots how many channels.
+fn size_lines(site: &Site, least: u64, enough: u64) -> String {
     let (slots, channels) = (site.slots as u64, site.channels as u64);
-    let enough = counted(least, "channel-slot");
-    let exact = if fewer_may_do {
-        format!("{enough} will do, and fewer may")
-    } else {
-        format!("it takes {enough}, and no fewer")
-    };
-    let mut lines = format!("{exact}; the site has {}\n", site.positions());
-    lines += &with(counted(channels, "channel"), least.div_ceil(channels), "slot", MOST_SLOTS);
-    lines + &with(counted(slots, "slot"), least.div_ceil(slots), "channel", MOST_CHANNELS)
+    let of = |number: u64, each: u64| number.div_ceil(each).max(1);
+    with(counted(channels, "channel"), of(least, channels), of(enough, channels), "slot", MOST_SLOTS)
+        + &with(counted(slots, "slot"), of(least, slots), of(enough, slots), "channel", MOST_CHANNELS)
 }
 
-fn with(given: String, least: u64, thing: &str, most: usize) -> String {
-    match least.max(1) {
-        number if number > most as u64 => format!("with {given}: more than {most} {thing}s, which no site has\n"),
-        number => format!("with {given}: {}\n", counted(number, thing)),
-    }
+fn with(given: String, least: u64, enough: u64, thing: &str, most: usize) -> String {
+    let most_ever = most as u64;
+    let line = if least > most_ever {
+        format!("more than {most} {thing}s, which no site has")
+    } else if enough > most_ever {
+        format!("at least {}", counted(least, thing))
+    } else if least == enough {
+        format!("{}, and no fewer", counted(least, thing))
+    } else {
+        format!("at least {}, and {enough} will do", counted(least, thing))
+    };
+    format!("with {given}: {line}\n")
 }
 
 #[cfg(test)]
@@ -79,59 +95,58 @@ mod tests {
         why(&site).lines().map(String::from).collect()
     }
 
+    /// Cells with these loads, all but the last of which clash with the last alone.
+    fn star(slots: usize, loads: &[u16]) -> Site {
+        let mut site = Site::sized(loads.len(), slots, 1);
+        site.loads[..loads.len()].copy_from_slice(loads);
+        for cell in 1..loads.len() {
+            site = site.with_reach(cell, loads.len(), true).unwrap();
+        }
+        site
+    }
+
     #[test]
     fn none_one_and_two() {
-        for (load, enough) in [
-            (
-                0,
-                [
-                    "it takes 0 channel-slots, and no fewer; the site has 2",
-                    "with 2 channels: 1 slot",
-                    "with 1 slot: 1 channel",
-                ],
-            ),
-            (
-                1,
-                [
-                    "it takes 1 channel-slot, and no fewer; the site has 2",
-                    "with 2 channels: 1 slot",
-                    "with 1 slot: 1 channel",
-                ],
-            ),
-            (
-                2,
-                [
-                    "it takes 2 channel-slots, and no fewer; the site has 2",
-                    "with 2 channels: 1 slot",
-                    "with 1 slot: 2 channels",
-                ],
-            ),
+        for (load, takes, channels) in [
+            (0, "0 channel-slots", "1 channel"),
+            (1, "1 channel-slot", "1 channel"),
+            (2, "2 channel-slots", "2 channels"),
         ] {
             let lines = alone(1, 2, load);
             assert_eq!(lines[..3], ["chained", "the load test holds", "planned"]);
-            assert_eq!(lines[3..], enough);
+            assert_eq!(lines[3], format!("it takes {takes}, and no fewer; the site has 2"));
+            let sizes = [
+                String::from("with 2 channels: 1 slot, and no fewer"),
+                format!("with 1 slot: {channels}, and no fewer"),
+            ];
+            assert_eq!(lines[lines.len() - 2..], sizes);
         }
+        assert_eq!(alone(1, 2, 0).len(), 6);
+        assert_eq!(
+            alone(1, 2, 1)[4..6],
+            ["of all cells that clash with one another these need the most, 1:", "  cell 1, load 1"]
+        );
     }
 
     #[test]
     fn one_and_two_fragments_short() {
         for (load, fragments) in [(3, "1 fragment"), (4, "2 fragments")] {
             let lines = alone(2, 1, load);
-            let over = format!("the load test fails: cell 1 is over by {fragments}; the air there has to carry:");
-            let short = format!(
-                "not planned: cell 1 is {fragments} short. The site is full: it is chained, and so no planner can do better"
-            );
-            assert_eq!(lines[1..4], [over, format!("  cell 1, load {load}"), short]);
+            let over = format!("the load test fails: cell 1 is over by {fragments}");
+            let short = format!("not planned: cell 1 is {fragments} short. The site is full: no plan exists");
+            assert_eq!(lines[1..3], [over, short]);
         }
     }
 
     #[test]
     fn more_than_any_site_has() {
         let lines = alone(1, 2, 257);
-        assert_eq!(lines[5], "with 2 channels: more than 128 slots, which no site has");
-        assert_eq!(lines[6], "with 1 slot: more than 16 channels, which no site has");
-        assert_eq!(alone(1, 2, 256)[5], "with 2 channels: 128 slots");
-        assert_eq!(alone(1, 2, 16)[6], "with 1 slot: 16 channels");
+        assert_eq!(lines[6], "with 2 channels: more than 128 slots, which no site has");
+        assert_eq!(lines[7], "with 1 slot: more than 16 channels, which no site has");
+        assert_eq!(alone(1, 2, 256)[6], "with 2 channels: 128 slots, and no fewer");
+        assert_eq!(alone(1, 2, 16)[7], "with 1 slot: 16 channels, and no fewer");
+        let lines = why(&star(1, &[64, 64, 64]));
+        assert!(lines.contains("\nwith 1 channel: at least 128 slots\n"), "{lines}");
     }
 
     #[test]
@@ -142,16 +157,32 @@ mod tests {
         }
         site.loads[..4].fill(1);
         let expected = "\
-not chained: cells 1 and 3 disturb each other, and cell 2 between them does not disturb cell 1
-the load test fails: cell 4 is over by 1 fragment; the air there has to carry:
-  cell 2, load 1
+not chained: cells 1 and 3 clash, and cell 2 between them does not clash with cell 1
+the load test fails: cell 4 is over by 1 fragment; off the chain that alone decides nothing
+not planned: cell 4 is 1 fragment short. This order found no room, and there may be another
+it takes at least 2 channel-slots, and 3 will do; the site has 2
+of all cells that clash with one another these need the most, 2:
+  cell 1, load 1
   cell 3, load 1
-  cell 4, load 1
-not planned: cell 4 is 1 fragment short. This order found no room; the site is not chained, and another order may find room
-3 channel-slots will do, and fewer may; the site has 2
-with 1 channel: 3 slots
-with 2 slots: 2 channels
+with 1 channel: at least 2 slots, and 3 will do
+with 2 slots: at least 1 channel, and 2 will do
 ";
         assert_eq!(why(&site), expected);
+    }
+
+    #[test]
+    fn planned_with_less_than_the_load_test_asks_for() {
+        let expected = "\
+not chained: cells 1 and 14 clash, and cell 2 between them does not clash with cell 1
+the load test fails: cell 14 is over by 12 fragments; off the chain that alone decides nothing
+planned
+it takes at least 20 channel-slots, and 128 will do; the site has 128
+of all cells that clash with one another these need the most, 20:
+  cell 1, load 10
+  cell 14, load 10
+with 1 channel: at least 20 slots, and 128 will do
+with 128 slots: 1 channel, and no fewer
+";
+        assert_eq!(why(&star(128, &[10; 14])), expected);
     }
 }
