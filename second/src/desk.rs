@@ -14,7 +14,7 @@ use crate::planner;
 use crate::share::{share as share_once, share_of, Fragments, Repeats, Share, Slots};
 use crate::sheet::{read_sheet, write_sheet};
 use crate::site::Site;
-use wording::{change_line, counted, no_room, refused, sends_wrongly, sizes, Place};
+use wording::{change_line, counted, no_room, no_room_beside, refused, sends_wrongly, sizes, Place};
 
 /// Of each input no more than this is looked at.
 const MOST_BYTES: usize = 65_536;
@@ -83,7 +83,7 @@ pub fn check(site_file: &[u8], plan_file: &[u8]) -> Told {
 pub fn mend(site_file: &[u8], plan_file: &[u8]) -> Told {
     let (site, mut table) = site_and_table(site_file, plan_file)?;
     let mut list = vec![0; 4 * MOST_TABLE];
-    let count = mender::mend(&site, &mut table, &mut list).map_err(|no| no_room(&no))?;
+    let count = mender::mend(&site, &mut table, &mut list).map_err(|no| no_room_beside(&no))?;
     let mut words = match count {
         0 => String::from("valid as it is: nothing to change\n"),
         _ => format!("mended with {}\n", counted(count as u64, "change")),
@@ -186,9 +186,11 @@ mod tests {
                 Ok(Done { result: mended, words: "planned: 1 cell, 2 slots, 1 channel\n".into() })
             );
         }
-        let full = "refused 5, cell 1: no room for 1 of its fragments; duggfrask why says whether the site is full\n";
-        assert_eq!(mend(&one(3), &empty), Err(full.into()));
-        assert_eq!(plan(&one(3)), Err(full.into()));
+        let start = "refused 5, cell 1: ";
+        let kept = "keeping these reservations leaves no room for 1 of its fragments; a fresh plan may do\n";
+        assert_eq!(mend(&one(3), &empty), Err(format!("{start}{kept}")));
+        let short = "no room for 1 of its fragments; duggfrask why says what that means\n";
+        assert_eq!(plan(&one(3)), Err(format!("{start}{short}")));
     }
 
     #[test]
