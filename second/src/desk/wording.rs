@@ -73,6 +73,12 @@ pub fn no_room_beside(no: &Answer) -> String {
     )
 }
 
+/// Refusal 19, with the three cells that break the chain.
+pub fn not_chained((a, b, c): (usize, usize, usize)) -> String {
+    let sentence = meaning(NUMBERS, 19);
+    format!("refused 19: {sentence}: cells {a} and {c} clash, and cell {b} between them does not clash with cell {a}\n")
+}
+
 /// Who reaches whom, of two cells that clash.
 fn way(site: &Site, first: usize, second: usize) -> String {
     match (site.reaches(first, second), site.reaches(second, first)) {
