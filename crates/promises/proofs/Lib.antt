@@ -11,6 +11,7 @@ pub mod Sheets
 pub mod Admission
 pub mod Words
 pub mod Mending
+pub mod Said
 pub mod InC
 pub mod SquareOne
 pub mod SiteOne
