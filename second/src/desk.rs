@@ -9,12 +9,13 @@ use crate::admit::{admit as admitted_set, Flow};
 use crate::answer::Answer;
 use crate::checker;
 use crate::files::{read_plan, read_site, write_plan, write_site};
+use crate::judge::first_gap;
 use crate::mender;
 use crate::planner;
 use crate::share::{share as share_once, share_of, Fragments, Repeats, Share, Slots};
 use crate::sheet::{read_sheet, write_sheet};
 use crate::site::Site;
-use wording::{change_line, counted, no_room, refused, sends_wrongly, sizes, Place};
+use wording::{change_line, counted, no_room, no_room_beside, not_chained, refused, sends_wrongly, sizes, Place};
 
 /// Of each input no more than this is looked at.
 const MOST_BYTES: usize = 65_536;
@@ -83,7 +84,7 @@ pub fn check(site_file: &[u8], plan_file: &[u8]) -> Told {
 pub fn mend(site_file: &[u8], plan_file: &[u8]) -> Told {
     let (site, mut table) = site_and_table(site_file, plan_file)?;
     let mut list = vec![0; 4 * MOST_TABLE];
-    let count = mender::mend(&site, &mut table, &mut list).map_err(|no| no_room(&no))?;
+    let count = mender::mend(&site, &mut table, &mut list).map_err(|no| no_room_beside(&no))?;
     let mut words = match count {
         0 => String::from("valid as it is: nothing to change\n"),
         _ => format!("mended with {}\n", counted(count as u64, "change")),
@@ -137,9 +138,11 @@ pub fn admit(site_file: &[u8], flow_sheet: &[u8]) -> Told {
     let site = site_in(site_file)?;
     let flows = flows::read_flows(seen(flow_sheet))
         .map_err(|no| refused(no.number, if no.number == 17 { Place::Line(no.value[0]) } else { Place::Nowhere }))?;
-    let set = admitted_set(&site, &flows)
-        .map_err(|no| refused(no.number, if no.number == 19 { Place::Nowhere } else { Place::Flow(no.value[0]) }))?;
-    let (mut lines, mut worth) = (String::new(), 0);
+    let set = admitted_set(&site, &flows).map_err(|no| match no.number {
+        19 => not_chained(first_gap(&site, |_| true).expect("a site that is not chained")),
+        number => refused(number, Place::Flow(no.value[0])),
+    })?;
+    let (mut lines, mut worth) = (String::from("the loads of the site are set aside\n"), 0);
     for (k, flow) in flows.iter().enumerate() {
         let taken = set >> k & 1 == 1;
         worth += if taken { flow.value as u64 } else { 0 };
@@ -186,9 +189,11 @@ mod tests {
                 Ok(Done { result: mended, words: "planned: 1 cell, 2 slots, 1 channel\n".into() })
             );
         }
-        let full = "refused 5, cell 1: no room for 1 of its fragments; duggfrask why says whether the site is full\n";
-        assert_eq!(mend(&one(3), &empty), Err(full.into()));
-        assert_eq!(plan(&one(3)), Err(full.into()));
+        let start = "refused 5, cell 1: ";
+        let kept = "keeping these reservations leaves no room for 1 of its fragments; a fresh plan may do\n";
+        assert_eq!(mend(&one(3), &empty), Err(format!("{start}{kept}")));
+        let short = "no room for 1 of its fragments; duggfrask why says what that means\n";
+        assert_eq!(plan(&one(3)), Err(format!("{start}{short}")));
     }
 
     #[test]
@@ -232,13 +237,22 @@ mod tests {
     #[test]
     fn flows_taken_and_not() {
         let said = |lines: &str| admit(&one(9), format!("cell,burst,period,repeats,value\r\n{lines}").as_bytes());
-        assert_eq!(said(""), result("worth 0\n"));
+        let aside = "the loads of the site are set aside\n";
+        assert_eq!(said(""), result(format!("{aside}worth 0\n")));
         let both = "flow 1: cell 1, share 2, value 3, not taken\nflow 2: cell 1, share 2, value 4, taken\nworth 4\n";
-        assert_eq!(said("1,1,1,1,3\r\n1,1,2,2,4\r\n"), result(both));
+        assert_eq!(said("1,1,1,1,3\r\n1,1,2,2,4\r\n"), result(format!("{aside}{both}")));
         assert!(said("1,1,1,1,3\r\n2,1,1,1,1\r\n").unwrap_err().starts_with("refused 2, flow 2: "));
         assert!(said("1,1,1,5,3\r\n").unwrap_err().starts_with("refused 15, flow 1: "));
         assert!(said("1,1\r\n").unwrap_err().starts_with("refused 17, line 2: "));
         assert!(said(&"1,1,1,1,1\r\n".repeat(17)).unwrap_err().starts_with("refused 18: "));
+    }
+
+    #[test]
+    fn three_cells_that_break_the_chain() {
+        let site = Site::sized(4, 1, 1).with_reach(4, 1, true).unwrap();
+        let file = written(|file| write_site(&site, file));
+        let line = "refused 19: the site is not chained when all its cells count, the spare ones too: cells 1 and 4 clash, and cell 2 between them does not clash with cell 1\n";
+        assert_eq!(admit(&file, b"cell,burst,period,repeats,value\r\n"), Err(line.into()));
     }
 
     #[test]

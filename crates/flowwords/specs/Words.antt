@@ -1,9 +1,13 @@
--- The words of `duggfrask admit`: for each flow its cell, its share and its value, and whether it is taken; what the flows that are taken are worth; or why there is no answer, and why a sheet
--- of flows is refused.
+-- The words of `duggfrask admit`: that the loads of the site do not count; for each flow its cell, its share and its value, and whether it is taken; what the
+-- flows that are taken are worth; or why there is no answer, and why a sheet of flows is refused.
 use Prim.Native.Nat.{ℕ, zero, suc, _+_}
 use mathlib.Core.List.{List, [], _++_}
 use Rattle.laws.specs.Bits.{bitAt}
 use Rattle.laws.specs.Choice.{pick}
+use Rattle.theory.specs.Net.{everyone}
+use Rattle.theory.specs.Verdict.{ChainVerdict, chained, broken, chainVerdict}
+use Rattle.site.specs.Record.{faultOf, isFine}
+use Rattle.site.specs.Reach.{netOf}
 use Rattle.site.specs.declared.Site.{Site}
 use Rattle.flowlist.specs.declared.Flow.{Flow}
 use Rattle.flowsheet.specs.declared.FlowsAnswer.{FlowsAnswer}
@@ -19,6 +23,10 @@ use Rattle.verdicts.specs.Words.{faultWords}
 
 -- ---- the lines
 
+-- "The site's own loads are set aside: every cell starts at 0."
+abbrev pub asideLine : List ℕ
+asideLine = said "the loads of the site are set aside\n" 0 0 0 0
+
 abbrev pub takenLine : (number cell share value : ℕ) → List ℕ
 takenLine number cell share value = said "flow @1: cell @2, share @3, value @4, taken\n" number cell share value
 
@@ -27,6 +35,12 @@ leftLine number cell share value = said "flow @1: cell @2, share @3, value @4, n
 
 abbrev pub worthLine : (w : ℕ) → List ℕ
 worthLine w = said "worth @1\n" w 0 0 0
+
+-- a and c clash, and b between them does not clash with a. Up to the colon it is the sentence of number 19, as crate `refusals` has it
+abbrev pub brokenLine : (a b c : ℕ) → List ℕ
+brokenLine a b c =
+    said "refused 19: the site is not chained when all its cells count, the spare ones too: cells @1 and @3 clash, and cell @2 between them does not clash with cell @1\n"
+    a b c 0
 
 -- ---- the flows
 
@@ -42,11 +56,25 @@ unfoldable pub listWords : (slots set : ℕ) → (ℕ → Flow) → ℕ → List
 listWords slots set f zero = []
 listWords slots set f (suc k) = listWords slots set f k ++ flowWords slots set (f k) k
 
+-- ---- the chain
+
+-- the first three cells that break the chain, by number
+abbrev pub brokenWords : ChainVerdict → List ℕ
+brokenWords (broken a b c) = brokenLine (a + 1) (b + 1) (c + 1)
+brokenWords chained = refusedLine 19 place.Nowhere
+
+-- "19 site not chained", where "all cells count as loaded for the chain rule". Of a record at fault, or a chained site, that is never answered: `nineteen-said`
+-- in proofs/Broken.antt
+unfoldable pub nineteenWords : Site → List ℕ
+nineteenWords s = pick (isFine (faultOf s)) (brokenWords (chainVerdict (netOf s) everyone)) (refusedLine 19 place.Nowhere)
+
+-- ---- the answer
+
 -- "which flows to take", and their total value; or the refusal: "18 over 16 flows, 19 site not chained, then per flow 2, 15, 16 with the flow's number"
 abbrev pub admitWords : Site → (ℕ → Flow) → ℕ → AdmitAnswer → List ℕ
-admitWords s f n (admit.Admitted set) = listWords (s .slots) set f n ++ worthLine (worth (flowsIn (s .slots) f n) set)
+admitWords s f n (admit.Admitted set) = asideLine ++ (listWords (s .slots) set f n ++ worthLine (worth (flowsIn (s .slots) f n) set))
 admitWords s f n admit.TooMany = refusedLine 18 place.Nowhere
-admitWords s f n admit.NotChained = refusedLine 19 place.Nowhere
+admitWords s f n admit.NotChained = nineteenWords s
 admitWords s f n (admit.BadCell k) = refusedLine 2 (place.Flow k)
 admitWords s f n (admit.BadFlow k) = refusedLine 15 (place.Flow k)
 admitWords s f n (admit.BigShare k) = refusedLine 16 (place.Flow k)

@@ -1,11 +1,15 @@
 // The words of an admission, and of the sheet of flows that it is asked with, written into a lent buffer. Each function puts its words at `at` and answers where the next byte goes.
 use admission::AdmitAnswer;
 use admission::share_in;
+use chainwords::break_of;
+use chainwords::first_break;
+use chainwords::gap;
 use flowlist::Flow;
 use flowlist::FlowList;
 use flowsheet::FlowsAnswer;
 use refusals::Place;
 use shares::ShareAnswer;
+use site::Fault;
 use site::Site;
 use speech::say;
 use words::has;
@@ -19,7 +23,26 @@ ghost use Rattle.flowlist.specs.List.{none};
 ghost use Rattle.bestset.specs.Best.{total};
 ghost use Rattle.admission.specs.Admit.{shareIn, amount};
 ghost use Rattle.admission.specs.declared.AdmitAnswer.the-variants.{Admitted};
-ghost use Rattle.flowwords.specs.Words.{takenLine, leftLine, worthLine, flowWords, listWords, admitWords, flowSheetWords};
+ghost use Rattle.flowwords.specs.Words.{asideLine, takenLine, leftLine, worthLine, brokenLine};
+ghost use Rattle.flowwords.specs.Words.{flowWords, listWords, nineteenWords, admitWords, flowSheetWords};
+
+// What an admission leaves out.
+fn aside_line(out: &mut [u8], at: usize) -> usize
+    requires { ⌜ at + 600 ≤ length (now out) ⌝ }
+    ensures stored { λ r. ⌜ now (out .exit) ≡ sets (now (out .entry)) at asideLine ⌝ }
+    ensures next { λ r. ⌜ r ≡ at + length asideLine ⌝ }
+    ensures short { λ r. ⌜ r ≤ at + 600 ⌝ }
+{
+    say(
+        out,
+        at,
+        b"the loads of the site are set aside\n",
+        0,
+        0,
+        0,
+        0,
+    )
+}
 
 // A flow that is taken.
 fn taken_line(
@@ -79,6 +102,24 @@ fn worth_line(out: &mut [u8], at: usize, w: usize) -> usize
     ensures short { λ r. ⌜ r ≤ at + 600 ⌝ }
 {
     say(out, at, b"worth @1\n", w, 0, 0, 0)
+}
+
+// A site that is not chained, and the three cells that show it.
+fn broken_line(out: &mut [u8], at: usize, a: usize, b: usize, c: usize) -> usize
+    requires { ⌜ at + 2000 ≤ length (now out) ⌝ }
+    ensures stored { λ r. ⌜ now (out .exit) ≡ sets (now (out .entry)) at (brokenLine a b c) ⌝ }
+    ensures next { λ r. ⌜ r ≡ at + length (brokenLine a b c) ⌝ }
+    ensures short { λ r. ⌜ r ≤ at + 2000 ⌝ }
+{
+    say(
+        out,
+        at,
+        b"refused 19: the site is not chained when all its cells count, the spare ones too: cells @1 and @3 clash, and cell @2 between them does not clash with cell @1\n",
+        a,
+        b,
+        c,
+        0,
+    )
 }
 
 // The share of a flow; 0 where it has none.
@@ -157,9 +198,32 @@ fn taken_words(out: &mut [u8], at: usize, site: Site, l: FlowList, count: usize,
     ensures next { λ r. ⌜ r ≡ at + length (admitWords site (λ k. getD (l .list) k none) count (Admitted set)) ⌝ }
     ensures short { λ r. ⌜ r ≤ at + 12000 ⌝ }
 {
-    let middle = list_words(out, at, site.slots, set, l, count);
+    let first = aside_line(out, at);
+    let middle = list_words(out, first, site.slots, set, l, count);
     let w = worth_of(set, l, count);
     worth_line(out, middle, w)
+}
+
+// The first three cells that break the chain of a site when all its cells count, sought anew.
+fn nineteen_words(out: &mut [u8], at: usize, site: Site) -> usize
+    requires { ⌜ at + 2000 ≤ length (now out) ⌝ }
+    ensures stored { λ r. ⌜ now (out .exit) ≡ sets (now (out .entry)) at (nineteenWords site) ⌝ }
+    ensures next { λ r. ⌜ r ≡ at + length (nineteenWords site) ⌝ }
+    ensures short { λ r. ⌜ r ≤ at + 2000 ⌝ }
+{
+    let f = site.fault_in();
+    let Fault::Fine = f else {
+        return refusals::refused(out, at, 19, Place::Nowhere);
+    };
+    let cells = site.cells as usize;
+    let clash = site.clash_rows();
+    let a = first_break(&clash, 4294967295, cells);
+    if a < cells {
+        let c = break_of(clash[a], 4294967295, a, cells);
+        let b = gap(clash[a], 4294967295, a, c);
+        return broken_line(out, at, a + 1, b + 1, c + 1);
+    }
+    refusals::refused(out, at, 19, Place::Nowhere)
 }
 
 // Which flows to take, or the refusal. The flows are the first `count` of the list.
@@ -179,7 +243,7 @@ pub fn admit_words(
     match reply {
         AdmitAnswer::Admitted(set) => taken_words(out, at, site, l, count, set),
         AdmitAnswer::TooMany => refusals::refused(out, at, 18, Place::Nowhere),
-        AdmitAnswer::NotChained => refusals::refused(out, at, 19, Place::Nowhere),
+        AdmitAnswer::NotChained => nineteen_words(out, at, site),
         AdmitAnswer::BadCell(flow) => refusals::refused(out, at, 2, Place::Flow(flow)),
         AdmitAnswer::BadFlow(flow) => refusals::refused(out, at, 15, Place::Flow(flow)),
         AdmitAnswer::BigShare(flow) => refusals::refused(out, at, 16, Place::Flow(flow)),

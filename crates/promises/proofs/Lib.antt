@@ -13,6 +13,7 @@ pub mod FlowSheets
 pub mod Admission
 pub mod Words
 pub mod Mending
+pub mod Said
 pub mod InC
 pub mod Untouched
 pub mod Top

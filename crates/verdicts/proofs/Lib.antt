@@ -1,1 +1,3 @@
 -- The laws of crate `verdicts`, module by module.
+pub mod Clash
+pub mod Example

@@ -1,2 +1,3 @@
 -- The definitions of crate `verdicts`, module by module.
 pub mod Words
+pub mod Means

@@ -1,10 +1,12 @@
 -- The words of the answers that the desk asks for: a finished table's check, a plan, a share, a file or a sheet that was read.
 use Prim.Native.Nat.{ℕ, _+_, _-_, _/_, _%_}
-use mathlib.Core.Bool.{_&&_}
+use mathlib.Core.Bool.{Bool, _&&_}
 use mathlib.Core.List.{List, []}
 use lib.Dec.{ltb, eqb}
 use lib.ListN.{getD}
 use Rattle.laws.specs.Choice.{pick}
+use Rattle.site.specs.Record.{upTo}
+use Rattle.site.specs.Reach.{reaches}
 use Rattle.site.specs.declared.Site.{Site}
 use Rattle.site.specs.declared.Fault.{Fault}
 use Rattle.site.specs.declared.Fault.the-variants.{Fine, Size, Load, Reach}
@@ -29,8 +31,20 @@ use Rattle.refusals.specs.declared.Place.the-variants.{Nowhere, Byte, PlanByte,
 abbrev pub validLine : List ℕ
 validLine = said "valid\n" 0 0 0 0
 
-abbrev pub clashLine : (a c slot channel : ℕ) → List ℕ
-clashLine a c slot channel = said "refused 6: cells @1 and @2 disturb each other, and both send in slot @3, channel @4\n" a c slot channel
+abbrev pub clashForthLine : (a c slot channel : ℕ) → List ℕ
+clashForthLine a c slot channel = said "refused 6: cells @1 and @2 clash (@1 reaches @2), and both send in slot @3, channel @4\n" a c slot channel
+
+abbrev pub clashBackLine : (a c slot channel : ℕ) → List ℕ
+clashBackLine a c slot channel = said "refused 6: cells @1 and @2 clash (@2 reaches @1), and both send in slot @3, channel @4\n" a c slot channel
+
+abbrev pub clashBothLine : (a c slot channel : ℕ) → List ℕ
+clashBothLine a c slot channel = said "refused 6: cells @1 and @2 clash (each reaches the other), and both send in slot @3, channel @4\n" a c slot channel
+
+-- by whether a reaches c, and c reaches a. Where neither does there is no clash: by `clash-said` in proofs/Clash.antt that does not occur
+abbrev pub clashLine : (forth back : Bool) (a c slot channel : ℕ) → List ℕ
+clashLine forth back a c slot channel =
+    pick forth (pick back (clashBothLine a c slot channel) (clashForthLine a c slot channel))
+    (pick back (clashBackLine a c slot channel) (refusedLine 6 Nowhere))
 
 abbrev pub countLine : (cell times load : ℕ) → List ℕ
 countLine cell times load = said "refused 7: cell @1 sends @2 time@b in a superframe, and its load is @3\n" cell times load 0
@@ -39,7 +53,12 @@ abbrev pub plannedLine : (cells slots channels : ℕ) → List ℕ
 plannedLine cells slots channels = said "planned: @1 cell@a, @2 slot@b, @3 channel@c\n" cells slots channels 0
 
 abbrev pub noRoomLine : (cell short : ℕ) → List ℕ
-noRoomLine cell short = said "refused 5, cell @1: no room for @2 of its fragments; duggfrask why says whether the site is full\n" cell short 0 0
+noRoomLine cell short = said "refused 5, cell @1: no room for @2 of its fragments; duggfrask why says what that means\n" cell short 0 0
+
+-- the mender's: the planner may still plan the site, or may not (computed in proofs/Example.antt)
+abbrev pub keptNoRoomLine : (cell short : ℕ) → List ℕ
+keptNoRoomLine cell short =
+    said "refused 5, cell @1: keeping these reservations leaves no room for @2 of its fragments; a fresh plan may do\n" cell short 0 0
 
 abbrev pub unchangedLine : List ℕ
 unchangedLine = said "valid as it is: nothing to change\n" 0 0 0 0
@@ -59,9 +78,16 @@ otherPlanLine cells slots channels = said "refused: the plan is for @1 cell@a, @
 unfoldable pub loadOf : Site → ℕ → ℕ
 loadOf s cell = pick (ltb 0 cell && ltb cell 33) (getD (s .loads) (cell - 1) 0) 0
 
--- a clash at position p, by slot and channel. A site has a channel and at most 2,048 positions; otherwise there is no place to name
-unfoldable pub clashWords : (channels p a c : ℕ) → List ℕ
-clashWords channels p a c = pick (ltb 0 channels && ltb p 65536) (clashLine a c (p / channels + 1) (p % channels + 1)) (refusedLine 6 Nowhere)
+-- whether one cell reaches another, by their numbers; a record has 32 rows of 32 bits
+unfoldable pub reachNamed : Site → ℕ → ℕ → Bool
+reachNamed s from to = upTo 32 from && (upTo 32 to && reaches (s .reach) (from - 1) (to - 1))
+
+-- a clash at position p, by slot and channel, and who reaches whom. A site has a channel and at most 2,048 positions; otherwise there is no place to name
+unfoldable pub clashWords : Site → (p a c : ℕ) → List ℕ
+clashWords s p a c =
+    pick (ltb 0 (s .channels) && ltb p 65536)
+    (clashLine (reachNamed s a c) (reachNamed s c a) a c (p / s .channels + 1) (p % s .channels + 1))
+    (refusedLine 6 Nowhere)
 
 -- what is wrong with a record: 1; 2 and 3 with the cell
 abbrev pub faultWords : Fault → List ℕ
@@ -90,7 +116,7 @@ sheetWords (sheet.Refused f) = faultWords f
 abbrev pub checkWords : Site → CheckAnswer → List ℕ
 checkWords s check.Valid = validLine
 checkWords s check.TableShort = refusedLine 4 Nowhere
-checkWords s (check.Clash p a c) = clashWords (s .channels) p a c
+checkWords s (check.Clash p a c) = clashWords s p a c
 checkWords s (check.Count cell n) = countLine cell n (loadOf s cell)
 checkWords s (check.Refused f) = faultWords f
 
@@ -116,6 +142,6 @@ changesWords number = pick (eqb number 0) unchangedLine (mendedLine number)
 abbrev pub mendWords : MendAnswer → List ℕ
 mendWords (mend.Done number) = changesWords number
 mendWords mend.TableShort = refusedLine 4 Nowhere
-mendWords (mend.NoRoom cell short) = noRoomLine cell short
+mendWords (mend.NoRoom cell short) = keptNoRoomLine cell short
 mendWords (mend.ListShort number) = refusedLine 13 Nowhere
 mendWords (mend.Refused f) = faultWords f

@@ -8,12 +8,16 @@ use shares::ShareAnswer;
 use sheet::SheetAnswer;
 use site::Fault;
 use site::Site;
+use site::within;
 use speech::say;
+use words::has;
 ghost use mathlib.Core.Path.{_≡_};
 ghost use Prim.Native.Nat.{_+_, _≤_};
 ghost use lib.ListN.{length};
 ghost use lib.Seq.{sets};
-ghost use Rattle.verdicts.specs.Words.{validLine, clashLine, countLine, plannedLine, noRoomLine, unchangedLine, mendedLine, shareLine, otherPlanLine, loadOf, clashWords, faultWords, readWords, planReadWords, sheetWords, checkWords, planWords, shareWords, changesWords, mendWords};
+ghost use Rattle.verdicts.specs.Words.{validLine, clashForthLine, clashBackLine, clashBothLine, clashLine, countLine, plannedLine, noRoomLine, keptNoRoomLine};
+ghost use Rattle.verdicts.specs.Words.{unchangedLine, mendedLine, shareLine, otherPlanLine};
+ghost use Rattle.verdicts.specs.Words.{loadOf, reachNamed, clashWords, faultWords, readWords, planReadWords, sheetWords, checkWords, planWords, shareWords, changesWords, mendWords};
 
 // A valid table.
 fn valid_line(out: &mut [u8], at: usize) -> usize
@@ -25,22 +29,107 @@ fn valid_line(out: &mut [u8], at: usize) -> usize
     say(out, at, b"valid\n", 0, 0, 0, 0)
 }
 
-// Two cells that disturb each other send at the same position.
-fn clash_line(out: &mut [u8], at: usize, a: usize, c: usize, slot: usize, channel: usize) -> usize
+// Two cells that clash send at the same position, and the first reaches the second.
+fn clash_forth_line(
+    out: &mut [u8],
+    at: usize,
+    a: usize,
+    c: usize,
+    slot: usize,
+    channel: usize,
+) -> usize
     requires { ⌜ at + 1000 ≤ length (now out) ⌝ }
-    ensures stored { λ r. ⌜ now (out .exit) ≡ sets (now (out .entry)) at (clashLine a c slot channel) ⌝ }
-    ensures next { λ r. ⌜ r ≡ at + length (clashLine a c slot channel) ⌝ }
+    ensures stored { λ r. ⌜ now (out .exit) ≡ sets (now (out .entry)) at (clashForthLine a c slot channel) ⌝ }
+    ensures next { λ r. ⌜ r ≡ at + length (clashForthLine a c slot channel) ⌝ }
     ensures short { λ r. ⌜ r ≤ at + 1000 ⌝ }
 {
     say(
         out,
         at,
-        b"refused 6: cells @1 and @2 disturb each other, and both send in slot @3, channel @4\n",
+        b"refused 6: cells @1 and @2 clash (@1 reaches @2), and both send in slot @3, channel @4\n",
         a,
         c,
         slot,
         channel,
     )
+}
+
+// The same, and the second reaches the first.
+fn clash_back_line(
+    out: &mut [u8],
+    at: usize,
+    a: usize,
+    c: usize,
+    slot: usize,
+    channel: usize,
+) -> usize
+    requires { ⌜ at + 1000 ≤ length (now out) ⌝ }
+    ensures stored { λ r. ⌜ now (out .exit) ≡ sets (now (out .entry)) at (clashBackLine a c slot channel) ⌝ }
+    ensures next { λ r. ⌜ r ≡ at + length (clashBackLine a c slot channel) ⌝ }
+    ensures short { λ r. ⌜ r ≤ at + 1000 ⌝ }
+{
+    say(
+        out,
+        at,
+        b"refused 6: cells @1 and @2 clash (@2 reaches @1), and both send in slot @3, channel @4\n",
+        a,
+        c,
+        slot,
+        channel,
+    )
+}
+
+// The same, and each reaches the other.
+fn clash_both_line(
+    out: &mut [u8],
+    at: usize,
+    a: usize,
+    c: usize,
+    slot: usize,
+    channel: usize,
+) -> usize
+    requires { ⌜ at + 1000 ≤ length (now out) ⌝ }
+    ensures stored { λ r. ⌜ now (out .exit) ≡ sets (now (out .entry)) at (clashBothLine a c slot channel) ⌝ }
+    ensures next { λ r. ⌜ r ≡ at + length (clashBothLine a c slot channel) ⌝ }
+    ensures short { λ r. ⌜ r ≤ at + 1000 ⌝ }
+{
+    say(
+        out,
+        at,
+        b"refused 6: cells @1 and @2 clash (each reaches the other), and both send in slot @3, channel @4\n",
+        a,
+        c,
+        slot,
+        channel,
+    )
+}
+
+// The one of the three that fits, by whether the first cell reaches the second, and the second the first.
+fn clash_line(
+    out: &mut [u8],
+    at: usize,
+    forth: bool,
+    back: bool,
+    a: usize,
+    c: usize,
+    slot: usize,
+    channel: usize,
+) -> usize
+    requires { ⌜ at + 2000 ≤ length (now out) ⌝ }
+    ensures stored { λ r. ⌜ now (out .exit) ≡ sets (now (out .entry)) at (clashLine forth back a c slot channel) ⌝ }
+    ensures next { λ r. ⌜ r ≡ at + length (clashLine forth back a c slot channel) ⌝ }
+    ensures short { λ r. ⌜ r ≤ at + 2000 ⌝ }
+{
+    if forth {
+        if back {
+            return clash_both_line(out, at, a, c, slot, channel);
+        }
+        return clash_forth_line(out, at, a, c, slot, channel);
+    }
+    if back {
+        return clash_back_line(out, at, a, c, slot, channel);
+    }
+    refusals::refused(out, at, 6, Place::Nowhere)
 }
 
 // A cell sends more or less often than its load says.
@@ -89,7 +178,25 @@ fn no_room_line(out: &mut [u8], at: usize, cell: usize, short: usize) -> usize
     say(
         out,
         at,
-        b"refused 5, cell @1: no room for @2 of its fragments; duggfrask why says whether the site is full\n",
+        b"refused 5, cell @1: no room for @2 of its fragments; duggfrask why says what that means\n",
+        cell,
+        short,
+        0,
+        0,
+    )
+}
+
+// The mender finds no room for a cell beside what it keeps.
+fn kept_no_room_line(out: &mut [u8], at: usize, cell: usize, short: usize) -> usize
+    requires { ⌜ at + 2000 ≤ length (now out) ⌝ }
+    ensures stored { λ r. ⌜ now (out .exit) ≡ sets (now (out .entry)) at (keptNoRoomLine cell short) ⌝ }
+    ensures next { λ r. ⌜ r ≡ at + length (keptNoRoomLine cell short) ⌝ }
+    ensures short { λ r. ⌜ r ≤ at + 2000 ⌝ }
+{
+    say(
+        out,
+        at,
+        b"refused 5, cell @1: keeping these reservations leaves no room for @2 of its fragments; a fresh plan may do\n",
         cell,
         short,
         0,
@@ -180,20 +287,46 @@ fn load_of(site: Site, cell: usize) -> usize
     wide(loads[cell - 1])
 }
 
-// Where a clash is, by slot and channel.
-fn clash_words(out: &mut [u8], at: usize, a: usize, c: usize, p: usize, channels: usize) -> usize
+// Whether one cell reaches another, by their numbers.
+fn reaches(site: Site, from: usize, to: usize) -> bool
+    ensures { λ r. ⌜ r ≡ reachNamed site from to ⌝ }
+{
+    if !within(from, 32) {
+        return false;
+    }
+    if !within(to, 32) {
+        return false;
+    }
+    let reach = site.reach;
+    has(reach[from - 1], to - 1)
+}
+
+// Where a clash is, by slot and channel, and which of the two cells reaches the other.
+fn clash_words(out: &mut [u8], at: usize, site: Site, a: usize, c: usize, p: usize) -> usize
     requires { ⌜ at + 2000 ≤ length (now out) ⌝ }
-    ensures stored { λ r. ⌜ now (out .exit) ≡ sets (now (out .entry)) at (clashWords channels p a c) ⌝ }
-    ensures next { λ r. ⌜ r ≡ at + length (clashWords channels p a c) ⌝ }
+    ensures stored { λ r. ⌜ now (out .exit) ≡ sets (now (out .entry)) at (clashWords site p a c) ⌝ }
+    ensures next { λ r. ⌜ r ≡ at + length (clashWords site p a c) ⌝ }
     ensures short { λ r. ⌜ r ≤ at + 2000 ⌝ }
 {
+    let channels = site.channels as usize;
     if channels < 1 {
         return refusals::refused(out, at, 6, Place::Nowhere);
     }
     if 65535 < p {
         return refusals::refused(out, at, 6, Place::Nowhere);
     }
-    clash_line(out, at, a, c, p / channels + 1, p % channels + 1)
+    let forth = reaches(site, a, c);
+    let back = reaches(site, c, a);
+    clash_line(
+        out,
+        at,
+        forth,
+        back,
+        a,
+        c,
+        p / channels + 1,
+        p % channels + 1,
+    )
 }
 
 // What is wrong with a record.
@@ -313,7 +446,7 @@ pub fn check_words(out: &mut [u8], at: usize, site: Site, reply: CheckAnswer) ->
     match reply {
         CheckAnswer::Valid => valid_line(out, at),
         CheckAnswer::TableShort => refusals::refused(out, at, 4, Place::Nowhere),
-        CheckAnswer::Clash(p, a, c) => clash_words(out, at, a, c, p, site.channels as usize),
+        CheckAnswer::Clash(p, a, c) => clash_words(out, at, site, a, c, p),
         CheckAnswer::Count(cell, times) => count_line(out, at, cell, times, load_of(site, cell)),
         CheckAnswer::Refused(f) => fault_words(out, at, f),
     }
@@ -342,7 +475,7 @@ pub fn mend_words(out: &mut [u8], at: usize, reply: MendAnswer) -> usize
     match reply {
         MendAnswer::Done(number) => changes_words(out, at, number),
         MendAnswer::TableShort => refusals::refused(out, at, 4, Place::Nowhere),
-        MendAnswer::NoRoom(cell, short) => no_room_line(out, at, cell, short),
+        MendAnswer::NoRoom(cell, short) => kept_no_room_line(out, at, cell, short),
         MendAnswer::ListShort(_) => refusals::refused(out, at, 13, Place::Nowhere),
         MendAnswer::Refused(f) => fault_words(out, at, f),
     }

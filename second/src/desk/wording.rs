@@ -59,12 +59,34 @@ fn meaning(page: &str, number: u64) -> String {
     first.chain(sentence.chars().skip(1)).collect()
 }
 
-/// Refusal 5 of the planner or the mender.
+/// Refusal 5 of the planner.
 pub fn no_room(no: &Answer) -> String {
     let [cell, short, _] = no.value;
+    format!("refused 5, cell {cell}: no room for {short} of its fragments; duggfrask why says what that means\n")
+}
+
+/// Refusal 5 of the mender.
+pub fn no_room_beside(no: &Answer) -> String {
+    let [cell, short, _] = no.value;
     format!(
-        "refused 5, cell {cell}: no room for {short} of its fragments; duggfrask why says whether the site is full\n"
+        "refused 5, cell {cell}: keeping these reservations leaves no room for {short} of its fragments; a fresh plan may do\n"
     )
+}
+
+/// Refusal 19, with the three cells that break the chain.
+pub fn not_chained((a, b, c): (usize, usize, usize)) -> String {
+    let sentence = meaning(NUMBERS, 19);
+    format!("refused 19: {sentence}: cells {a} and {c} clash, and cell {b} between them does not clash with cell {a}\n")
+}
+
+/// Who reaches whom, of two cells that clash.
+fn way(site: &Site, first: usize, second: usize) -> String {
+    match (site.reaches(first, second), site.reaches(second, first)) {
+        (true, true) => String::from("each reaches the other"),
+        (true, false) => format!("{first} reaches {second}"),
+        (false, true) => format!("{second} reaches {first}"),
+        (false, false) => unreachable!("cells that clash"),
+    }
 }
 
 /// The checker's refusals 6 and 7.
@@ -72,7 +94,8 @@ pub fn sends_wrongly(site: &Site, no: &Answer) -> String {
     let [value, first, second] = no.value;
     if no.number == 6 {
         let place = slot_and_channel(site, value, ", ");
-        return format!("refused 6: cells {first} and {second} disturb each other, and both send in {place}\n");
+        let way = way(site, first as usize, second as usize);
+        return format!("refused 6: cells {first} and {second} clash ({way}), and both send in {place}\n");
     }
     let (cell, times) = (value, counted(first, "time"));
     let load = site.load(cell as usize);
@@ -112,8 +135,13 @@ mod tests {
     fn positions_as_slot_and_channel() {
         let site = Site::sized(2, 3, 2);
         let no = refuse::<()>(6, &[5, 1, 2]).unwrap_err();
-        let line = "refused 6: cells 1 and 2 disturb each other, and both send in slot 3, channel 2\n";
-        assert_eq!(sends_wrongly(&site, &no), line);
+        for (forth, back, way) in
+            [(true, false, "1 reaches 2"), (false, true, "2 reaches 1"), (true, true, "each reaches the other")]
+        {
+            let site = site.with_reach(1, 2, forth).unwrap().with_reach(2, 1, back).unwrap();
+            let line = format!("refused 6: cells 1 and 2 clash ({way}), and both send in slot 3, channel 2\n");
+            assert_eq!(sends_wrongly(&site, &no), line);
+        }
         assert_eq!(change_line(&site, &[2, 0, 0, 1]), "cell 2: slot 1 channel 1 added\n");
         assert_eq!(change_line(&site, &[1, 3, 1, 0]), "cell 1: slot 2 channel 2 dropped\n");
     }

@@ -19,26 +19,26 @@ refused-requires c κs = search needs
 enum-told-2 : tie.Need-enum-told-2
 enum-told-2 c = search needs
 
-refused-requires-2 : tie.Need-refused-requires-2
-refused-requires-2 c κs = search needs
+nineteen-words-requires : tie.Need-nineteen-words-requires
+nineteen-words-requires c κs = search needs
 
 enum-known-reply-2 : tie.Need-enum-known-reply-2
 enum-known-reply-2 c = search needs
 
-refused-requires-3 : tie.Need-refused-requires-3
-refused-requires-3 c κs = search needs
+refused-requires-2 : tie.Need-refused-requires-2
+refused-requires-2 c κs = search needs
 
 enum-known-reply-3 : tie.Need-enum-known-reply-3
 enum-known-reply-3 c = search needs
 
-refused-requires-4 : tie.Need-refused-requires-4
-refused-requires-4 c κs = search needs
+refused-requires-3 : tie.Need-refused-requires-3
+refused-requires-3 c κs = search needs
 
 enum-known-reply-4 : tie.Need-enum-known-reply-4
 enum-known-reply-4 c = search needs
 
-refused-requires-5 : tie.Need-refused-requires-5
-refused-requires-5 c κs = search needs
+refused-requires-4 : tie.Need-refused-requires-4
+refused-requires-4 c κs = search needs
 
 enum-known-reply-5 : tie.Need-enum-known-reply-5
 enum-known-reply-5 c = search needs
@@ -67,7 +67,7 @@ same-length-3 c = search needs
 
 returns-3 : tie.Need-returns-3
 returns-3 c =
-    let e = c .before .before .refused2 .ensures in
+    let e = c .before .before .nineteen-words .ensures in
     rw (c .before .before .before .before .enum-told2 .given .1) (e .0, (e .1 .0, omega (arith, e .1 .1)))
 
 same-length-4 : tie.Need-same-length-4
@@ -75,7 +75,7 @@ same-length-4 c = search needs
 
 returns-4 : tie.Need-returns-4
 returns-4 c =
-    let e = c .before .before .refused3 .ensures in
+    let e = c .before .before .refused2 .ensures in
     rw (c .before .before .before .before .before .reply2 .given .1) (e .0, (e .1 .0, omega (arith, e .1 .1)))
 
 same-length-5 : tie.Need-same-length-5
@@ -83,7 +83,7 @@ same-length-5 c = search needs
 
 returns-5 : tie.Need-returns-5
 returns-5 c =
-    let e = c .before .before .refused4 .ensures in
+    let e = c .before .before .refused3 .ensures in
     rw (c .before .before .before .before .before .reply3 .given .1) (e .0, (e .1 .0, omega (arith, e .1 .1)))
 
 same-length-6 : tie.Need-same-length-6
@@ -91,7 +91,7 @@ same-length-6 c = search needs
 
 returns-6 : tie.Need-returns-6
 returns-6 c =
-    let e = c .before .before .refused5 .ensures in
+    let e = c .before .before .refused4 .ensures in
     rw (c .before .before .before .before .before .reply4 .given .1) (e .0, (e .1 .0, omega (arith, e .1 .1)))
 
 same-length-7 : tie.Need-same-length-7
@@ -111,13 +111,13 @@ admit-words-spec =
     enum-told
     refused-requires
     enum-told-2
-    refused-requires-2
+    nineteen-words-requires
     enum-known-reply-2
-    refused-requires-3
+    refused-requires-2
     enum-known-reply-3
-    refused-requires-4
+    refused-requires-3
     enum-known-reply-4
-    refused-requires-5
+    refused-requires-4
     enum-known-reply-5
     fault-words-requires
     same-length

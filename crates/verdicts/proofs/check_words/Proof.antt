@@ -19,9 +19,6 @@ refused-requires c κs = search needs
 enum-known-reply : tie.Need-enum-known-reply
 enum-known-reply c = search needs
 
-cast-clash-words : tie.Need-cast-clash-words
-cast-clash-words c = search needs
-
 clash-words-requires : tie.Need-clash-words-requires
 clash-words-requires c κs = search needs
 
@@ -62,7 +59,7 @@ same-length-3 c = search needs
 returns-3 : tie.Need-returns-3
 returns-3 c =
     let e = c .before .before .clash-words .ensures in
-    rw (c .before .before .before .before .before .before .reply .given .1) (e .0, (e .1 .0, omega (arith, e .1 .1)))
+    rw (c .before .before .before .before .before .reply .given .1) (e .0, (e .1 .0, omega (arith, e .1 .1)))
 
 same-length-4 : tie.Need-same-length-4
 same-length-4 c = search needs
@@ -89,7 +86,6 @@ check-words-spec =
     enum-told-2
     refused-requires
     enum-known-reply
-    cast-clash-words
     clash-words-requires
     enum-known-reply-2
     load-of-requires

@@ -8,6 +8,9 @@ use borrow.Author.Needs.{needs}
 use Rattle.verdicts.proofs.clash_words.Statement.{statement}
 use Rattle.verdicts.proofs.clash_words.Tie as tie
 
+cast-channels : tie.Need-cast-channels
+cast-channels c = search needs
+
 refused-requires : tie.Need-refused-requires
 refused-requires c κs = search needs
 
@@ -17,9 +20,10 @@ same-length c = search needs
 returns : tie.Need-returns
 unfolding clashWords
 returns c =
-    let s = c .before .before .before .before .before .before in
-    let h : s .args .channels ≤ 0 = omega (arith, c .before .before .before .before .if1 .taken) in
-    rw (le-ltb 0 (s .args .channels) h) (c .before .before .refused .ensures)
+    let t = c .before .before .before .before in
+    let a = t .before .before .before .args in
+    let h : a .site .channels ≤ 0 = omega (arith, t .if1 .taken) in
+    rw (le-ltb 0 (a .site .channels) h) (c .before .before .refused .ensures)
 
 refused-requires-2 : tie.Need-refused-requires-2
 refused-requires-2 c κs = search needs
@@ -30,22 +34,35 @@ same-length-2 c = search needs
 returns-2 : tie.Need-returns-2
 unfolding clashWords
 returns-2 c =
-    let s = c .before .before .before .before .before .before .before in
-    let some : 0 < s .args .channels = omega (arith, c .before .before .before .before .before .if1 .left) in
-    let far : 65536 ≤ s .args .p = omega (arith, c .before .before .before .before .if2 .taken) in
-    rw (lt-ltb 0 (s .args .channels) some, le-ltb (s .args .p) 65536 far) (c .before .before .refused2 .ensures)
+    let t = c .before .before .before .before in
+    let a = t .before .before .before .before .args in
+    let some : 0 < a .site .channels = omega (arith, t .before .if1 .left) in
+    let far : 65536 ≤ a .p = omega (arith, t .if2 .taken) in
+    rw (lt-ltb 0 (a .site .channels) some, le-ltb (a .p) 65536 far) (c .before .before .refused2 .ensures)
+
+reaches-requires : tie.Need-reaches-requires
+reaches-requires c κs = search needs
+
+reaches-requires-2 : tie.Need-reaches-requires-2
+reaches-requires-2 c κs = search needs
 
 div-clash-line : tie.Need-div-clash-line
 div-clash-line c = search needs
 
 add-clash-line : tie.Need-add-clash-line
-add-clash-line c = let s = c .before .before .before .before in omega (arith, div-le-self (s .args .p) (s .args .channels), c .before .if2 .left)
+add-clash-line c =
+    let t = c .before .before .before in
+    let a = t .before .before .before .before .args in
+    omega (arith, div-le-self (a .p) (a .site .channels), t .if2 .left)
 
 rem-clash-line : tie.Need-rem-clash-line
 rem-clash-line c = search needs
 
 add-clash-line-2 : tie.Need-add-clash-line-2
-add-clash-line-2 c = let s = c .before .before .before .before in omega (arith, mod-le (s .args .p) (s .args .channels), c .before .if2 .left)
+add-clash-line-2 c =
+    let t = c .before .before .before in
+    let a = t .before .before .before .before .args in
+    omega (arith, mod-le (a .p) (a .site .channels), t .if2 .left)
 
 clash-line-requires : tie.Need-clash-line-requires
 clash-line-requires c κs = search needs
@@ -56,22 +73,30 @@ same-length-3 c = search needs
 returns-3 : tie.Need-returns-3
 unfolding clashWords
 returns-3 c =
-    let s = c .before .before .before .before .before .before .before in
+    let r = c .before .before .before .before in
+    let t = r .before .before in
+    let a = t .before .before .before .before .args in
     let e = c .before .before .clash-line .ensures in
-    let some : 0 < s .args .channels = omega (arith, c .before .before .before .before .before .if1 .left) in
-    let near : s .args .p < 65536 = omega (arith, c .before .before .before .before .if2 .left) in
-    rw (lt-ltb 0 (s .args .channels) some, lt-ltb (s .args .p) 65536 near) (e .0, (e .1 .0, omega (arith, e .1 .1)))
+    let some : 0 < a .site .channels = omega (arith, t .before .if1 .left) in
+    let near : a .p < 65536 = omega (arith, t .if2 .left) in
+    let forth = r .before .reaches .ensures in
+    let back = r .reaches2 .ensures in
+    rw (lt-ltb 0 (a .site .channels) some, lt-ltb (a .p) 65536 near)
+    (rw (forth, back) at (e .0), (rw (forth, back) at (e .1 .0), omega (arith, e .1 .1)))
 
 pub clash-words-spec : {M : Type 1} → statement M
 clash-words-spec =
     tie.close
     (tie.spec
+    cast-channels
     refused-requires
     same-length
     returns
     refused-requires-2
     same-length-2
     returns-2
+    reaches-requires
+    reaches-requires-2
     div-clash-line
     add-clash-line
     rem-clash-line

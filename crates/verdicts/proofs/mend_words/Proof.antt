@@ -19,8 +19,8 @@ refused-requires c κs = search needs
 enum-known-reply-2 : tie.Need-enum-known-reply-2
 enum-known-reply-2 c = search needs
 
-no-room-line-requires : tie.Need-no-room-line-requires
-no-room-line-requires c κs = search needs
+kept-no-room-line-requires : tie.Need-kept-no-room-line-requires
+kept-no-room-line-requires c κs = search needs
 
 enum-told-2 : tie.Need-enum-told-2
 enum-told-2 c = search needs
@@ -55,7 +55,7 @@ same-length-3 c = search needs
 
 returns-3 : tie.Need-returns-3
 returns-3 c =
-    let e = c .before .before .no-room-line .ensures in
+    let e = c .before .before .kept-no-room-line .ensures in
     rw (c .before .before .before .before .before .reply2 .given .1) (e .0, (e .1 .0, omega (arith, e .1 .1)))
 
 same-length-4 : tie.Need-same-length-4
@@ -83,7 +83,7 @@ mend-words-spec =
     enum-told
     refused-requires
     enum-known-reply-2
-    no-room-line-requires
+    kept-no-room-line-requires
     enum-told-2
     refused-requires-2
     enum-known-reply-3
