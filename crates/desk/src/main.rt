@@ -152,7 +152,13 @@ fn holds(table: &[u8], at: usize, many: usize) -> bool
     many <= table.len() - at
 }
 
-// The changes of a cell in words, a slot at a time, where its bytes begin at `from` in both tables; answers where those of the next cell begin. Where a table ended before, it would stop there.
+// Where the bytes of the next cell begin, and whether the words so far were written.
+struct Row {
+    next: usize,
+    written: bool,
+}
+
+// The changes of a cell in words, a slot at a time, where its bytes begin at `from` in both tables. Where a table ended before, or the words can't be written, it stops there.
 fn put_row(
     old: &[u8],
     new: &[u8],
@@ -161,41 +167,60 @@ fn put_row(
     slots: usize,
     channels: usize,
     cell: usize,
-) -> usize
+) -> Row
     requires { ⌜ (65536 ≤ length (now words)) × (channels ≤ 16) ⌝ }
 {
     let mut at = from;
     for slot in 0..slots {
         if !holds(old, at, channels) {
-            return at;
+            return Row {
+                next: at,
+                written: false,
+            };
         }
         if !holds(new, at, channels) {
-            return at;
+            return Row {
+                next: at,
+                written: false,
+            };
         }
         let end = changewords::slot_words(words, 0, old, new, at, channels, cell, slot + 1);
-        reply::words(words, end);
+        if !reply::words(words, end) {
+            return Row {
+                next: at,
+                written: false,
+            };
+        }
         at += channels;
     }
-    at
+    Row {
+        next: at,
+        written: true,
+    }
 }
 
-// Each change in words, cell by cell. A site that was read has at most 16 channels, and both tables have its size.
-fn put_changes(old: &[u8], new: &[u8], words: &mut [u8], site: Site)
+// Each change in words, cell by cell; whether all of them were written. A site that was read has at most 16 channels, and both tables have its size.
+fn put_changes(old: &[u8], new: &[u8], words: &mut [u8], site: Site) -> bool
     requires { ⌜ 65536 ≤ length (now words) ⌝ }
 {
     let cells = site.cells as usize;
     let slots = site.slots as usize;
     let channels = site.channels as usize;
     if 16 < channels {
-        return;
+        return false;
     }
     let mut at: usize = 0;
     for i in 0..cells {
-        at = put_row(old, new, words, at, slots, channels, i + 1);
+        let row = put_row(old, new, words, at, slots, channels, i + 1);
+        if !row.written {
+            return false;
+        }
+        at = row.next;
     }
+    true
 }
 
-// A mended plan: the plan file, the words so far, and each change.
+// A mended plan: the plan file, the words so far, and each change. The changes are a part of the result: where they can't be written it is none.
 fn put_mended(site: Site, old: &[u8], table: &[u8], out: &mut [u8], words: &mut [u8], end: usize)
     requires { ⌜ 65536 ≤ length (now words) ⌝ }
 {
@@ -203,8 +228,14 @@ fn put_mended(site: Site, old: &[u8], table: &[u8], out: &mut [u8], words: &mut 
         reply::unwritten();
         return;
     }
-    reply::words(words, end);
-    put_changes(old, table, words, site);
+    if !reply::words(words, end) {
+        reply::unwritten();
+        return;
+    }
+    if !put_changes(old, table, words, site) {
+        reply::unwritten();
+        return;
+    }
     reply::done();
 }
 
@@ -362,19 +393,26 @@ fn admit(input: &[u8], second: &[u8], words: &mut [u8])
     decide(site, flows.flows, words);
 }
 
-// Argument i, with zeros after it: a command has at most 5 letters, and a number at most 5 digits. Of a longer one the first 8 bytes are here, and no zero ends them.
-fn word(i: usize) -> [u8; 8] {
-    let mut word = [0u8; 8];
-    os::arg(i, &mut word);
-    word
+// The most bytes of an argument that is a command or a number.
+const WORD: usize = 64;
+
+// Whether argument 1 is this name, all of it.
+fn is(name: &[u8]) -> bool {
+    let mut word = [0u8; WORD];
+    let n = os::arg(1, &mut word);
+    if n != name.len() {
+        return false;
+    }
+    lines::eat_text(&word, 0, name) == n
 }
 
 // Argument i as a number; 0 where it is none up to 65,535. No call takes 0 for slots, channels, a burst, a period or repeats.
 fn number(i: usize) -> u16 {
-    let word = word(i);
+    let mut word = [0u8; WORD];
+    let n = os::arg(i, &mut word);
     let read = lines::read_number(&word, 0, 65535);
     let value = read.value;
-    if 8 < lines::eat(&word, read.next, 0) {
+    if read.next != n {
         return 0;
     }
     if 65535 < value {
@@ -383,39 +421,46 @@ fn number(i: usize) -> u16 {
     value as u16
 }
 
-// Whether a word is this name, with a zero after it.
-fn is(word: &[u8], name: &[u8]) -> bool {
-    lines::eat_text(word, 0, name) == name.len()
+// What the script asks for.
+enum Command {
+    Plan,
+    Check,
+    Mend,
+    Why,
+    Sheet,
+    Site,
+    Share,
+    Admit,
+    Unknown,
 }
 
-// The command: 0 where there is none of that name.
-fn command() -> u8 {
-    let word = word(1);
-    if is(&word, b"plan\0") {
-        return 1;
+// The command, by its name.
+fn asked() -> Command {
+    if is(b"plan") {
+        return Command::Plan;
     }
-    if is(&word, b"check\0") {
-        return 2;
+    if is(b"check") {
+        return Command::Check;
     }
-    if is(&word, b"why\0") {
-        return 3;
+    if is(b"mend") {
+        return Command::Mend;
     }
-    if is(&word, b"sheet\0") {
-        return 4;
+    if is(b"why") {
+        return Command::Why;
     }
-    if is(&word, b"site\0") {
-        return 5;
+    if is(b"sheet") {
+        return Command::Sheet;
     }
-    if is(&word, b"share\0") {
-        return 6;
+    if is(b"site") {
+        return Command::Site;
     }
-    if is(&word, b"mend\0") {
-        return 7;
+    if is(b"share") {
+        return Command::Share;
     }
-    if is(&word, b"admit\0") {
-        return 8;
+    if is(b"admit") {
+        return Command::Admit;
     }
-    0
+    Command::Unknown
 }
 
 // Reads the inputs, and does what the command says.
@@ -428,14 +473,10 @@ fn main() {
     let mut old = io::large_buffer();
     let mut out = io::large_buffer();
     let mut words = io::large_buffer();
-    match command() {
-        1 => plan(&input[..n], &mut table, &mut out, &mut words),
-        2 => check(&input[..n], &second[..m], &mut table, &mut words),
-        3 => why(&input[..n], &mut table, &mut words),
-        4 => sheet(&input[..n], &mut out, &mut words),
-        5 => site(&input[..n], number(2), number(3), &mut out, &mut words),
-        6 => share(number(2), number(3), number(4), &mut words),
-        7 => mend(
+    match asked() {
+        Command::Plan => plan(&input[..n], &mut table, &mut out, &mut words),
+        Command::Check => check(&input[..n], &second[..m], &mut table, &mut words),
+        Command::Mend => mend(
             &input[..n],
             &second[..m],
             &mut old,
@@ -443,7 +484,11 @@ fn main() {
             &mut out,
             &mut words,
         ),
-        8 => admit(&input[..n], &second[..m], &mut words),
-        _ => no(b"duggfrask: there is no such command\n", 36),
+        Command::Why => why(&input[..n], &mut table, &mut words),
+        Command::Sheet => sheet(&input[..n], &mut out, &mut words),
+        Command::Site => site(&input[..n], number(2), number(3), &mut out, &mut words),
+        Command::Share => share(number(2), number(3), number(4), &mut words),
+        Command::Admit => admit(&input[..n], &second[..m], &mut words),
+        Command::Unknown => no(b"duggfrask: there is no such command\n", 36),
     }
 }

@@ -28,9 +28,9 @@ pub fn result(bytes: &[u8], end: usize) -> bool {
     put(STDOUT_FILENO, bytes, end)
 }
 
-// The first bytes of a buffer, as words.
-pub fn words(text: &[u8], end: usize) {
-    put(STDERR_FILENO, text, end);
+// The first bytes of a buffer, as words; whether all of them were written.
+pub fn words(text: &[u8], end: usize) -> bool {
+    put(STDERR_FILENO, text, end)
 }
 
 // Done, or yes.

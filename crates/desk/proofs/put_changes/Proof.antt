@@ -34,6 +34,12 @@ add-put-row c = search needs
 put-row-requires : tie.Need-put-row-requires Inv-loop μ-loop
 put-row-requires c κs = (omega (arith, c .before .before .before .before .before .before .before .before .before .before .pre, c .before .before .loop .inv .1), omega arith)
 
+same-length : tie.Need-same-length Inv-loop μ-loop
+same-length c = c .before .before .before .before .put-row .kept .1 .1 .0 ∙ c .before .before .before .before .before .before .before .loop .inv .1
+
+returns-2 : tie.Need-returns-2 Inv-loop μ-loop
+returns-2 c = search needs
+
 add-i : tie.Need-add-i Inv-loop μ-loop
 add-i c = omega arith
 
@@ -41,13 +47,13 @@ loop-less : tie.Need-loop-less Inv-loop μ-loop
 loop-less c = omega arith
 
 loop-again : tie.Need-loop-again Inv-loop μ-loop
-loop-again c = (omega arith, c .before .before .put-row .kept .1 .1 .0 ∙ c .before .before .before .before .before .loop .inv .1)
+loop-again c = (omega arith, c .before .before .before .before .put-row .kept .1 .1 .0 ∙ c .before .before .before .before .before .before .before .loop .inv .1)
 
-same-length : tie.Need-same-length Inv-loop μ-loop
-same-length c = c .before .loop .inv .1
+same-length-2 : tie.Need-same-length-2 Inv-loop μ-loop
+same-length-2 c = c .before .loop .inv .1
 
-returns-2 : tie.Need-returns-2 Inv-loop μ-loop
-returns-2 c = search needs
+returns-3 : tie.Need-returns-3 Inv-loop μ-loop
+returns-3 c = search needs
 
 pub put-changes-spec : {M : Type 1} → statement M
 put-changes-spec =
@@ -62,8 +68,10 @@ put-changes-spec =
     loop-holds
     add-put-row
     put-row-requires
+    same-length
+    returns-2
     add-i
     loop-less
     loop-again
-    same-length
-    returns-2)
+    same-length-2
+    returns-3)
