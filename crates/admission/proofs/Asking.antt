@@ -66,4 +66,4 @@ module _ (cells slots : ℕ) (f : Flow) where
 
 -- "share above 65,535" is refused
 pub share-most : (slots : ℕ) (f : Flow) (s q : Fragments) (d : Slots) → shareIn slots f ≡ share.Done s q d → s .0 ≤ 65535
-share-most slots f s q d e = done-means slots (f .burst) (f .period) (f .repeats) s q d e .1 .most
+share-most slots f s q d e = done-means slots _ _ _ s q d e .1 .most

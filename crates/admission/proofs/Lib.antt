@@ -5,6 +5,7 @@ pub mod Answer
 pub mod Arrays
 pub mod Listed
 pub mod Given
+pub mod OneFlow
 pub mod Meaning
 pub mod Laden
 pub mod Desk

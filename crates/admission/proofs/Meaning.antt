@@ -1,83 +1,34 @@
--- What the call says, from a second side: each answer exactly where it is due. The definition is a row of choices, and an answer tells which way each of them went.
--- Assumes nothing.
+-- What the call says, from a second side: each answer exactly where it is due. The definition is a row of choices; each of the ways that they go has its answer, and no two ways
+-- have the same. Assumes nothing.
 use Prim.Native.Nat.{ℕ, _+_, _≤_, _<_, zero-le}
-use mathlib.Core.Bool.{Bool, true, false}
+use mathlib.Core.Bool.{Bool, true, false, true≢false}
 use mathlib.Core.List.{List}
-use mathlib.Core.Logic.{_↔_}
+use mathlib.Core.Logic.{⊎-elim, _↔_}
 use mathlib.Core.Path.{_≡_, refl, sym, ap, _∙_}
 use native.Mathlib.Omega.{arith}
-use borrow.Author.Tests.{ltb-false}
+use borrow.Author.Tests.{ltb-true, ltb-false}
 use lib.Dec.{ltb}
 use lib.ListN.{length}
-use Rattle.laws.specs.Choice.{pick}
-use Rattle.laws.proofs.Choice.{refute}
-use Rattle.laws.proofs.Search.{first-before, first-none, first-is}
+use Rattle.laws.proofs.Choice.{cases, refute}
+use Rattle.laws.proofs.Search.{first-passes, first-before, first-none, first-is}
 use Rattle.theory.specs.Net.{everyone, Chained}
 use Rattle.theory.specs.Verdict.{ChainVerdict, chained, broken, chainVerdict}
 use Rattle.theory.proofs.ChainLaws.{chain-holds}
-use Rattle.site.specs.Record.{upTo, isFine, faultOf}
+use Rattle.site.specs.Record.{isFine, faultOf}
 use Rattle.site.specs.Reach.{netOf}
 use Rattle.site.specs.Means.{UpTo}
 use Rattle.site.specs.declared.Site.{Site}
 use Rattle.site.specs.declared.Fault.{Fault}
 use Rattle.site.specs.declared.Fault.the-variants.{Fine}
-use Rattle.site.proofs.Faults.{fine-is, up-to, up-to-is}
-use Rattle.site.proofs.PassedOn.{passed-on}
-use Rattle.shares.specs.declared.ShareAnswer.{ShareAnswer}
-use Rattle.shares.specs.declared.ShareAnswer.the-variants as share
+use Rattle.site.proofs.Faults.{fine-is, fine-sized}
 use Rattle.flowlist.specs.List.{flowAt}
 use Rattle.flowlist.specs.declared.Flow.{Flow}
-use Rattle.admission.specs.Admit.{shareIn, shareRefused, refusedIn, firstBadIn, isChained, answerIn, flowShare, flowBad, flowRefused, firstBad, admitted, admitAnswer}
+use Rattle.admission.specs.Admit.{firstBadIn, isChained, flowBad, flowRefused, firstBad, admitted, admitAnswer}
+use Rattle.admission.specs.Means.{Sends, Refusal, two, fifteen, sixteen, refusedWith, Looked, Settled, Stops}
 use Rattle.admission.specs.declared.AdmitAnswer.{AdmitAnswer}
 use Rattle.admission.specs.declared.AdmitAnswer.the-variants.{Admitted, TooMany, NotChained, BadCell, BadFlow, BigShare, Refused}
-use Rattle.admission.proofs.Answer.{many-answer, broken-answer, bad-answer, set-answer}
-
--- ---- the choices, over any tests
-
--- the row of choices that the definition is
-abbrev chosen : Fault → (many chain bad : Bool) → AdmitAnswer → ℕ → AdmitAnswer
-chosen f many chain bad r set = pick (isFine f) (pick many TooMany (pick chain (pick bad r (Admitted set)) NotChained)) (Refused f)
-
--- an answer that is given to a flow
-abbrev ofFlow : AdmitAnswer → Bool
-ofFlow (Admitted set) = false
-ofFlow TooMany = false
-ofFlow NotChained = false
-ofFlow (BadCell flow) = true
-ofFlow (BadFlow flow) = true
-ofFlow (BigShare flow) = true
-ofFlow (Refused f) = false
-
-to-set : (f : Fault) (many chain bad : Bool) (r : AdmitAnswer) (set x : ℕ) → ofFlow r ≡ true → chosen f many chain bad r set ≡ Admitted x
-    → (isFine f ≡ true) × (many ≡ false) × (chain ≡ true) × (bad ≡ false) × (set ≡ x)
-to-set f many chain bad r set x k e = at (isFine f) many chain bad refl e
-  where
-    no : {A : Type 0} {z : AdmitAnswer} → ofFlow z ≡ true → z ≡ Admitted x → A
-    no h q = let z : true ≡ false = sym h ∙ ap ofFlow q in let w : _≡_ {A = ℕ} 0 1 = cc in absurd (omega arith)
-
-    at : (t m c b : Bool) → isFine f ≡ t → pick t (pick m TooMany (pick c (pick b r (Admitted set)) NotChained)) (Refused f) ≡ Admitted x
-        → (t ≡ true) × (m ≡ false) × (c ≡ true) × (b ≡ false) × (set ≡ x)
-    at true false true false q h = (refl, refl, refl, refl, cc)
-    at true false true true q h = no k h
-    at true false false b q h = let w : _≡_ {A = ℕ} 0 1 = cc in absurd (omega arith)
-    at true true c b q h = let w : _≡_ {A = ℕ} 0 1 = cc in absurd (omega arith)
-    at false m c b q h = let w : _≡_ {A = ℕ} 0 1 = cc in absurd (omega arith)
-
-share-of-flow : (number : ℕ) (a : ShareAnswer) → ofFlow (shareRefused number a) ≡ true
-share-of-flow number (share.Done s q d) = refl
-share-of-flow number share.OutOfRange = refl
-share-of-flow number share.BadFlow = refl
-share-of-flow number share.BigShare = refl
-
-refused-of-flow : (cells slots : ℕ) (f : Flow) (number : ℕ) → ofFlow (refusedIn cells slots f number) ≡ true
-unfolding refusedIn
-refused-of-flow cells slots f number = at (upTo cells (f .cell))
-  where
-    at : (t : Bool) → ofFlow (pick t (shareRefused number (shareIn slots f)) (BadCell number)) ≡ true
-    at true = share-of-flow number (shareIn slots f)
-    at false = refl
-
--- ---- the answers
+use Rattle.admission.proofs.Answer.{fault-answer, many-answer, broken-answer, bad-answer, set-answer}
+use Rattle.admission.proofs.OneFlow.{sends-is, bad-has, bad-is}
 
 is-chained : (v : ChainVerdict) → isChained v ≡ true → v ≡ chained
 is-chained chained e = refl
@@ -90,84 +41,163 @@ chain-means s = (
   λ h. ap isChained (chain-holds (netOf s) everyone .1 h),
 )
 
--- where a set is answered: the record is accepted, there are at most 16 flows, the site is chained, and no flow is refused
-pub record Settled (s : Site) (fs : List Flow) : Type 0 where
-  pub fine : faultOf s ≡ Fine
-  pub few : length fs ≤ 16
-  pub chain : Chained (netOf s) everyone
-  pub good : (k : ℕ) → k < length fs → flowBad s (flowAt fs k) ≡ false
+-- ---- the ways that a call goes, and its answer in each
+
+data Told (s : Site) (fs : List Flow) : Type 0 where
+  fault : isFine (faultOf s) ≡ false → admitAnswer s fs ≡ Refused (faultOf s) → Told s fs
+  many : faultOf s ≡ Fine → 16 < length fs → admitAnswer s fs ≡ TooMany → Told s fs
+  unchained : faultOf s ≡ Fine → length fs ≤ 16 → (Chained (netOf s) everyone → ⊥) → admitAnswer s fs ≡ NotChained → Told s fs
+  stopped : (k : ℕ) (r : Refusal) → Stops s fs k r → admitAnswer s fs ≡ refusedWith r (k + 1) → Told s fs
+  settled : Settled s fs → admitAnswer s fs ≡ Admitted (admitted s fs) → Told s fs
 
 module _ (s : Site) (fs : List Flow) where
   abbrev test : ℕ → Bool
   test k = flowBad s (flowAt fs k)
 
-  pub set-means : (x : ℕ) → admitAnswer s fs ≡ Admitted x ↔ (Settled s fs × (x ≡ admitted s fs))
-  unfolding answerIn firstBadIn
-  set-means x = (
-    λ e.
-        let n = length fs in
-        let w = to-set (faultOf s) (ltb 16 n) (isChained (chainVerdict (netOf s) everyone)) (ltb (firstBad s fs) n) (flowRefused s (flowAt fs (firstBad s fs)) (firstBad s fs + 1))
-        (admitted s fs) x (refused-of-flow (s .cells) (s .slots) (flowAt fs (firstBad s fs)) (firstBad s fs + 1)) e in
-        let none : n ≤ firstBad s fs = ltb-false (firstBad s fs) n (w .3) in (
-          record {
-            fine = fine-is (faultOf s) (w .0);
-            few = ltb-false 16 n (w .1);
-            chain = chain-means s .0 (w .2);
-            good = λ k l. first-before test 0 n k zero-le (omega arith);
-          },
-          sym (w .4),
-        ),
-    λ h.
-        let n = length fs in
-        let all : firstBad s fs ≡ n = first-none test 0 n zero-le (λ k _ l. h .0 .good k l) in
-        set-answer s (flowAt fs) n (h .0 .fine) (h .0 .few) (chain-means s .1 (h .0 .chain)) (omega arith) ∙ ap Admitted (sym (h .1)),
-  )
+  slots : faultOf s ≡ Fine → UpTo 128 (s .slots)
+  slots fine = let z = fine-sized s fine in (z .slots-some, z .slots-most)
 
-  -- "18 over 16 flows"
-  pub many-means : faultOf s ≡ Fine → 16 < length fs → admitAnswer s fs ≡ TooMany
-  many-means = many-answer s (flowAt fs) (length fs)
+  sends-before : faultOf s ≡ Fine → (j : ℕ) → j < firstBad s fs → Sends s (flowAt fs j)
+  unfolding firstBadIn
+  sends-before fine j l = sends-is s (flowAt fs j) (slots fine) .0 (first-before test 0 (length fs) j zero-le l)
+
+  at-flows : Looked s fs → Told s fs
+  unfolding firstBadIn
+  at-flows at =
+      let fine = at .fine in
+      let chain = chain-means s .1 (at .chain) in
+      ⊎-elim
+      (λ h.
+      let k = firstBad s fs in
+      let l : k < length fs = ltb-true k (length fs) h in
+      let b = bad-has s (flowAt fs k) (slots fine) (first-passes test 0 (length fs) zero-le l) in
+      stopped k (b .0) (record { looked = at; inside = l; before = sends-before fine; refuses = b .1 })
+      (bad-answer s (flowAt fs) (length fs) fine (at .few) chain k refl l ∙ b .2 (k + 1)))
+      (λ h.
+      let l : length fs ≤ firstBad s fs = ltb-false (firstBad s fs) (length fs) h in
+      settled (record { looked = at; good = λ k q. sends-before fine k (omega arith) }) (set-answer s (flowAt fs) (length fs) fine (at .few) chain l))
+      (cases (ltb (firstBad s fs) (length fs)))
+
+  at-chain : faultOf s ≡ Fine → length fs ≤ 16 → Told s fs
+  at-chain fine few =
+      ⊎-elim (λ h. at-flows (record { fine = fine; few = few; chain = chain-means s .0 h }))
+      (λ h. unchained fine few (λ c. true≢false (sym (chain-means s .1 c) ∙ h)) (broken-answer s (flowAt fs) (length fs) fine few h))
+      (cases (isChained (chainVerdict (netOf s) everyone)))
+
+  at-many : faultOf s ≡ Fine → Told s fs
+  at-many fine =
+      ⊎-elim (λ h. many fine (ltb-true 16 _ h) (many-answer s (flowAt fs) (length fs) fine (ltb-true 16 _ h))) (λ h. at-chain fine (ltb-false 16 _ h))
+      (cases (ltb 16 (length fs)))
+
+  told : Told s fs
+  told = ⊎-elim (λ h. at-many (fine-is (faultOf s) h)) (λ h. fault h (fault-answer s (flowAt fs) (length fs) (faultOf s) refl h)) (cases (isFine (faultOf s)))
+
+-- ---- the answers are told apart
+
+abbrev ofFlow : AdmitAnswer → Bool
+ofFlow (Admitted set) = false
+ofFlow TooMany = false
+ofFlow NotChained = false
+ofFlow (BadCell flow) = true
+ofFlow (BadFlow flow) = true
+ofFlow (BigShare flow) = true
+ofFlow (Refused f) = false
+
+flow-answer : (r : Refusal) (n : ℕ) → ofFlow (refusedWith r n) ≡ true
+flow-answer two n = refl
+flow-answer fifteen n = refl
+flow-answer sixteen n = refl
+
+-- an answer that is given to a flow, and is not
+no-flow : {A : Type 0} (a b : AdmitAnswer) → ofFlow a ≡ true → ofFlow b ≡ false → a ≡ b → A
+no-flow a b p q e = absurd (true≢false (sym p ∙ ap ofFlow e ∙ q))
+
+same-refusal : (r q : Refusal) (n m : ℕ) → refusedWith r n ≡ refusedWith q m → (r ≡ q) × (n ≡ m)
+same-refusal two two n m e = (refl, cc)
+same-refusal fifteen fifteen n m e = (refl, cc)
+same-refusal sixteen sixteen n m e = (refl, cc)
+same-refusal two fifteen n m e = let z : _≡_ {A = ℕ} 0 1 = cc in absurd (omega arith)
+same-refusal two sixteen n m e = let z : _≡_ {A = ℕ} 0 1 = cc in absurd (omega arith)
+same-refusal fifteen two n m e = let z : _≡_ {A = ℕ} 0 1 = cc in absurd (omega arith)
+same-refusal fifteen sixteen n m e = let z : _≡_ {A = ℕ} 0 1 = cc in absurd (omega arith)
+same-refusal sixteen two n m e = let z : _≡_ {A = ℕ} 0 1 = cc in absurd (omega arith)
+same-refusal sixteen fifteen n m e = let z : _≡_ {A = ℕ} 0 1 = cc in absurd (omega arith)
+
+-- ---- each answer, exactly where it is due
+
+module _ (s : Site) (fs : List Flow) where
+  -- "record faults first"
+  pub fault-means : (g : Fault) → admitAnswer s fs ≡ Refused g ↔ ((g ≡ faultOf s) × (isFine g ≡ false))
+  fault-means g = (λ e. at (told s fs) e, λ h. fault-answer s (flowAt fs) (length fs) g (sym (h .0)) (h .1))
+    where
+      at : Told s fs → admitAnswer s fs ≡ Refused g → (g ≡ faultOf s) × (isFine g ≡ false)
+      at (fault h q) e = let same : g ≡ faultOf s = cc in (same, rw same h)
+      at (many _ _ q) e = let z : _≡_ {A = ℕ} 0 1 = cc in absurd (omega arith)
+      at (unchained _ _ _ q) e = let z : _≡_ {A = ℕ} 0 1 = cc in absurd (omega arith)
+      at (stopped k r _ q) e = no-flow (refusedWith r (k + 1)) (Refused g) (flow-answer r (k + 1)) refl (sym q ∙ e)
+      at (settled _ q) e = let z : _≡_ {A = ℕ} 0 1 = cc in absurd (omega arith)
+
+  -- "then 18 over 16 flows"
+  pub many-means : admitAnswer s fs ≡ TooMany ↔ ((faultOf s ≡ Fine) × (16 < length fs))
+  many-means = (λ e. at (told s fs) e, λ h. many-answer s (flowAt fs) (length fs) (h .0) (h .1))
+    where
+      at : Told s fs → admitAnswer s fs ≡ TooMany → (faultOf s ≡ Fine) × (16 < length fs)
+      at (many f h _) e = (f, h)
+      at (fault _ q) e = let z : _≡_ {A = ℕ} 0 1 = cc in absurd (omega arith)
+      at (unchained _ _ _ q) e = let z : _≡_ {A = ℕ} 0 1 = cc in absurd (omega arith)
+      at (stopped k r _ q) e = no-flow (refusedWith r (k + 1)) TooMany (flow-answer r (k + 1)) refl (sym q ∙ e)
+      at (settled _ q) e = let z : _≡_ {A = ℕ} 0 1 = cc in absurd (omega arith)
 
   -- "19 site not chained"
-  pub broken-means : faultOf s ≡ Fine → length fs ≤ 16 → (Chained (netOf s) everyone → ⊥) → admitAnswer s fs ≡ NotChained
-  broken-means fine few lacks = broken-answer s (flowAt fs) (length fs) fine few (refute (isChained (chainVerdict (netOf s) everyone)) (λ e. lacks (chain-means s .0 e)))
+  pub broken-means : admitAnswer s fs ≡ NotChained ↔ ((faultOf s ≡ Fine) × (length fs ≤ 16) × (Chained (netOf s) everyone → ⊥))
+  broken-means = (
+    λ e. at (told s fs) e,
+    λ h. broken-answer s (flowAt fs) (length fs) (h .0) (h .1) (refute (isChained (chainVerdict (netOf s) everyone)) (λ e. h .2 (chain-means s .0 e))),
+  )
+    where
+      at : Told s fs → admitAnswer s fs ≡ NotChained → (faultOf s ≡ Fine) × (length fs ≤ 16) × (Chained (netOf s) everyone → ⊥)
+      at (unchained f l c _) e = (f, l, c)
+      at (fault _ q) e = let z : _≡_ {A = ℕ} 0 1 = cc in absurd (omega arith)
+      at (many _ _ q) e = let z : _≡_ {A = ℕ} 0 1 = cc in absurd (omega arith)
+      at (stopped k r _ q) e = no-flow (refusedWith r (k + 1)) NotChained (flow-answer r (k + 1)) refl (sym q ∙ e)
+      at (settled _ q) e = let z : _≡_ {A = ℕ} 0 1 = cc in absurd (omega arith)
 
-  -- "then per flow": the first that is refused
-  module _ (fine : faultOf s ≡ Fine) (few : length fs ≤ 16) (chain : Chained (netOf s) everyone) (k : ℕ) (inside : k < length fs)
-      (before : (j : ℕ) → j < k → flowBad s (flowAt fs j) ≡ false) (bad : flowBad s (flowAt fs k) ≡ true) where
-    pub flow-means : admitAnswer s fs ≡ flowRefused s (flowAt fs k) (k + 1)
-    unfolding firstBadIn
-    flow-means =
-        let at : firstBad s fs ≡ k = first-is test 0 k (length fs) zero-le inside bad (λ j _ l. before j l) in
-        bad-answer s (flowAt fs) (length fs) fine few (chain-means s .1 chain) k (sym at) inside
+  -- "then per flow 2, 15, 16 with the flow's number": of the first flow that one of them fits, by the flow's own numbers
+  pub flow-means : (r : Refusal) (n : ℕ) → admitAnswer s fs ≡ refusedWith r n ↔ ((k : ℕ) × (n ≡ k + 1) × Stops s fs k r)
+  unfolding firstBadIn
+  flow-means r n = (λ e. at (told s fs) e, λ h. rw (h .1) (back (h .0) (h .2)))
+    where
+      at : Told s fs → admitAnswer s fs ≡ refusedWith r n → (k : ℕ) × (n ≡ k + 1) × Stops s fs k r
+      at (stopped k q st w) e = let o = same-refusal q r (k + 1) n (sym w ∙ e) in (k, sym (o .1), rw (o .0) at st)
+      at (fault _ q) e = no-flow (refusedWith r n) (Refused (faultOf s)) (flow-answer r n) refl (sym e ∙ q)
+      at (many _ _ q) e = no-flow (refusedWith r n) TooMany (flow-answer r n) refl (sym e ∙ q)
+      at (unchained _ _ _ q) e = no-flow (refusedWith r n) NotChained (flow-answer r n) refl (sym e ∙ q)
+      at (settled _ q) e = no-flow (refusedWith r n) (Admitted (admitted s fs)) (flow-answer r n) refl (sym e ∙ q)
 
--- "2, 15, 16 with the flow's number"
-module _ (s : Site) (f : Flow) (number : ℕ) where
-  pub refused-cell : (UpTo (s .cells) (f .cell) → ⊥) → flowRefused s f number ≡ BadCell number
-  unfolding refusedIn
-  refused-cell h = rw (refute (upTo (s .cells) (f .cell)) (λ e. h (up-to (s .cells) (f .cell) e)))
+      back : (k : ℕ) → Stops s fs k r → admitAnswer s fs ≡ refusedWith r (k + 1)
+      back k st =
+          let fine = st .looked .fine in
+          let t = slots s fs fine in
+          let b = bad-is s (flowAt fs k) t r (st .refuses) in
+          let here : firstBad s fs ≡ k
+          = first-is (test s fs) 0 k (length fs) zero-le (st .inside) (b .0) (λ j _ l. sends-is s (flowAt fs j) t .1 (st .before j l)) in
+          bad-answer s (flowAt fs) (length fs) fine (st .looked .few) (chain-means s .1 (st .looked .chain)) k (sym here) (st .inside) ∙ b .1 (k + 1)
 
-  pub refused-big : UpTo (s .cells) (f .cell) → flowShare s f ≡ share.BigShare → flowRefused s f number ≡ BigShare number
-  unfolding refusedIn
-  refused-big h e = rw (up-to-is (s .cells) (f .cell) h, e)
+  -- a set wherever nothing is refused, and only there
+  pub set-means : (x : ℕ) → admitAnswer s fs ≡ Admitted x ↔ (Settled s fs × (x ≡ admitted s fs))
+  unfolding firstBadIn
+  set-means x = (λ e. at (told s fs) e, λ h. back (h .0) ∙ ap Admitted (sym (h .1)))
+    where
+      at : Told s fs → admitAnswer s fs ≡ Admitted x → Settled s fs × (x ≡ admitted s fs)
+      at (settled h q) e = (h, cc)
+      at (fault _ q) e = let z : _≡_ {A = ℕ} 0 1 = cc in absurd (omega arith)
+      at (many _ _ q) e = let z : _≡_ {A = ℕ} 0 1 = cc in absurd (omega arith)
+      at (unchained _ _ _ q) e = let z : _≡_ {A = ℕ} 0 1 = cc in absurd (omega arith)
+      at (stopped k r _ q) e = no-flow (refusedWith r (k + 1)) (Admitted x) (flow-answer r (k + 1)) refl (sym q ∙ e)
 
-  pub refused-flow : UpTo (s .cells) (f .cell) → flowShare s f ≡ share.BadFlow → flowRefused s f number ≡ BadFlow number
-  unfolding refusedIn
-  refused-flow h e = rw (up-to-is (s .cells) (f .cell) h, e)
-
--- "record faults first"
-flow-no-refusal : (g : Fault) (a : AdmitAnswer) → ofFlow a ≡ true → a ≡ Refused g → ⊥
-flow-no-refusal g a h e = let z : true ≡ false = sym h ∙ ap ofFlow e in let w : _≡_ {A = ℕ} 0 1 = cc in omega arith
-
-no-refusal : (g : Fault) (many chain bad : Bool) (r : AdmitAnswer) (set : ℕ) → ofFlow r ≡ true → pick many TooMany (pick chain (pick bad r (Admitted set)) NotChained) ≡ Refused g → ⊥
-no-refusal g true chain bad r set h e = let w : _≡_ {A = ℕ} 0 1 = cc in omega arith
-no-refusal g false false bad r set h e = let w : _≡_ {A = ℕ} 0 1 = cc in omega arith
-no-refusal g false true true r set h e = flow-no-refusal g r h e
-no-refusal g false true false r set h e = let w : _≡_ {A = ℕ} 0 1 = cc in omega arith
-
-pub fault-means : (s : Site) (fs : List Flow) (g : Fault) → admitAnswer s fs ≡ Refused g ↔ ((g ≡ faultOf s) × (isFine g ≡ false))
-unfolding answerIn
-fault-means s fs =
-    let bad = firstBad s fs in
-    passed-on Refused (λ f g e. cc) (faultOf s) _
-    (λ g. no-refusal g (ltb 16 (length fs)) (isChained (chainVerdict (netOf s) everyone)) (ltb bad (length fs)) (flowRefused s (flowAt fs bad) (bad + 1)) (admitted s fs)
-    (refused-of-flow (s .cells) (s .slots) (flowAt fs bad) (bad + 1)))
+      back : Settled s fs → admitAnswer s fs ≡ Admitted (admitted s fs)
+      back h =
+          let fine = h .looked .fine in
+          let all : firstBad s fs ≡ length fs
+          = first-none (test s fs) 0 (length fs) zero-le (λ k _ l. sends-is s (flowAt fs k) (slots s fs fine) .1 (h .good k l)) in
+          set-answer s (flowAt fs) (length fs) fine (h .looked .few) (chain-means s .1 (h .looked .chain)) (omega arith)

@@ -2,3 +2,4 @@
 pub mod Admit
 pub mod Given
 pub mod Laden
+pub mod Means

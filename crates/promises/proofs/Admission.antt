@@ -2,19 +2,22 @@
 -- whose loads are the public shares of its flows. The laws are those of crates `bestset` and `admission`.
 -- Assumes nothing.
 use mathlib.Core.Path.{_≡_, refl, sym, ap, subst, _∙_}
-use mathlib.Core.Bool.{true, false}
+use mathlib.Core.Bool.{true, false, true≢false}
 use mathlib.Core.List.{List, [], _∷_}
 use mathlib.Core.Logic.{_↔_}
 use Prim.Native.Nat.{ℕ, _+_, _^_, _≤_, _<_}
+use native.Mathlib.Omega.{arith}
 use lib.ListN.{length}
+use Rattle.laws.proofs.Stores.{length-list}
 use Rattle.theory.specs.Net.{Net, Reserved, Valid, everyone, Chained}
 use Rattle.theory.specs.Greedy.{Plans}
 use Rattle.theory.proofs.Exact.{chained-class}
-use Rattle.site.specs.Record.{positions, loadAt, faultOf}
+use Rattle.site.specs.Record.{positions, loadAt, isFine, faultOf}
 use Rattle.site.specs.Reach.{netOf}
-use Rattle.site.specs.Means.{UpTo}
-use Rattle.site.specs.Given.{faultGiven}
+use Rattle.site.specs.Given.{Given, faultGiven}
 use Rattle.site.specs.declared.Site.{Site}
+use Rattle.site.specs.declared.Fault.the-variants.{Fine, Size, Load, Reach}
+use Rattle.site.proofs.Faults.{few-positions, fine-sized}
 use Rattle.site.proofs.Means.{no-fine}
 use Rattle.judges.specs.Judges.{loadAnswer}
 use Rattle.judges.specs.Given.{loadGiven}
@@ -22,18 +25,21 @@ use Rattle.judges.proofs.Meaning.{holds-means}
 use Rattle.planner.specs.Plan.{planAnswer}
 use Rattle.planner.specs.Given.{planGiven}
 use Rattle.planner.proofs.Meaning.{done-means}
-use Rattle.shares.specs.declared.ShareAnswer.the-variants as share
-use Rattle.bestset.specs.Best.{worth, laden, allowed}
+use Rattle.bestset.specs.Best.{worth, loadIn, laden, allowed}
 use Rattle.bestset.proofs.Best.{allowed-means, empty-allowed, best-is}
 use Rattle.bestset.proofs.Carry.{best-planned, best-of-carried}
 use Rattle.flowlist.specs.List.{flowAt}
 use Rattle.flowlist.specs.declared.Flow.{Flow}
-use Rattle.admission.specs.Admit.{flowShare, flowBad, flowRefused, flowsOf, admitted, admitAnswer}
-use Rattle.admission.specs.Given.{admitGiven}
-use Rattle.admission.specs.Laden.{ladenSite}
-use Rattle.admission.proofs.Given.{done-set}
-use Rattle.admission.proofs.Meaning.{Settled, set-means, many-means, broken-means, flow-means, refused-cell, refused-big, refused-flow, fault-means}
-use Rattle.admission.proofs.Laden.{laden-net, laden-fine, laden-allowed, admitted-most}
+use Rattle.admission.specs.Admit.{flowsOf, admitted, admitAnswer}
+use Rattle.admission.specs.Given.{admitGiven, admitProper, ofRecord}
+use Rattle.admission.specs.Laden.{ladenSite, Shared, summed}
+use Rattle.admission.specs.Means.{two, fifteen, sixteen, Settled, Stops}
+use Rattle.admission.specs.declared.AdmitAnswer.{AdmitAnswer}
+use Rattle.admission.specs.declared.AdmitAnswer.the-variants.{Admitted, TooMany, NotChained, BadCell, BadFlow, BigShare, Refused}
+use Rattle.admission.proofs.Given.{admit-apart, admit-proper, done-set}
+use Rattle.admission.proofs.Meaning.{set-means, many-means, broken-means, flow-means, fault-means}
+use Rattle.admission.proofs.OneFlow.{sends-shared}
+use Rattle.admission.proofs.Laden.{laden-net, laden-fine, laden-allowed, allowed-most, laden-shares}
 use Rattle.promises.specs.Numbers.{done, doneWith, refused}
 use Rattle.promises.specs.Demands.{Accepted, LongEnough}
 use Rattle.promises.proofs.Numbers.{accepted-number, load-number, plan-number}
@@ -70,7 +76,21 @@ module _ (s : Site) (fs : List Flow) (x : ℕ) (e : admitGiven (admitAnswer s fs
       let b = best-is (netOf s) (flowsOf s fs) in
       (rw (went .1) (b .inside), rw (went .1) (allowed-means (netOf s) (flowsOf s fs) (admitted s fs) .1 (b .passed)))
 
-  -- the site with the admitted shares as its loads is accepted, its load test holds, and it is planned; no load of it is above N
+  -- every allowed set makes a record that there is: 32 loads, none above N, which is at most 2,048, so that each fits the 16 bits of a load
+  pub allowed-fits : (y : ℕ) → allowed (netOf s) (flowsOf s fs) y ≡ true
+      → (length (ladenSite s fs y .loads) ≡ 32) × ((i : ℕ) → loadAt (ladenSite s fs y) i ≤ positions s) × (positions s ≤ 2048)
+  allowed-fits y h = (length-list (loadIn (flowsOf s fs) y) 32, allowed-most s fs settled y h, few-positions (fine-sized s (settled .looked .fine)))
+
+  -- W4: "Everything that takes a share follows": each flow has a public share, and the loads of the site that a set makes are the public shares of its flows, summed by cell
+  pub flow-shared : (k : ℕ) → k < length fs → (share : ℕ) × Shared s (flowAt fs k) share
+  flow-shared k l =
+      let z = fine-sized s (settled .looked .fine) in
+      sends-shared s (flowAt fs k) (z .slots-some, z .slots-most) (settled .good k l)
+
+  pub loads-are-shares : (share : ℕ → ℕ) → ((k : ℕ) → k < length fs → Shared s (flowAt fs k) (share k)) → (y i : ℕ) → loadAt (ladenSite s fs y) i ≡ summed fs share y (i + 1)
+  loads-are-shares share h y = laden-shares s fs settled y share h
+
+  -- the site with the admitted shares as its loads is accepted, its load test holds, and it is planned
   pub admission-plans : (t : List ℕ) → LongEnough (ladenSite s fs x) t
       → (Accepted (ladenSite s fs x)) × (loadGiven (loadAnswer (ladenSite s fs x)) ≡ done) × (planGiven (planAnswer (ladenSite s fs x) t) ≡ done)
   admission-plans t long =
@@ -79,45 +99,92 @@ module _ (s : Site) (fs : List Flow) (x : ℕ) (e : admitGiven (admitAnswer s fs
       = subst Plans (ap (laden (netOf s) (flowsOf s fs)) (sym (went .1)) ∙ sym (laden-net s fs settled x)) (best-planned (netOf s) (flowsOf s fs)) in
       (accepted-number (ladenSite s fs x) .1 fine, allowed-is-public x .0 (admitted-allowed .1), plan-number (ladenSite s fs x) t .1 (done-means (ladenSite s fs x) t .1 (fine, long, plans)))
 
-  pub admitted-fits : (i : ℕ) → i < s .cells → loadAt (ladenSite s fs x) i ≤ positions s
-  admitted-fits i l = rw (went .1) (admitted-most s fs settled i l)
-
   -- no set that any valid table carries is worth more
   pub no-carried-better : (y : ℕ) → y < 2 ^ length fs → (res : Reserved) → Valid (netOf (ladenSite s fs y)) res → worth (flowsOf s fs) y ≤ worth (flowsOf s fs) x
   no-carried-better y l res v =
       rw (went .1)
-      (best-of-carried (netOf s) (flowsOf s fs) (chained-class (netOf s) everyone (settled .chain)) y l res (subst (λ (n : Net). Valid n res) (laden-net s fs settled y) v))
+      (best-of-carried (netOf s) (flowsOf s fs) (chained-class (netOf s) everyone (settled .looked .chain)) y l res (subst (λ (n : Net). Valid n res) (laden-net s fs settled y) v))
 
 -- "The empty set counts."
 pub empty-counts : (s : Site) (fs : List Flow) → allowed (netOf s) (flowsOf s fs) 0 ≡ true
 empty-counts s fs = empty-allowed (netOf s) (flowsOf s fs)
 
--- a set is answered wherever nothing is refused
-pub admitted-answer : (s : Site) (fs : List Flow) → Settled s fs → admitGiven (admitAnswer s fs) ≡ doneWith (admitted s fs ∷ [])
-admitted-answer s fs h = ap admitGiven (set-means s fs (admitted s fs) .1 (h, refl))
+-- ---- "Refusals: record faults first, then 18 over 16 flows, 19 site not chained, then per flow 2, 15, 16 with the flow's number." Each exactly where it is due; 2, 15 and 16 by the
+-- flow's cell, by its burst, period and repeats, and by products (crates/admission/specs/Means.antt).
 
--- ---- "Refusals: record faults first, then 18 over 16 flows, 19 site not chained, then per flow 2, 15, 16 with the flow's number."
+-- the record's numbers are 1 to 3
+above-three : (a : AdmitAnswer) → 3 < admitGiven a .number → ofRecord a ≡ false
+above-three (Admitted set) h = refl
+above-three TooMany h = refl
+above-three NotChained h = refl
+above-three (BadCell flow) h = refl
+above-three (BadFlow flow) h = refl
+above-three (BigShare flow) h = refl
+above-three (Refused Fine) h = absurd (omega arith)
+above-three (Refused Size) h = absurd (omega arith)
+above-three (Refused (Load k)) h = absurd (omega arith)
+above-three (Refused (Reach k)) h = absurd (omega arith)
 
 module _ (s : Site) (fs : List Flow) where
+  -- an accepted record is not refused
+  not-record : Accepted s → ofRecord (admitAnswer s fs) ≡ false
+  not-record ok = at (admitAnswer s fs) refl
+    where
+      at : (a : AdmitAnswer) → admitAnswer s fs ≡ a → ofRecord a ≡ false
+      at (Admitted set) e = refl
+      at TooMany e = refl
+      at NotChained e = refl
+      at (BadCell flow) e = refl
+      at (BadFlow flow) e = refl
+      at (BigShare flow) e = refl
+      at (Refused f) e =
+          let h = fault-means s fs f .0 e in
+          let fine : isFine f ≡ true = ap isFine (h .0 ∙ accepted-number s .0 ok) in
+          absurd (true≢false (sym fine ∙ h .1))
+
+  -- the answer behind a number, where it does not refuse the record
+  answer-of : (b : AdmitAnswer) → admitProper b ≡ true → ofRecord b ≡ false → ofRecord (admitAnswer s fs) ≡ false → admitGiven (admitAnswer s fs) ≡ admitGiven b → admitAnswer s fs ≡ b
+  answer-of b p q o = admit-apart (admitAnswer s fs) b (admit-proper s fs) p (o ∙ sym q)
+
+  -- a number above 3 is not the record's
+  big : (g : Given) → 3 < g .number → admitGiven (admitAnswer s fs) ≡ g → ofRecord (admitAnswer s fs) ≡ false
+  big g l e = above-three (admitAnswer s fs) (omega (arith, ap (λ (x : Given). x .number) e))
+
   pub admit-fault : (Accepted s → ⊥) → admitGiven (admitAnswer s fs) ≡ faultGiven (faultOf s)
   admit-fault n = ap admitGiven (fault-means s fs (faultOf s) .1 (refl, no-fine (faultOf s) (λ e. n (accepted-number s .1 e))))
 
-  pub eighteen : Accepted s → 16 < length fs → admitGiven (admitAnswer s fs) ≡ refused 18 []
-  eighteen ok h = ap admitGiven (many-means s fs (accepted-number s .0 ok) h)
+  pub eighteen : admitGiven (admitAnswer s fs) ≡ refused 18 [] ↔ (Accepted s × (16 < length fs))
+  eighteen =
+      let m = many-means s fs in (
+        λ e. let h = m .0 (answer-of TooMany refl refl (big (refused 18 []) (omega arith) e) e) in (accepted-number s .1 (h .0), h .1),
+        λ h. ap admitGiven (m .1 (accepted-number s .0 (h .0), h .1)),
+      )
 
-  module _ (ok : Accepted s) (few : length fs ≤ 16) where
-    pub nineteen : (Chained (netOf s) everyone → ⊥) → admitGiven (admitAnswer s fs) ≡ refused 19 []
-    nineteen n = ap admitGiven (broken-means s fs (accepted-number s .0 ok) few n)
+  pub nineteen : admitGiven (admitAnswer s fs) ≡ refused 19 [] ↔ (Accepted s × (length fs ≤ 16) × (Chained (netOf s) everyone → ⊥))
+  nineteen =
+      let m = broken-means s fs in (
+        λ e. let h = m .0 (answer-of NotChained refl refl (big (refused 19 []) (omega arith) e) e) in (accepted-number s .1 (h .0), h .1, h .2),
+        λ h. ap admitGiven (m .1 (accepted-number s .0 (h .0), h .1, h .2)),
+      )
 
-    module _ (chain : Chained (netOf s) everyone) (k : ℕ) (inside : k < length fs) (before : (j : ℕ) → j < k → flowBad s (flowAt fs j) ≡ false) (bad : flowBad s (flowAt fs k) ≡ true) where
-      first : admitAnswer s fs ≡ flowRefused s (flowAt fs k) (k + 1)
-      first = flow-means s fs (accepted-number s .0 ok) few chain k inside before bad
+  -- a flow's 2 looks as the record's does, so this is about an accepted record
+  pub flow-two : Accepted s → (n : ℕ) → admitGiven (admitAnswer s fs) ≡ refused 2 (n ∷ []) ↔ ((k : ℕ) × (n ≡ k + 1) × Stops s fs k two)
+  flow-two ok n =
+      let m = flow-means s fs two n in
+      (λ e. m .0 (answer-of (BadCell n) refl refl (not-record ok) e), λ h. ap admitGiven (m .1 h))
 
-      pub flow-two : (UpTo (s .cells) (flowAt fs k .cell) → ⊥) → admitGiven (admitAnswer s fs) ≡ refused 2 ((k + 1) ∷ [])
-      flow-two h = ap admitGiven (first ∙ refused-cell s (flowAt fs k) (k + 1) h)
+  pub flow-fifteen : (n : ℕ) → admitGiven (admitAnswer s fs) ≡ refused 15 (n ∷ []) ↔ ((k : ℕ) × (n ≡ k + 1) × Stops s fs k fifteen)
+  flow-fifteen n =
+      let m = flow-means s fs fifteen n in
+      (λ e. m .0 (answer-of (BadFlow n) refl refl (big (refused 15 (n ∷ [])) (omega arith) e) e), λ h. ap admitGiven (m .1 h))
 
-      pub flow-fifteen : UpTo (s .cells) (flowAt fs k .cell) → flowShare s (flowAt fs k) ≡ share.BadFlow → admitGiven (admitAnswer s fs) ≡ refused 15 ((k + 1) ∷ [])
-      flow-fifteen h e = ap admitGiven (first ∙ refused-flow s (flowAt fs k) (k + 1) h e)
+  pub flow-sixteen : (n : ℕ) → admitGiven (admitAnswer s fs) ≡ refused 16 (n ∷ []) ↔ ((k : ℕ) × (n ≡ k + 1) × Stops s fs k sixteen)
+  flow-sixteen n =
+      let m = flow-means s fs sixteen n in
+      (λ e. m .0 (answer-of (BigShare n) refl refl (big (refused 16 (n ∷ [])) (omega arith) e) e), λ h. ap admitGiven (m .1 h))
 
-      pub flow-sixteen : UpTo (s .cells) (flowAt fs k .cell) → flowShare s (flowAt fs k) ≡ share.BigShare → admitGiven (admitAnswer s fs) ≡ refused 16 ((k + 1) ∷ [])
-      flow-sixteen h e = ap admitGiven (first ∙ refused-big s (flowAt fs k) (k + 1) h e)
+  -- a set is answered wherever nothing is refused, and only there
+  pub admitted-answer : (x : ℕ) → admitGiven (admitAnswer s fs) ≡ doneWith (x ∷ []) ↔ (Settled s fs × (x ≡ admitted s fs))
+  admitted-answer x =
+      let m = set-means s fs x in
+      (λ e. m .0 (done-set (admitAnswer s fs) x e), λ h. ap admitGiven (m .1 h))

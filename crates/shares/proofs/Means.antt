@@ -10,7 +10,7 @@ use Rattle.laws.proofs.Choice.{both, both-is}
 use Rattle.site.specs.Record.{upTo}
 use Rattle.site.proofs.Faults.{up-to, up-to-is}
 use Rattle.shares.specs.Share.{roundedUp, shareOnce, shareNeeded, queueBound, delayBound, shareOf}
-use Rattle.shares.specs.Means.{Fair, Bounds, Above, ShareMeans}
+use Rattle.shares.specs.Means.{Fair, Bounds, Within, Above, ShareMeans}
 use Rattle.shares.specs.declared.ShareAnswer.the-variants.{Done, OutOfRange, BadFlow, BigShare}
 use Rattle.shares.proofs.Laws.{up-is-least, fair-pos}
 
@@ -54,3 +54,13 @@ module _ (t c p k : ℕ) where
   pub share-means : ShareMeans t c p k (shareOf t c p k)
   unfolding shareOf
   share-means = means-at (upTo 128 t) (upTo 65535 c && (upTo 65535 p && upTo 4 k)) (leb (shareNeeded t c p k) 65535) refl refl refl
+
+  -- a share that is done is within, and what is within is not above: the least number that serves is one number
+  pub bounds-within : (s q d : ℕ) → Bounds t c p k s q d → Within t c p k
+  bounds-within s q d b = record { once = b .once; serves = b .serves; within = omega (arith, b .share, b .most) }
+
+  pub within-not-above : Within t c p k → Above t c p k → ⊥
+  within-not-above w a =
+      let same : w .once ≡ a .once = omega (arith, w .serves .least (a .once) (a .serves .enough), a .serves .least (w .once) (w .serves .enough)) in
+      let within : k * a .once ≤ 65535 = rw same at (w .within) in
+      omega (arith, a .above)

@@ -1,17 +1,14 @@
 -- What repeats change and what they do not: sent once all is as before, k times makes the share k times as large, and the queue and delay bounds stay. By the parts of an answer that is done. Assumes nothing.
 use Prim.Native.Nat.{ℕ, _+_, _*_, _≤_}
 use mathlib.Core.Bool.{Bool, true, false, _&&_}
-use mathlib.Core.List.{[], _∷_, map}
 use mathlib.Core.Path.{_≡_, refl, sym, _∙_}
 use native.Mathlib.Nat.{one-mul}
 use native.Mathlib.Omega.{arith}
 use lib.Dec.{leb}
 use Rattle.laws.specs.Choice.{pick}
-use Rattle.site.specs.Given.{asList}
 use Rattle.site.specs.Record.{upTo}
 use Rattle.shares.specs.Share.{roundedUp, shareOnce, shareNeeded, queueBound, delayBound, shareOf}
 use Rattle.shares.specs.Means.{Fair, Bounds}
-use Rattle.shares.specs.Given.{shareGiven}
 use Rattle.shares.specs.declared.Fragments.{Fragments}
 use Rattle.shares.specs.declared.Slots.{Slots}
 use Rattle.shares.specs.declared.ShareAnswer.the-variants.{Done, OutOfRange, BadFlow, BigShare}
@@ -34,12 +31,6 @@ pub once-as-before : (t c p : ℕ) → shareOf t c p 1 ≡
     OutOfRange
 unfolding shareOf
 once-as-before t c p = simp (one-mul (shareOnce t c p), sent-once (upTo 65535 p))
-
--- the worked shares of document 01, T=3 with (3,4) and (3,5), and the same sent 2 and 4 times: the number, the share, the queue bound, the delay bound
-pub worked : map (λ a. asList (shareGiven a)) (shareOf 3 3 4 1 ∷ shareOf 3 3 5 1 ∷ shareOf 3 3 4 2 ∷ shareOf 3 3 5 4 ∷ [])
-    ≡ (0 ∷ 3 ∷ 6 ∷ 6 ∷ []) ∷ (0 ∷ 2 ∷ 5 ∷ 8 ∷ []) ∷ (0 ∷ 6 ∷ 6 ∷ 6 ∷ []) ∷ (0 ∷ 8 ∷ 5 ∷ 8 ∷ []) ∷ []
-unfolding shareOf roundedUp upTo
-worked = refl
 
 module _ (t c p k : ℕ) (s q : Fragments) (d : Slots) (e : shareOf t c p k ≡ Done s q d) where
   pub done-means : Fair t c p k × Bounds t c p k (s .0) (q .0) (d .0)

@@ -27,6 +27,12 @@ pub record Bounds (t c p k s q d : ℕ) : Type 0 where
   pub delay-some : t ≤ d
   pub delay : Least (c * t) once (d - t)
 
+-- k times the least number that serves is at most 65,535
+pub record Within (t c p k : ℕ) : Type 0 where
+  pub once : ℕ
+  pub serves : Least (c * t) p once
+  pub within : k * once ≤ 65535
+
 -- k times the least number that serves is above 65,535
 pub record Above (t c p k : ℕ) : Type 0 where
   pub once : ℕ

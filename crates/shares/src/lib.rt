@@ -2,7 +2,8 @@
 use site::within;
 ghost use mathlib.Core.Path.{_≡_};
 ghost use Prim.Native.Nat.{_+_, _*_, _≤_, _<_};
-ghost use Rattle.shares.specs.Share.{roundedUp, shareOf, defaultRepeats};
+ghost use Rattle.site.specs.Record.{upTo};
+ghost use Rattle.shares.specs.Share.{roundedUp, shareOf, mostRepeats, defaultRepeats};
 
 // A number of time-slots.
 pub struct Slots(pub u32);
@@ -79,6 +80,13 @@ fn add_slots(a: Slots, b: Slots) -> Slots
     Slots(a.0 + b.0)
 }
 
+// Whether a flow may ask for so many repeats: from 1 to 4.
+fn repeats_fit(repeats: Repeats) -> bool
+    ensures { λ r. ⌜ r ≡ upTo mostRepeats (repeats .0) ⌝ }
+{
+    within(repeats.0 as usize, MOST_REPEATS)
+}
+
 // The share of a flow with its bounds: T is `slots`. The bounds have the share of one sending in them, whatever the repeats.
 pub fn share_of(slots: Slots, burst: Fragments, period: Slots, repeats: Repeats) -> ShareAnswer
     ensures { λ r. ⌜ r ≡ shareOf (slots .0) (burst .0) (period .0) (repeats .0) ⌝ }
@@ -92,7 +100,7 @@ pub fn share_of(slots: Slots, burst: Fragments, period: Slots, repeats: Repeats)
     if !within(period.0 as usize, 65535) {
         return ShareAnswer::BadFlow;
     }
-    if !within(repeats.0 as usize, MOST_REPEATS) {
+    if !repeats_fit(repeats) {
         return ShareAnswer::BadFlow;
     }
     let once = share_for(burst, period, slots);

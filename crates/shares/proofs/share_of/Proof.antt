@@ -24,14 +24,14 @@ burst-in c = sym (c .before .within2 .ensures) ∙ not-false _ (c .if2 .left)
 period-in : (c : tie.Else3) → upTo 65535 (c .before .before .before .before .before .before .before .before .before .args .period .0) ≡ true
 period-in c = sym (c .before .within3 .ensures) ∙ not-false _ (c .if3 .left)
 
-repeats-in : (c : tie.Else4) → upTo 4 (c .before .before .before .before .before .before .before .before .before .before .before .before .args .repeats .0) ≡ true
-repeats-in c = sym (c .before .within4 .ensures) ∙ not-false _ (c .if4 .left)
+repeats-in : (c : tie.Else4) → upTo 4 (c .before .before .before .before .before .before .before .before .before .before .before .args .repeats .0) ≡ true
+repeats-in c = sym (c .before .repeats-fit .ensures) ∙ not-false _ (c .if4 .left)
 
-fair : (c : tie.Else4) → let a = c .before .before .before .before .before .before .before .before .before .before .before .before .args in Fair (a .slots .0) (a .burst .0) (a .period .0) (a .repeats .0)
+fair : (c : tie.Else4) → let a = c .before .before .before .before .before .before .before .before .before .before .before .args in Fair (a .slots .0) (a .burst .0) (a .period .0) (a .repeats .0)
 fair c = record {
-  slots = up-to _ _ (slots-in (c .before .before .before .before .before .before .before .before .before));
-  burst = up-to _ _ (burst-in (c .before .before .before .before .before .before));
-  period = up-to _ _ (period-in (c .before .before .before));
+  slots = up-to _ _ (slots-in (c .before .before .before .before .before .before .before .before));
+  burst = up-to _ _ (burst-in (c .before .before .before .before .before));
+  period = up-to _ _ (period-in (c .before .before));
   repeats = up-to _ _ (repeats-in c);
 }
 
@@ -65,20 +65,17 @@ returns-3 : tie.Need-returns-3
 unfolding shareOf
 returns-3 c = simp (slots-in (c .before .before .before .before .before .before), burst-in (c .before .before .before), sym (c .before .within3 .ensures) ∙ not-true _ (c .if3 .taken))
 
-cast-within-4 : tie.Need-cast-within-4
-cast-within-4 c = search needs
-
-within-requires-4 : tie.Need-within-requires-4
-within-requires-4 c κs = search needs
+repeats-fit-requires : tie.Need-repeats-fit-requires
+repeats-fit-requires c κs = search needs
 
 returns-4 : tie.Need-returns-4
 unfolding shareOf
 returns-4 c =
     simp (
-      slots-in (c .before .before .before .before .before .before .before .before .before),
-      burst-in (c .before .before .before .before .before .before),
-      period-in (c .before .before .before),
-      sym (c .before .within4 .ensures) ∙ not-true _ (c .if4 .taken),
+      slots-in (c .before .before .before .before .before .before .before .before),
+      burst-in (c .before .before .before .before .before),
+      period-in (c .before .before),
+      sym (c .before .repeats-fit .ensures) ∙ not-true _ (c .if4 .taken),
     )
 
 share-for-requires : tie.Need-share-for-requires
@@ -88,7 +85,7 @@ repeated-requires : tie.Need-repeated-requires
 repeated-requires c κs = rw (c .share-for .ensures) (fair-most _ _ _ _ (fair (c .before)))
 
 -- the product is the share
-share-is : (c : tie.After-repeated) → let a = c .before .before .before .before .before .before .before .before .before .before .before .before .before .before .args in c .repeated .result .0 ≡ shareNeeded (a .slots .0) (a .burst .0) (a .period .0) (a .repeats .0)
+share-is : (c : tie.After-repeated) → let a = c .before .before .before .before .before .before .before .before .before .before .before .before .before .args in c .repeated .result .0 ≡ shareNeeded (a .slots .0) (a .burst .0) (a .period .0) (a .repeats .0)
 share-is c = rw (c .before .share-for .ensures) at (c .repeated .ensures)
 
 -- one sending is no more than all of them
@@ -120,7 +117,7 @@ add-slots-requires c κs =
 returns-6 : tie.Need-returns-6
 returns-6 c =
     let at = c .before .before .before in
-    let a = at .before .before .before .before .before .before .before .before .before .before .before .before .before .before .before .before .args in
+    let a = at .before .before .before .before .before .before .before .before .before .before .before .before .before .before .before .args in
     let e = at .before .before .before .share-for .ensures in
     let s = share-is (at .before .before) in
     fair-done _ _ _ _ (fair (at .before .before .before .before)) _ _ _ (omega (arith, s, at .if5 .left)) s
@@ -140,8 +137,7 @@ share-of-spec =
     cast-within-3
     within-requires-3
     returns-3
-    cast-within-4
-    within-requires-4
+    repeats-fit-requires
     returns-4
     share-for-requires
     repeated-requires
