@@ -14,6 +14,7 @@ pub mod Admission
 pub mod Words
 pub mod Mending
 pub mod Said
+pub mod Printed
 pub mod InC
 pub mod Untouched
 pub mod Top
