@@ -14,7 +14,7 @@ use Rattle.laws.specs.Choice.{pick}
 use Rattle.laws.proofs.Choice.{both, refute}
 use Rattle.text.specs.Decimal.{decimal}
 use Rattle.lines.specs.Match.{starts, nowhere, eaten}
-use Rattle.lines.specs.Format.{commaByte, crByte, lfByte, crlf, column, columns, cellLoad, header}
+use Rattle.lines.specs.Format.{commaByte, cellNumber, crByte, lfByte, crlf, column, columns, cellLoad, header}
 use Rattle.lines.specs.declared.Head.{Head}
 use Rattle.lines.specs.Content.{columnsIn, columnsRead, cellsIn, headOk, noHead, headRead}
 use Rattle.lines.proofs.Match.{starts-is, starts-there, starts-long, eaten-append}
@@ -22,16 +22,16 @@ use Rattle.lines.proofs.Steps.{eaten-lost, eaten-there, eaten-not}
 
 -- ---- columns
 
-pub columns-snoc : (n j : ℕ) → columns j (n + 1) ≡ columns j n ++ column (j + n + 1)
+pub columns-snoc : (n j : ℕ) → columns j (n + 1) ≡ columns j n ++ column (cellNumber (j + n))
 unfolding columns
 columns-snoc zero j =
     let e : zero + 1 ≡ suc zero = omega arith in
-    let g : j + zero + 1 ≡ j + 1 = omega arith in
-    rw (e, g) (append-nil (column (j + 1)))
+    let g : j + zero ≡ j = omega arith in
+    rw (e, g) (append-nil (column (cellNumber j)))
 columns-snoc (suc n) j =
     let e : suc n + 1 ≡ suc (n + 1) = omega arith in
-    let g : j + suc n + 1 ≡ suc j + n + 1 = omega arith in
-    rw (e, g, columns-snoc n (suc j), append-assoc (column (j + 1)) (columns (suc j) n) (column (suc j + n + 1)))
+    let g : j + suc n ≡ suc j + n = omega arith in
+    rw (e, g, columns-snoc n (suc j), append-assoc (column (cellNumber j)) (columns (suc j) n) (column (cellNumber (suc j + n))))
 
 column-some : (x : ℕ) → 0 < length (column x)
 unfolding column
@@ -43,24 +43,25 @@ module _ (s : List ℕ) (short : length s < nowhere) where
   column-eaten p x c q a b = b ∙ ap (λ (i : ℕ). eaten s i (decimal x)) a ∙ eaten-append s p (commaByte ∷ []) (decimal x) (omega arith)
 
   -- no more columns stand there
-  pub columns-stop : (p k q : ℕ) → k < 32 → q ≡ eaten s p (column (k + 1)) → q ≡ nowhere → columnsIn (32 - k) k (drop p s) ≡ k
+  pub columns-stop : (p k q : ℕ) → k < 32 → q ≡ eaten s p (column (cellNumber k)) → q ≡ nowhere → columnsIn (32 - k) k (drop p s) ≡ k
   unfolding columnsIn
   columns-stop p k q h a b =
       let e : 32 - k ≡ suc (31 - k) = omega arith in
-      rw (e, eaten-not s p (column (k + 1)) short (column-some (k + 1)) (sym a ∙ b))
+      rw (e, eaten-not s p (column (cellNumber k)) short (column-some (cellNumber k)) (sym a ∙ b))
 
   -- one more stands there
   pub columns-step :
-      (p k q : ℕ) → k < 32 → q ≡ eaten s p (column (k + 1)) → (q ≡ nowhere → ⊥) → columnsIn (32 - (k + 1)) (k + 1) (drop q s) ≡ columnsIn (32 - k) k (drop p s)
+      (p k q : ℕ) → k < 32 → q ≡ eaten s p (column (cellNumber k)) → (q ≡ nowhere → ⊥) →
+      columnsIn (32 - (k + 1)) (k + 1) (drop q s) ≡ columnsIn (32 - k) k (drop p s)
   unfolding columnsIn
   columns-step p k q h a b =
       let e : 32 - k ≡ suc (32 - (k + 1)) = omega arith in
-      let t = eaten-there s p (column (k + 1)) (λ z. b (a ∙ z)) in
-      rw (e, t .0, a ∙ t .1, drop-drop (length (column (k + 1))) p s, add-one k)
+      let t = eaten-there s p (column (cellNumber k)) (λ z. b (a ∙ z)) in
+      rw (e, t .0, a ∙ t .1, drop-drop (length (column (cellNumber k))) p s, add-one k)
 
-  pub columns-place : (at p k q : ℕ) → p ≡ eaten s at (columns 0 k) → q ≡ eaten s p (column (k + 1)) → q ≡ eaten s at (columns 0 (k + 1))
+  pub columns-place : (at p k q : ℕ) → p ≡ eaten s at (columns 0 k) → q ≡ eaten s p (column (cellNumber k)) → q ≡ eaten s at (columns 0 (k + 1))
   columns-place at p k q a b =
-      b ∙ ap (λ (i : ℕ). eaten s i (column (k + 1))) a ∙ eaten-append s at (columns 0 k) (column (k + 1)) (omega arith)
+      b ∙ ap (λ (i : ℕ). eaten s i (column (cellNumber k))) a ∙ eaten-append s at (columns 0 k) (column (cellNumber k)) (omega arith)
       ∙ ap (eaten s at) (sym (columns-snoc k 0 ∙ ap (λ (i : ℕ). columns 0 k ++ column i) (omega arith)))
 
   pub columns-end : (at p k : ℕ) → p ≡ eaten s at (columns 0 k) → columnsIn (32 - k) k (drop p s) ≡ columnsIn 32 0 (drop at s) → columnsIn (32 - k) k (drop p s) ≡ k → record { cells = k; next = p } ≡ columnsRead s at
@@ -136,9 +137,9 @@ module _ (s : List ℕ) (short : length s < nowhere) where
 
 -- ---- a written first line, and any bytes after it
 
-one-more : (m k : ℕ) (r : List ℕ) → columnsIn (suc m) k (column (k + 1) ++ r) ≡ columnsIn m (suc k) r
+one-more : (m k : ℕ) (r : List ℕ) → columnsIn (suc m) k (column (cellNumber k) ++ r) ≡ columnsIn m (suc k) r
 unfolding columnsIn
-one-more m k r = rw (starts-there (column (k + 1)) r, drop-append-seam (column (k + 1)) r)
+one-more m k r = rw (starts-there (column (cellNumber k)) r, drop-append-seam (column (cellNumber k)) r)
 
 no-more : (m k : ℕ) (r : List ℕ) → columnsIn m k (crlf ++ r) ≡ k
 unfolding columnsIn starts column
@@ -150,7 +151,7 @@ unfolding columns
 columns-written zero m k r h = no-more m k r ∙ sym (add-zero k)
 columns-written (suc n) zero k r h = absurd (omega arith)
 columns-written (suc n) (suc m) k r h =
-    ap (columnsIn (suc m) k) (append-assoc (column (k + 1)) (columns (suc k) n) (crlf ++ r))
+    ap (columnsIn (suc m) k) (append-assoc (column (cellNumber k)) (columns (suc k) n) (crlf ++ r))
     ∙ one-more m k (columns (suc k) n ++ (crlf ++ r))
     ∙ columns-written n m (suc k) r (omega arith)
     ∙ omega arith
@@ -171,9 +172,10 @@ head-is r h = let b = both _ _ h in (leb-true _ _ (b .0), starts-is _ _ (b .1))
 few : (n k : ℕ) (r : List ℕ) → columnsIn n k r ≤ k + n
 unfolding columnsIn
 few zero k r = omega arith
-few (suc n) k r = go (starts (column (k + 1)) r) (few n (suc k) (drop (length (column (k + 1))) r))
+few (suc n) k r = go (starts (column (cellNumber k)) r) (few n (suc k) (drop (length (column (cellNumber k))) r))
   where
-    go : (t : Bool) → columnsIn n (suc k) (drop (length (column (k + 1))) r) ≤ suc k + n → pick t (columnsIn n (suc k) (drop (length (column (k + 1))) r)) k ≤ k + suc n
+    go : (t : Bool) → columnsIn n (suc k) (drop (length (column (cellNumber k))) r) ≤ suc k + n →
+        pick t (columnsIn n (suc k) (drop (length (column (cellNumber k))) r)) k ≤ k + suc n
     go true h = omega arith
     go false h = omega arith
 

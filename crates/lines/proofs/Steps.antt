@@ -16,7 +16,7 @@ use Rattle.laws.proofs.Choice.{both, refute}
 use Rattle.text.specs.Decimal.{decimal}
 use Rattle.text.proofs.Left.{next-left, none-left}
 use Rattle.lines.specs.Match.{starts, nowhere, eaten}
-use Rattle.lines.specs.Format.{commaByte, crByte, lfByte, crlf, marks, label, cellLine}
+use Rattle.lines.specs.Format.{commaByte, cellNumber, crByte, lfByte, crlf, marks, label, cellLine}
 use Rattle.lines.specs.declared.Marks.{Marks}
 use Rattle.lines.specs.declared.Number.{Number}
 use Rattle.lines.specs.declared.Line.{Line}
@@ -175,9 +175,9 @@ module _ (s : List ℕ) (at n k : ℕ) (short : length s < nowhere) where
 
 -- the reader's way through a line: where the label ends, where the load ends, and the end
 module _ (s : List ℕ) (at n k : ℕ) (short : length s < nowhere) where
-  pub label-eaten : (d a : ℕ) → d ≡ eaten s at (decimal (k + 1)) → a ≡ eaten s d (commaByte ∷ []) → a ≡ eaten s at (label k)
+  pub label-eaten : (d a : ℕ) → d ≡ eaten s at (decimal (cellNumber k)) → a ≡ eaten s d (commaByte ∷ []) → a ≡ eaten s at (label k)
   unfolding label
-  label-eaten d a p q = q ∙ ap (λ (i : ℕ). eaten s i (commaByte ∷ [])) p ∙ eaten-append s at (decimal (k + 1)) (commaByte ∷ []) (omega arith)
+  label-eaten d a p q = q ∙ ap (λ (i : ℕ). eaten s i (commaByte ∷ [])) p ∙ eaten-append s at (decimal (cellNumber k)) (commaByte ∷ []) (omega arith)
 
   module _ (a : ℕ) (label-at : a ≡ eaten s at (label k)) where
     pub no-label : a ≡ nowhere → noLine ≡ lineRead s at n k

@@ -9,7 +9,7 @@ use Rattle.laws.specs.Choice.{pick}
 use Rattle.laws.specs.Sum.{bit}
 use Rattle.text.specs.Decimal.{decimal}
 use Rattle.lines.specs.Match.{starts, eaten, nowhere}
-use Rattle.lines.specs.Format.{commaByte, column, columns, marks, label, header, cellLine}
+use Rattle.lines.specs.Format.{commaByte, cellNumber, column, columns, marks, label, header, cellLine}
 use Rattle.lines.specs.declared.Number.{Number}
 use Rattle.lines.specs.declared.Marks.{Marks}
 use Rattle.lines.specs.declared.Line.{Line}
@@ -83,7 +83,7 @@ lineRead s at n k =
 -- how many of the next n columns from index k on stand there, and those before
 unfoldable pub columnsIn : ℕ → ℕ → List ℕ → ℕ
 columnsIn zero k r = k
-columnsIn (suc n) k r = pick (starts (column (k + 1)) r) (columnsIn n (suc k) (drop (length (column (k + 1))) r)) k
+columnsIn (suc n) k r = pick (starts (column (cellNumber k)) r) (columnsIn n (suc k) (drop (length (column (cellNumber k))) r)) k
 
 unfoldable pub columnsRead : List ℕ → ℕ → Head
 columnsRead s at = record { cells = columnsIn 32 0 (drop at s); next = eaten s at (columns 0 (columnsIn 32 0 (drop at s))) }

@@ -17,6 +17,10 @@ lfByte = 10
 abbrev pub crlf : List ℕ
 crlf = crByte ∷ lfByte ∷ []
 
+-- the number of the cell at index k, from 1
+abbrev pub cellNumber : ℕ → ℕ
+cellNumber k = k + 1
+
 -- a number after a comma
 unfoldable pub column : ℕ → List ℕ
 column x = commaByte ∷ decimal x
@@ -24,7 +28,7 @@ column x = commaByte ∷ decimal x
 -- the n columns from index k on, each headed by its cell's number, from 1
 unfoldable pub columns : ℕ → ℕ → List ℕ
 columns k zero = []
-columns k (suc n) = column (k + 1) ++ columns (suc k) n
+columns k (suc n) = column (cellNumber k) ++ columns (suc k) n
 
 abbrev pub cellLoad : List ℕ
 cellLoad = 99 ∷ 101 ∷ 108 ∷ 108 ∷ 44 ∷ 108 ∷ 111 ∷ 97 ∷ 100 ∷ []  -- cell,load
@@ -44,7 +48,7 @@ marks f b (suc n) = commaByte ∷ (48 + f b) ∷ marks f (suc b) n
 
 -- the cell's number and its comma
 unfoldable pub label : ℕ → List ℕ
-label k = decimal (k + 1) ++ (commaByte ∷ [])
+label k = decimal (cellNumber k) ++ (commaByte ∷ [])
 
 -- "one line per cell with its number, its load and I marks"; the cell at index k
 unfoldable pub cellLine : ℕ → ℕ → ℕ → (ℕ → ℕ) → List ℕ
