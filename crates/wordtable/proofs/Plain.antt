@@ -1,7 +1,7 @@
 -- The order of words and bits in plain arithmetic, without the definitions of specs/: word k is that of position k, and cell i, from 0, weighs 2 to the power i
 -- in it. Each fact is `words-say` or `bytes-at` with its tests read as equations. Assumes nothing.
 use mathlib.Core.Path.{_≡_, sym, ap, _∙_}
-use mathlib.Core.List.{List, _++_}
+use mathlib.Core.List.{List}
 use mathlib.Core.Logic.{_↔_}
 use Prim.Native.Nat.{ℕ, _+_, _*_, _/_, _%_, _^_, _≤_, _<_}
 use native.Mathlib.Nat.{mod-lt}
