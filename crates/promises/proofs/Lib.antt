@@ -6,6 +6,7 @@ pub mod Demand2
 pub mod Names
 pub mod Demand3
 pub mod Least
+pub mod Spare
 pub mod Files
 pub mod Sheets
 pub mod Admission

@@ -3,6 +3,7 @@ pub mod Numbers
 pub mod Leaves
 pub mod Demands
 pub mod Desk
+pub mod Spare
 pub mod SquareSays
 pub mod SiteSays
 pub mod WordsSays
