@@ -36,12 +36,14 @@ pub desk : admitAnswer bare three ≡ Admitted 6
 unfolding answerIn faultOf sizeOk upTo extraLoad badRow rowBad firstOf chainVerdict firstBreak breakOf breaks gap clashIn reaches firstBadIn badIn refusedIn shareOf roundedUp best bestOf allowed sum overloaded lowestOver loadVerdict
 desk = refl
 
--- repeats that decide: two flows of burst 1 each 2 slots in cell 1, the first sent twice. Its share is 2 and the other's 1, which are 3 where N is 2; sent once they would both go
+-- repeats that decide: two flows of burst 1 each 2 slots in cell 1, the first sent twice. Its share is 2 and the other's 1, which are 3 where N is 2;
+-- sent once they would both go
 abbrev twice : List Flow
 twice = flow 1 1 2 2 3 ∷ flow 1 1 2 1 2 ∷ []
 
 pub repeats-decide : (admitAnswer bare twice ≡ Admitted 1) × (admitAnswer bare (flow 1 1 2 1 3 ∷ flow 1 1 2 1 2 ∷ []) ≡ Admitted 3)
-unfolding answerIn faultOf sizeOk upTo extraLoad badRow rowBad firstOf chainVerdict firstBreak breakOf breaks gap clashIn reaches firstBadIn badIn refusedIn shareOf roundedUp best bestOf allowed sum overloaded lowestOver loadVerdict
+unfolding answerIn faultOf sizeOk upTo extraLoad badRow rowBad firstOf chainVerdict firstBreak breakOf breaks gap clashIn reaches
+    firstBadIn badIn refusedIn shareOf roundedUp best bestOf allowed sum overloaded lowestOver loadVerdict
 repeats-decide = (refl, refl)
 
 -- T=3, F=2, "cells 1-2-3 in a row each clashing with the next"

@@ -76,13 +76,15 @@ module _ (s : Site) (fs : List Flow) (settled : Settled s fs) (x : ℕ) where
       ⊎-elim
       (λ c.
       let inside : i < s .cells = ltb-true i (s .cells) c in
-      ⊎-elim (λ e. omega (arith, net-open s, allowed-means (netOf s) (flowsOf s fs) x .0 h i inside e)) (λ e. omega (arith, ltb-false 0 (loadIn (flowsOf s fs) x i) e))
+      ⊎-elim (λ e. omega (arith, net-open s, allowed-means (netOf s) (flowsOf s fs) x .0 h i inside e))
+      (λ e. omega (arith, ltb-false 0 (loadIn (flowsOf s fs) x i) e))
       (cases (ltb 0 (loadIn (flowsOf s fs) x i))))
       (λ c. omega (arith, no-load i (ltb-false i (s .cells) c)))
       (cases (ltb i (s .cells)))
 
   -- W4: "Everything that takes a share follows": each load is the sum of the public shares of the set's flows in its cell, numbered from 1
-  pub laden-shares : (share : ℕ → ℕ) → ((k : ℕ) → k < length fs → Shared s (flowAt fs k) (share k)) → (i : ℕ) → loadAt (ladenSite s fs x) i ≡ summed fs share x (i + 1)
+  pub laden-shares : (share : ℕ → ℕ) → ((k : ℕ) → k < length fs → Shared s (flowAt fs k) (share k))
+      → (i : ℕ) → loadAt (ladenSite s fs x) i ≡ summed fs share x (i + 1)
   laden-shares share h i =
       laden-load i
       ∙ sum-eq (λ k. pick (bitAt x k) (pick (eqb (flowAt fs k .cell - 1) i) (amount (flowShare s (flowAt fs k))) 0) 0)
@@ -91,7 +93,8 @@ module _ (s : Site) (fs : List Flow) (settled : Settled s fs) (x : ℕ) where
       let f = flowAt fs k in
       let some = settled .good k l .cell .0 in
       let same : eqb (f .cell - 1) i ≡ eqb (f .cell) (i + 1)
-      = alike _ _ (λ e. eq-eqb (f .cell) (i + 1) (omega (arith, eqb-true (f .cell - 1) i e))) (λ e. eq-eqb (f .cell - 1) i (omega (arith, eqb-true (f .cell) (i + 1) e))) in
+      = alike _ _ (λ e. eq-eqb (f .cell) (i + 1) (omega (arith, eqb-true (f .cell - 1) i e)))
+      (λ e. eq-eqb (f .cell - 1) i (omega (arith, eqb-true (f .cell) (i + 1) e))) in
       rw (shared-amount s f (share k) (h k l), same) (nested (bitAt x k) (eqb (f .cell) (i + 1)) (share k)))
     where
       nested : (a b : Bool) (v : ℕ) → pick a (pick b v 0) 0 ≡ pick (a && b) v 0

@@ -1,5 +1,5 @@
--- What the call says, from a second side: each answer exactly where it is due. The definition is a row of choices; each of the ways that they go has its answer, and no two ways
--- have the same. Assumes nothing.
+-- What the call says, from a second side: each answer exactly where it is due. The definition is a row of choices; each of the ways that they go has its answer,
+-- and no two ways have the same. Assumes nothing.
 use Prim.Native.Nat.{ℕ, _+_, _≤_, _<_, zero-le}
 use mathlib.Core.Bool.{Bool, true, false, true≢false}
 use mathlib.Core.List.{List}
@@ -23,7 +23,7 @@ use Rattle.site.specs.declared.Fault.the-variants.{Fine}
 use Rattle.site.proofs.Faults.{fine-is, fine-sized}
 use Rattle.flowlist.specs.List.{flowAt}
 use Rattle.flowlist.specs.declared.Flow.{Flow}
-use Rattle.admission.specs.Admit.{firstBadIn, isChained, flowBad, flowRefused, firstBad, admitted, admitAnswer}
+use Rattle.admission.specs.Admit.{firstBadIn, isChained, flowBad, firstBad, admitted, admitAnswer}
 use Rattle.admission.specs.Means.{Sends, Refusal, two, fifteen, sixteen, refusedWith, Looked, Settled, Stops}
 use Rattle.admission.specs.declared.AdmitAnswer.{AdmitAnswer}
 use Rattle.admission.specs.declared.AdmitAnswer.the-variants.{Admitted, TooMany, NotChained, BadCell, BadFlow, BigShare, Refused}

@@ -1,5 +1,5 @@
--- A flow is refused exactly as specs/Means.antt says, with that number: the share's answer has one of four forms, and what each means is known by products (crate `shares`).
--- Assumes nothing.
+-- A flow is refused exactly as specs/Means.antt says, with that number: the share's answer has one of four forms, and what each means is known by products
+-- (crate `shares`). Assumes nothing.
 use Prim.Native.Nat.{ℕ}
 use mathlib.Core.Bool.{true, false, true≢false}
 use mathlib.Core.Logic.{⊎-elim, _↔_}
@@ -21,7 +21,7 @@ use Rattle.shares.proofs.Means.{share-means, bounds-within, within-not-above}
 use Rattle.flowlist.specs.declared.Flow.{Flow}
 use Rattle.admission.specs.Admit.{amount, refusedIn, flowShare, flowBad, flowRefused}
 use Rattle.admission.specs.Laden.{Shared}
-use Rattle.admission.specs.Means.{InRange, Sends, Refusal, two, fifteen, sixteen, refusedWith, Refuses}
+use Rattle.admission.specs.Means.{Sends, Refusal, two, fifteen, sixteen, refusedWith, Refuses}
 use Rattle.admission.proofs.Asking.{bad-cell, bad-share, good}
 
 -- the ways that a flow goes: it is not refused, or it is with one of the numbers

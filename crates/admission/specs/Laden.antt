@@ -21,7 +21,8 @@ use Rattle.admission.specs.Admit.{flowsOf}
 abbrev pub ladenSite : Site → List Flow → ℕ → Site
 ladenSite s fs x = siteOf (s .cells) (s .slots) (s .channels) (listOf (loadIn (flowsOf s fs) x) 32) (s .reach)
 
--- W4: "Everything that takes a share follows". The public share of a flow: what `share_of` gives back for the site's slots and the flow's burst, period and repeats
+-- W4: "Everything that takes a share follows". The public share of a flow: what `share_of` gives back for the site's slots and the flow's burst, period and
+-- repeats
 pub record Shared (s : Site) (f : Flow) (share : ℕ) : Type 0 where
   pub queue : ℕ
   pub delay : ℕ

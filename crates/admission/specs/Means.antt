@@ -1,4 +1,4 @@
--- What an admission's answers mean, said a second time: by the cell, the burst, the period and the repeats of a flow, by products alone, and with no share's answer.
+-- What an admission's answers mean, said a second time: by the cell, the burst, the period and the repeats of a flow, by products, with no share's answer.
 -- proofs/Meaning.antt shows that the definition says this and nothing else.
 use Prim.Native.Nat.{ℕ, _≤_, _<_}
 use mathlib.Core.List.{List}

@@ -1,5 +1,5 @@
--- The request's example and the paper's, computed from the definition. On the first the paper's recurrence, which settles flow after flow, stops at a set worth 5; on the second it
--- finds the set that the paper says it finds.
+-- The request's example and the paper's, computed from the definition. On the first the paper's recurrence, which settles flow after flow, stops at a set
+-- worth 5; on the second it finds the set that the paper says it finds.
 -- Assumes nothing.
 use mathlib.Core.Path.{_≡_, refl}
 use mathlib.Core.Bool.{false}
@@ -50,7 +50,8 @@ pub table-two : (best row nine ≡ 398) × (worth nine 398 ≡ 177)
 unfolding best bestOf allowed sum firstOf overloaded lowestOver loadVerdict
 table-two = (refl, refl)
 
--- Table II's line "Opt", which is this recurrence: the same set, 177. So the recurrence is the paper's where the paper says what it finds, and stops at 5 where the request says so
+-- Table II's line "Opt", which is this recurrence: the same set, 177. So the recurrence is the paper's where the paper says what it finds, and stops at 5 where
+-- the request says so
 pub table-two-recurrence : recurrence row nine ≡ 398
 unfolding keptBelow kept greatest sum
 table-two-recurrence = refl

@@ -21,11 +21,14 @@ sizeOf s f x = greatest (demand (laden s f x)) (s .cells)
 abbrev pub smaller : Net → Flows → ℕ → ℕ → ℕ
 smaller s f x y = pick (eqb x 0 || ltb (sizeOf s f y) (sizeOf s f x)) y x
 
--- (19) and (20): the set that is kept of the first j flows for the reward r; the empty one where there is none
+-- (19) and (20): of the sets of the first j flows, x is kept for the reward r, and y for what is left of r without flow j; so this is kept with flow j
+abbrev pub keptWith : Net → Flows → ℕ → ℕ → ℕ → ℕ → ℕ
+keptWith s f j r x y = pick ((ltb (f .value j) r && not (eqb y 0)) || eqb (f .value j) r) (smaller s f x (y + 2 ^ j)) x
+
+-- the set that is kept of the first j flows for the reward r; the empty one where there is none
 unfoldable pub kept : Net → Flows → ℕ → ℕ → ℕ
 kept s f zero r = 0
-kept s f (suc j) r =
-    pick ((ltb (f .value j) r && not (eqb (kept s f j (r - f .value j)) 0)) || eqb (f .value j) r) (smaller s f (kept s f j r) (kept s f j (r - f .value j) + 2 ^ j)) (kept s f j r)
+kept s f (suc j) r = keptWith s f j r (kept s f j r) (kept s f j (r - f .value j))
 
 -- (21): the set kept for the greatest reward up to r whose size is at most N
 unfoldable pub keptBelow : Net → Flows → ℕ → ℕ

@@ -81,13 +81,15 @@ module _ (s : Site) (fs : List Flow) (x : ℕ) (e : admitGiven (admitAnswer s fs
       → (length (ladenSite s fs y .loads) ≡ 32) × ((i : ℕ) → loadAt (ladenSite s fs y) i ≤ positions s) × (positions s ≤ 2048)
   allowed-fits y h = (length-list (loadIn (flowsOf s fs) y) 32, allowed-most s fs settled y h, few-positions (fine-sized s (settled .looked .fine)))
 
-  -- W4: "Everything that takes a share follows": each flow has a public share, and the loads of the site that a set makes are the public shares of its flows, summed by cell
+  -- W4: "Everything that takes a share follows": each flow has a public share, and the loads of the site that a set makes are the public shares of its flows,
+  -- summed by cell
   pub flow-shared : (k : ℕ) → k < length fs → (share : ℕ) × Shared s (flowAt fs k) share
   flow-shared k l =
       let z = fine-sized s (settled .looked .fine) in
       sends-shared s (flowAt fs k) (z .slots-some, z .slots-most) (settled .good k l)
 
-  pub loads-are-shares : (share : ℕ → ℕ) → ((k : ℕ) → k < length fs → Shared s (flowAt fs k) (share k)) → (y i : ℕ) → loadAt (ladenSite s fs y) i ≡ summed fs share y (i + 1)
+  pub loads-are-shares : (share : ℕ → ℕ) → ((k : ℕ) → k < length fs → Shared s (flowAt fs k) (share k))
+      → (y i : ℕ) → loadAt (ladenSite s fs y) i ≡ summed fs share y (i + 1)
   loads-are-shares share h y = laden-shares s fs settled y share h
 
   -- the site with the admitted shares as its loads is accepted, its load test holds, and it is planned
@@ -103,14 +105,15 @@ module _ (s : Site) (fs : List Flow) (x : ℕ) (e : admitGiven (admitAnswer s fs
   pub no-carried-better : (y : ℕ) → y < 2 ^ length fs → (res : Reserved) → Valid (netOf (ladenSite s fs y)) res → worth (flowsOf s fs) y ≤ worth (flowsOf s fs) x
   no-carried-better y l res v =
       rw (went .1)
-      (best-of-carried (netOf s) (flowsOf s fs) (chained-class (netOf s) everyone (settled .looked .chain)) y l res (subst (λ (n : Net). Valid n res) (laden-net s fs settled y) v))
+      (best-of-carried (netOf s) (flowsOf s fs) (chained-class (netOf s) everyone (settled .looked .chain)) y l res
+      (subst (λ (n : Net). Valid n res) (laden-net s fs settled y) v))
 
 -- "The empty set counts."
 pub empty-counts : (s : Site) (fs : List Flow) → allowed (netOf s) (flowsOf s fs) 0 ≡ true
 empty-counts s fs = empty-allowed (netOf s) (flowsOf s fs)
 
--- ---- "Refusals: record faults first, then 18 over 16 flows, 19 site not chained, then per flow 2, 15, 16 with the flow's number." Each exactly where it is due; 2, 15 and 16 by the
--- flow's cell, by its burst, period and repeats, and by products (crates/admission/specs/Means.antt).
+-- ---- "Refusals: record faults first, then 18 over 16 flows, 19 site not chained, then per flow 2, 15, 16 with the flow's number." Each exactly where it is due;
+-- 2, 15 and 16 by the flow's cell, by its burst, period and repeats, and by products (crates/admission/specs/Means.antt).
 
 -- the record's numbers are 1 to 3
 above-three : (a : AdmitAnswer) → 3 < admitGiven a .number → ofRecord a ≡ false
@@ -143,7 +146,8 @@ module _ (s : Site) (fs : List Flow) where
           absurd (true≢false (sym fine ∙ h .1))
 
   -- the answer behind a number, where it does not refuse the record
-  answer-of : (b : AdmitAnswer) → admitProper b ≡ true → ofRecord b ≡ false → ofRecord (admitAnswer s fs) ≡ false → admitGiven (admitAnswer s fs) ≡ admitGiven b → admitAnswer s fs ≡ b
+  answer-of : (b : AdmitAnswer) → admitProper b ≡ true → ofRecord b ≡ false → ofRecord (admitAnswer s fs) ≡ false
+      → admitGiven (admitAnswer s fs) ≡ admitGiven b → admitAnswer s fs ≡ b
   answer-of b p q o = admit-apart (admitAnswer s fs) b (admit-proper s fs) p (o ∙ sym q)
 
   -- a number above 3 is not the record's

@@ -7,6 +7,7 @@ pub mod Names
 pub mod Demand3
 pub mod Least
 pub mod Heaviest
+pub mod Spare
 pub mod Files
 pub mod Sheets
 pub mod FlowSheets

@@ -5,3 +5,4 @@ pub mod Demands
 pub mod Desk
 pub mod Untouched
 pub mod Top
+pub mod Spare

@@ -1,0 +1,40 @@
+-- W2's spare cells: "Customers number spare cells into a tunnel for later. A spare has load 0". One is put in after the first p cells, and becomes cell p + 1.
+-- Cells are counted from 1 here, as the calls name them.
+use Prim.Native.Nat.{ℕ, _+_, _-_, _≤_}
+use mathlib.Core.Logic.{_↔_}
+use mathlib.Core.Path.{_≡_}
+use lib.Dec.{leb}
+use Rattle.laws.specs.Choice.{pick}
+use Rattle.site.specs.Means.{UpTo, Reaches}
+use Rattle.site.specs.Record.{loadAt}
+use Rattle.site.specs.declared.Site.{Site}
+use Rattle.judges.specs.declared.LoadAnswer.{LoadAnswer}
+use Rattle.judges.specs.declared.LoadAnswer.the-variants as load
+use Rattle.judges.specs.declared.ChainAnswer.{ChainAnswer}
+use Rattle.judges.specs.declared.ChainAnswer.the-variants as chain
+
+-- the number of a cell then: "the cells after it move up by one"
+unfoldable pub moved : ℕ → ℕ → ℕ
+moved p cell = pick (leb cell p) cell (cell + 1)
+
+-- t is s with a spare cell after the first p. The others have their loads and reach one another as they did; whom the spare cell reaches, and who reaches it,
+-- is free
+pub record SpareIn (p : ℕ) (s t : Site) : Type 0 where
+  pub place : p ≤ s .cells
+  pub one-more : t .cells ≡ s .cells + 1
+  pub same-slots : t .slots ≡ s .slots
+  pub same-channels : t .channels ≡ s .channels
+  pub no-load : loadAt t p ≡ 0
+  pub same-load : (cell : ℕ) → UpTo (s .cells) cell → loadAt t (moved p cell - 1) ≡ loadAt s (cell - 1)
+  pub same-reach : (from to : ℕ) → UpTo (s .cells) from → UpTo (s .cells) to → Reaches t (moved p from) (moved p to) ↔ Reaches s from to
+
+-- an answer of the load test, and of the chain judge, with the cells that it names by their new numbers
+abbrev pub loadMoved : ℕ → LoadAnswer → LoadAnswer
+loadMoved p load.Holds = load.Holds
+loadMoved p (load.Over cell m) = load.Over (moved p cell) m
+loadMoved p (load.Refused f) = load.Refused f
+
+abbrev pub chainMoved : ℕ → ChainAnswer → ChainAnswer
+chainMoved p chain.Chained = chain.Chained
+chainMoved p (chain.Broken a b c) = chain.Broken (moved p a) (moved p b) (moved p c)
+chainMoved p (chain.Refused f) = chain.Refused f
