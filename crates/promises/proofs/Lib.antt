@@ -7,6 +7,7 @@ pub mod Names
 pub mod Demand3
 pub mod Least
 pub mod Files
+pub mod Called
 pub mod Sheets
 pub mod Admission
 pub mod Words
@@ -39,6 +40,7 @@ pub mod LinesOne
 pub mod PutlinesOne
 pub mod SheetOne
 pub mod FlowsheetOne
+pub mod InputsOne
 pub mod VerdictsOne
 pub mod FlowwordsOne
 pub mod WhyOne

@@ -34,8 +34,8 @@ pub verdictsSheetWords-one : (out : List ℕ) (at : ℕ) (reply : SheetAnswer) (
 verdictsSheetWords-one out at reply r q out′ out″ says also = (says .answer ∙ sym (also .answer), says .out-after ∙ sym (also .out-after))
 
 -- verdicts::share_words
-pub verdictsShareWords-one : (out : List ℕ) (at : ℕ) (reply : ShareAnswer) (r q : ℕ) (out′ out″ : List ℕ) → VerdictsShareWords out at reply r out′ → VerdictsShareWords out at reply q out″ → (r ≡ q) × (out′ ≡ out″)
-verdictsShareWords-one out at reply r q out′ out″ says also = (says .answer ∙ sym (also .answer), says .out-after ∙ sym (also .out-after))
+pub verdictsShareWords-one : (out : List ℕ) (at : ℕ) (burst : ℕ) (period : ℕ) (reply : ShareAnswer) (r q : ℕ) (out′ out″ : List ℕ) → VerdictsShareWords out at burst period reply r out′ → VerdictsShareWords out at burst period reply q out″ → (r ≡ q) × (out′ ≡ out″)
+verdictsShareWords-one out at burst period reply r q out′ out″ says also = (says .answer ∙ sym (also .answer), says .out-after ∙ sym (also .out-after))
 
 -- verdicts::plan_words
 pub verdictsPlanWords-one : (out : List ℕ) (at : ℕ) (site : Site) (reply : PlanAnswer) (r q : ℕ) (out′ out″ : List ℕ) → VerdictsPlanWords out at site reply r out′ → VerdictsPlanWords out at site reply q out″ → (r ≡ q) × (out′ ≡ out″)

@@ -1,1 +1,2 @@
 -- The laws of crate `verdicts`, module by module.
+pub mod Share
