@@ -1,7 +1,8 @@
-//! The desk's command (docs/DESK.md): what each command answers to the bytes of its files and to its numbers. The words
-//! are in `wording`, what is said of a site in `why`, the sheet of flows in `flows`.
+//! The desk's command (docs/DESK.md): what each command answers to its files and to its numbers. The words are in
+//! `wording`, the files and their names in `input`, what is said of a site in `why`, the sheet of flows in `flows`.
 
 mod flows;
+mod input;
 mod why;
 mod wording;
 
@@ -15,7 +16,9 @@ use crate::planner;
 use crate::share::{share as share_once, share_of, Fragments, Repeats, Share, Slots};
 use crate::sheet::{read_sheet, write_sheet};
 use crate::site::Site;
-use wording::{change_line, counted, no_room, no_room_beside, not_chained, refused, sends_wrongly, sizes, Place};
+pub use input::Input;
+use input::Kind;
+use wording::{change_line, counted, no_room, no_room_beside, not_chained, refused, sends_wrongly, sizes, wrong_flow, wrong_slots, Place};
 
 /// Of each input no more than this is looked at.
 const MOST_BYTES: usize = 65_536;
@@ -38,12 +41,13 @@ fn result(bytes: impl Into<Vec<u8>>) -> Told {
     Ok(Done { result: bytes.into(), words: String::new() })
 }
 
-fn seen(file: &[u8]) -> &[u8] {
-    &file[..file.len().min(MOST_BYTES)]
+fn seen<'a>(file: Input<'a>) -> Input<'a> {
+    Input { bytes: &file.bytes[..file.bytes.len().min(MOST_BYTES)], ..file }
 }
 
-fn site_in(file: &[u8]) -> Result<Site, String> {
-    read_site(seen(file)).map_err(|no| refused(no.number, Place::SiteFile(no.value[0])))
+fn site_in(file: Input) -> Result<Site, String> {
+    let refusal = |no: Answer| refused(no.number, Place::SiteFile(no.value[0]));
+    read_site(seen(file).bytes).map_err(|no| seen(file).refused(Kind::SiteFile, refusal(no)))
 }
 
 /// What a writer writes. It has room for every file, and a site that was read is sound.
@@ -54,7 +58,7 @@ fn written(write: impl FnOnce(&mut [u8]) -> Result<usize, Answer>) -> Vec<u8> {
     file
 }
 
-pub fn plan(site_file: &[u8]) -> Told {
+pub fn plan(site_file: Input) -> Told {
     let site = site_in(site_file)?;
     let mut table = vec![0; site.table_len()];
     planner::plan(&site, &mut table).map_err(|no| no_room(&no))?;
@@ -63,25 +67,28 @@ pub fn plan(site_file: &[u8]) -> Told {
 }
 
 /// The site and the table of a plan for it: the site file is read first, then the plan file, then the sizes compared.
-fn site_and_table(site_file: &[u8], plan_file: &[u8]) -> Result<(Site, Vec<u8>), String> {
+fn site_and_table(site_file: Input, plan_file: Input) -> Result<(Site, Vec<u8>), String> {
     let site = site_in(site_file)?;
+    let plan_file = seen(plan_file);
     let mut table = vec![0; MOST_TABLE];
+    let refusal = |no: Answer| refused(no.number, Place::PlanFile(no.value[0]));
     let planned =
-        read_plan(seen(plan_file), &mut table).map_err(|no| refused(no.number, Place::PlanFile(no.value[0])))?;
+        read_plan(plan_file.bytes, &mut table).map_err(|no| plan_file.refused(Kind::PlanFile, refusal(no)))?;
     if (planned.cells, planned.slots, planned.channels) != (site.cells, site.slots, site.channels) {
         let sizes = sizes(&planned, " and ");
-        return Err(format!("refused: the plan is for {sizes}, and the site is of another size\n"));
+        let line = format!("refused: the plan is for {sizes}, and the site is of another size\n");
+        return Err(plan_file.refused(Kind::PlanFile, line));
     }
     Ok((site, table))
 }
 
-pub fn check(site_file: &[u8], plan_file: &[u8]) -> Told {
+pub fn check(site_file: Input, plan_file: Input) -> Told {
     let (site, table) = site_and_table(site_file, plan_file)?;
     checker::check(&site, &table).map_err(|no| sends_wrongly(&site, &no))?;
     result("valid\n")
 }
 
-pub fn mend(site_file: &[u8], plan_file: &[u8]) -> Told {
+pub fn mend(site_file: Input, plan_file: Input) -> Told {
     let (site, mut table) = site_and_table(site_file, plan_file)?;
     let mut list = vec![0; 4 * MOST_TABLE];
     let count = mender::mend(&site, &mut table, &mut list).map_err(|no| no_room_beside(&no))?;
@@ -95,49 +102,54 @@ pub fn mend(site_file: &[u8], plan_file: &[u8]) -> Told {
     Ok(Done { result: written(|file| write_plan(&site, &table, file)), words })
 }
 
-pub fn why(site_file: &[u8]) -> Told {
+pub fn why(site_file: Input) -> Told {
     result(why::why(&site_in(site_file)?))
 }
 
-pub fn sheet(site_file: &[u8]) -> Told {
+pub fn sheet(site_file: Input) -> Told {
     let site = site_in(site_file)?;
     result(written(|file| write_sheet(&site, file)))
 }
 
-/// The site file of a range sheet. Slots and channels above 65,535 are given as 0, which is out of range as well.
-pub fn site(sheet: &[u8], slots: u16, channels: u16) -> Told {
-    let site = read_sheet(seen(sheet), slots, channels).map_err(|no| {
+/// The site file of a range sheet. Slots and channels above 65,535 are given as 0, which is out of range as well: that
+/// refusal is not the sheet's.
+pub fn site(sheet: Input, slots: u16, channels: u16) -> Told {
+    let sheet = seen(sheet);
+    let site = read_sheet(sheet.bytes, slots, channels).map_err(|no| {
         let value = no.value[0];
-        refused(
-            no.number,
-            match no.number {
-                17 => Place::Line(value),
-                1 => Place::Nowhere,
-                _ => Place::Cell(value),
-            },
-        )
+        match no.number {
+            1 => refused(1, Place::Nowhere),
+            17 => sheet.refused(Kind::RangeSheet, refused(17, Place::Line(value))),
+            number => sheet.refused(Kind::RangeSheet, refused(number, Place::Cell(value))),
+        }
     })?;
     result(written(|file| write_site(&site, file)))
 }
 
 /// What a flow needs, in a superframe of so many slots. Numbers above 65,535 are given as 0, as `site` has it.
 pub fn share(slots: u16, burst: u16, period: u16, repeats: Option<u16>) -> Told {
-    let (superframe, burst, period) = (Slots(slots.into()), Fragments(burst.into()), Slots(period.into()));
+    let (t, c, p) = (Slots(slots.into()), Fragments(burst.into()), Slots(period.into()));
     let answer = match repeats {
-        None => share_once(superframe, burst, period),
-        Some(repeats) => share_of(superframe, burst, period, Repeats(repeats.into())),
+        None => share_once(t, c, p),
+        Some(repeats) => share_of(t, c, p, Repeats(repeats.into())),
     };
-    let Share { share, queue, delay } = answer.map_err(|no| refused(no.number, Place::Nowhere))?;
+    let Share { share, queue, delay } = answer.map_err(|no| match no.number {
+        1 => wrong_slots(),
+        15 => wrong_flow(burst.into(), period.into()),
+        number => refused(number, Place::Nowhere),
+    })?;
     let share = format!("share {} in a superframe\n", counted(share.0, "fragment"));
     let queue = format!("queue at most {}\n", counted(queue.0, "fragment"));
     let delay = format!("delay at most {}\n", counted(delay.0, "slot"));
     result(share + &queue + &delay)
 }
 
-pub fn admit(site_file: &[u8], flow_sheet: &[u8]) -> Told {
+pub fn admit(site_file: Input, flow_sheet: Input) -> Told {
     let site = site_in(site_file)?;
-    let flows = flows::read_flows(seen(flow_sheet))
-        .map_err(|no| refused(no.number, if no.number == 17 { Place::Line(no.value[0]) } else { Place::Nowhere }))?;
+    let flow_sheet = seen(flow_sheet);
+    let place = |no: &Answer| if no.number == 17 { Place::Line(no.value[0]) } else { Place::Nowhere };
+    let flows = flows::read_flows(flow_sheet.bytes)
+        .map_err(|no| flow_sheet.refused(Kind::FlowSheet, refused(no.number, place(&no))))?;
     let set = admitted_set(&site, &flows).map_err(|no| match no.number {
         19 => not_chained(first_gap(&site, |_| true).expect("a site that is not chained")),
         number => refused(number, Place::Flow(no.value[0])),
@@ -173,6 +185,11 @@ mod tests {
         written(|file| write_plan(site, table, file))
     }
 
+    /// A file with no name to speak of.
+    fn file(bytes: &[u8]) -> Input<'_> {
+        Input { name: "f", bytes }
+    }
+
     #[test]
     fn no_change_one_and_two() {
         let empty = plan_of(&Site::sized(1, 2, 1), &[0, 0]);
@@ -182,30 +199,32 @@ mod tests {
             (2, [1, 1], "mended with 2 changes\ncell 1: slot 1 channel 1 added\ncell 1: slot 2 channel 1 added\n"),
         ] {
             let mended = plan_of(&Site::sized(1, 2, 1), &table);
-            assert_eq!(mend(&one(load), &empty), Ok(Done { result: mended.clone(), words: words.into() }));
-            assert_eq!(check(&one(load), &mended), result("valid\n"));
+            assert_eq!(mend(file(&one(load)), file(&empty)), Ok(Done { result: mended.clone(), words: words.into() }));
+            assert_eq!(check(file(&one(load)), file(&mended)), result("valid\n"));
             assert_eq!(
-                plan(&one(load)),
+                plan(file(&one(load))),
                 Ok(Done { result: mended, words: "planned: 1 cell, 2 slots, 1 channel\n".into() })
             );
         }
         let start = "refused 5, cell 1: ";
         let kept = "keeping these reservations leaves no room for 1 of its fragments; a fresh plan may do\n";
-        assert_eq!(mend(&one(3), &empty), Err(format!("{start}{kept}")));
+        assert_eq!(mend(file(&one(3)), file(&empty)), Err(format!("{start}{kept}")));
         let short = "no room for 1 of its fragments; duggfrask why says what that means\n";
-        assert_eq!(plan(&one(3)), Err(format!("{start}{short}")));
+        assert_eq!(plan(file(&one(3))), Err(format!("{start}{short}")));
     }
 
     #[test]
     fn the_site_first_then_the_plan_then_the_sizes() {
         let other = plan_of(&Site::sized(2, 1, 1), &[0, 0]);
-        let line = "refused: the plan is for 2 cells, 1 slot and 1 channel, and the site is of another size\n";
+        let line = "f: refused: the plan is for 2 cells, 1 slot and 1 channel, and the site is of another size\n";
         for command in [check, mend] {
-            assert_eq!(command(&one(1), &other), Err(line.into()));
-            let start = |told: Told| told.unwrap_err().split(':').next().unwrap().to_string();
-            assert_eq!(start(command(b"", b"")), "refused 8, byte 0 of the site file");
-            assert_eq!(start(command(&one(1), &one(1))), "refused 9, byte 10 of the plan file");
-            assert_eq!(start(command(&other, &other)), "refused 9, byte 10 of the site file");
+            assert_eq!(command(file(&one(1)), file(&other)), Err(line.into()));
+            let start = |told: Told| told.unwrap_err().rsplit_once(": a ").unwrap().0.to_string();
+            let plan = "f is a site file; a plan file is asked for: refused 9, byte 10 of the plan file";
+            assert_eq!(start(command(file(&one(1)), file(&one(1)))), plan);
+            let site = "f is a plan file; a site file is asked for: refused 9, byte 10 of the site file";
+            assert_eq!(start(command(file(&other), file(&other))), site);
+            assert!(command(file(b""), file(b"")).unwrap_err().starts_with("f: refused 8, byte 0 of the site file: "));
         }
     }
 
@@ -217,53 +236,56 @@ mod tests {
         let two = "share 2 fragments in a superframe\nqueue at most 2 fragments\ndelay at most 2 slots\n";
         assert_eq!(share(1, 1, 1, Some(2)), said(two));
         for (numbers, number) in
-            [((0, 0, 0), "refused 1: "), ((1, 0, 1), "refused 15: "), ((2, 65_535, 1), "refused 16: ")]
+            [((0, 0, 0), "refused 1: the slots "), ((1, 0, 0), "refused 15: the burst "), ((1, 1, 0), "refused 15: the period "), ((2, 65_535, 1), "refused 16: ")]
         {
             assert!(share(numbers.0, numbers.1, numbers.2, None).unwrap_err().starts_with(number));
         }
-        assert!(share(1, 1, 1, Some(0)).unwrap_err().starts_with("refused 15: "));
+        assert!(share(1, 1, 1, Some(0)).unwrap_err().starts_with("refused 15: the repeats "));
     }
 
     #[test]
     fn sheets_and_their_refusals() {
         let sheet_of_one = b"cell,load,1\r\n1,1,0\r\n";
-        assert_eq!(sheet(&one(1)), result(*sheet_of_one));
-        assert_eq!(site(sheet_of_one, 2, 1), result(one(1)));
-        assert!(site(sheet_of_one, 0, 1).unwrap_err().starts_with("refused 1: "));
-        assert!(site(b"cell,load,1\r\n1,1,1\r\n", 2, 1).unwrap_err().starts_with("refused 3, cell 1: "));
-        assert!(site(b"cell,load,1\r\n", 0, 1).unwrap_err().starts_with("refused 17, line 2: "));
+        assert_eq!(sheet(file(&one(1))), result(*sheet_of_one));
+        assert_eq!(site(file(sheet_of_one), 2, 1), result(one(1)));
+        assert!(site(file(sheet_of_one), 0, 1).unwrap_err().starts_with("refused 1: "));
+        assert!(site(file(b"cell,load,1\r\n1,1,1\r\n"), 2, 1).unwrap_err().starts_with("f: refused 3, cell 1: "));
+        assert!(site(file(b"cell,load,1\r\n"), 0, 1).unwrap_err().starts_with("f: refused 17, line 2: "));
     }
 
     #[test]
     fn flows_taken_and_not() {
-        let said = |lines: &str| admit(&one(9), format!("cell,burst,period,repeats,value\r\n{lines}").as_bytes());
+        let said = |lines: &str| {
+            let sheet = format!("cell,burst,period,repeats,value\r\n{lines}");
+            admit(file(&one(9)), file(sheet.as_bytes()))
+        };
         let aside = "the loads of the site are set aside\n";
         assert_eq!(said(""), result(format!("{aside}worth 0\n")));
         let both = "flow 1: cell 1, share 2, value 3, not taken\nflow 2: cell 1, share 2, value 4, taken\nworth 4\n";
         assert_eq!(said("1,1,1,1,3\r\n1,1,2,2,4\r\n"), result(format!("{aside}{both}")));
         assert!(said("1,1,1,1,3\r\n2,1,1,1,1\r\n").unwrap_err().starts_with("refused 2, flow 2: "));
         assert!(said("1,1,1,5,3\r\n").unwrap_err().starts_with("refused 15, flow 1: "));
-        assert!(said("1,1\r\n").unwrap_err().starts_with("refused 17, line 2: "));
-        assert!(said(&"1,1,1,1,1\r\n".repeat(17)).unwrap_err().starts_with("refused 18: "));
+        assert!(said("1,1\r\n").unwrap_err().starts_with("f: refused 17, line 2: "));
+        assert!(said(&"1,1,1,1,1\r\n".repeat(17)).unwrap_err().starts_with("f: refused 18: "));
     }
 
     #[test]
     fn three_cells_that_break_the_chain() {
         let site = Site::sized(4, 1, 1).with_reach(4, 1, true).unwrap();
-        let file = written(|file| write_site(&site, file));
+        let made = written(|out| write_site(&site, out));
         let line = "refused 19: the site is not chained when all its cells count, the spare ones too: cells 1 and 4 clash, and cell 2 between them does not clash with cell 1\n";
-        assert_eq!(admit(&file, b"cell,burst,period,repeats,value\r\n"), Err(line.into()));
+        assert_eq!(admit(file(&made), file(b"cell,burst,period,repeats,value\r\n")), Err(line.into()));
     }
 
     #[test]
     fn of_a_file_the_first_65536_bytes() {
         // The reach record begins at byte 16, and its pairs are wrong: which shows only if all of it is looked at.
-        for (length, number) in [(65_518u16, "refused 3, "), (65_520, "refused 8, ")] {
-            let mut file = one(1)[..16].to_vec();
-            file.extend(length.to_le_bytes());
-            file.extend([3, 0]);
-            file.resize(18 + length as usize, 0);
-            assert!(why(&file).unwrap_err().starts_with(number), "{length}");
+        for (length, number) in [(65_518u16, "f: refused 3, "), (65_520, "f: refused 8, ")] {
+            let mut bytes = one(1)[..16].to_vec();
+            bytes.extend(length.to_le_bytes());
+            bytes.extend([3, 0]);
+            bytes.resize(18 + length as usize, 0);
+            assert!(why(file(&bytes)).unwrap_err().starts_with(number), "{length}");
         }
     }
 }

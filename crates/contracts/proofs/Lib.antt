@@ -28,6 +28,7 @@ pub mod LinesOne
 pub mod PutlinesOne
 pub mod SheetOne
 pub mod FlowsheetOne
+pub mod InputsOne
 pub mod VerdictsOne
 pub mod FlowwordsOne
 pub mod WhyOne

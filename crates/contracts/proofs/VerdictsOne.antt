@@ -72,12 +72,12 @@ verdictsSheetWords-one out at reply = (
 )
 
 -- verdicts::share_words
-pub verdictsShareWords-one : (out : List ℕ) (at : ℕ) (reply : ShareAnswer)
-    → (r : ℕ) × (out′ : List ℕ) × (VerdictsShareWords out at reply r out′)
-    × ((q : ℕ) (out″ : List ℕ) → VerdictsShareWords out at reply q out″ → (q ≡ r) × (out″ ≡ out′))
-verdictsShareWords-one out at reply = (
-  at + length (shareWords reply),
-  sets out at (shareWords reply),
+pub verdictsShareWords-one : (out : List ℕ) (at : ℕ) (burst : ℕ) (period : ℕ) (reply : ShareAnswer)
+    → (r : ℕ) × (out′ : List ℕ) × (VerdictsShareWords out at burst period reply r out′)
+    × ((q : ℕ) (out″ : List ℕ) → VerdictsShareWords out at burst period reply q out″ → (q ≡ r) × (out″ ≡ out′))
+verdictsShareWords-one out at burst period reply = (
+  at + length (shareWords burst period reply),
+  sets out at (shareWords burst period reply),
   record { answer = refl; out-after = refl },
   λ q out″ says. (says .answer, says .out-after),
 )

@@ -28,6 +28,7 @@ pub mod LinesSays
 pub mod PutlinesSays
 pub mod SheetSays
 pub mod FlowsheetSays
+pub mod InputsSays
 pub mod VerdictsSays
 pub mod FlowwordsSays
 pub mod WhySays

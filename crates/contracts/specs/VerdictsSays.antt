@@ -40,9 +40,9 @@ pub record VerdictsSheetWords (out : List ℕ) (at : ℕ) (reply : SheetAnswer) 
   pub out-after : out′ ≡ sets out at (sheetWords reply)
 
 -- verdicts::share_words
-pub record VerdictsShareWords (out : List ℕ) (at : ℕ) (reply : ShareAnswer) (r : ℕ) (out′ : List ℕ) : Type 0 where
-  pub answer : r ≡ at + length (shareWords reply)
-  pub out-after : out′ ≡ sets out at (shareWords reply)
+pub record VerdictsShareWords (out : List ℕ) (at : ℕ) (burst : ℕ) (period : ℕ) (reply : ShareAnswer) (r : ℕ) (out′ : List ℕ) : Type 0 where
+  pub answer : r ≡ at + length (shareWords burst period reply)
+  pub out-after : out′ ≡ sets out at (shareWords burst period reply)
 
 -- verdicts::plan_words
 pub record VerdictsPlanWords (out : List ℕ) (at : ℕ) (site : Site) (reply : PlanAnswer) (r : ℕ) (out′ : List ℕ) : Type 0 where

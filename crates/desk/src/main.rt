@@ -1,5 +1,5 @@
-// The desk's program, run by the script `duggfrask`, whose head says how the two speak: argument 1 is the command, and its numbers follow; the first input is on
-// standard input, the second on descriptor 4. What it says and writes is made by proved functions over slices; here it is only read and written, by way of `reply`.
+// The desk's program, run by the script `duggfrask`, whose head says how the two speak: argument 1 is the command, 2 and 3 are the names of its inputs, and its numbers follow; the
+// first input is on standard input, the second on descriptor 4. What it says and writes is made by proved functions over slices; here it is only read and written, by way of `reply`.
 //
 // Every buffer has 65,536 bytes: the table of the largest site has as many, 32 cells by 2,048 positions. What is said at once has far fewer, and so has every good input. Of a longer one only
 // the first 65,536 bytes are read, and they are refused.
@@ -7,6 +7,7 @@ use admission::AdmitAnswer;
 use checker::CheckAnswer;
 use flowlist::FlowList;
 use flowsheet::FlowsAnswer;
+use inputs::Input;
 use libc::STDIN_FILENO;
 use mender::MendAnswer;
 use planfile::PlanRead;
@@ -21,6 +22,7 @@ use shares::ShareAnswer;
 use shares::Slots;
 use sheet::SheetAnswer;
 use sheet::SheetWritten;
+use site::Fault;
 use site::Site;
 use sitefile::SiteWritten;
 ghost use mathlib.Core.Path.{_≡_};
@@ -31,10 +33,18 @@ ghost use lib.ListN.{length};
 
 const SECOND: i32 = 4;
 
+// The arguments that are the names of the inputs, and the first that is a number.
+const FIRST_NAME: usize = 2;
+
+const SECOND_NAME: usize = 3;
+
+const NUMBERS: usize = 4;
+
 // A site file that was refused.
-fn refuse(words: &mut [u8], answer: ReadAnswer)
+fn refuse(words: &mut [u8], input: &[u8], answer: ReadAnswer)
     requires { ⌜ 65536 ≤ length (now words) ⌝ }
 {
+    reply::named(FIRST_NAME, input, Input::SiteFile);
     let end = verdicts::read_words(words, 0, answer);
     no(words, end);
 }
@@ -56,7 +66,7 @@ fn plan(input: &[u8], table: &mut [u8], out: &mut [u8], words: &mut [u8])
     let answer = read.answer;
     let site = read.site;
     let ReadAnswer::Done = answer else {
-        refuse(words, answer);
+        refuse(words, input, answer);
         return;
     };
     let planned = planner::plan(site, table);
@@ -100,12 +110,13 @@ fn read_pair(input: &[u8], second: &[u8], table: &mut [u8], words: &mut [u8]) ->
     let answer = read.answer;
     let site = read.site;
     let ReadAnswer::Done = answer else {
-        refuse(words, answer);
+        refuse(words, input, answer);
         return Pair { site, good: false };
     };
     let plan = planfile::read_plan(second, table);
     let plan_answer = plan.answer;
     let ReadAnswer::Done = plan_answer else {
+        reply::named(SECOND_NAME, second, Input::PlanFile);
         let end = verdicts::plan_read_words(words, 0, plan_answer);
         no(words, end);
         return Pair { site, good: false };
@@ -113,6 +124,7 @@ fn read_pair(input: &[u8], second: &[u8], table: &mut [u8], words: &mut [u8]) ->
     if same_size(site, plan) {
         return Pair { site, good: true };
     }
+    reply::named(SECOND_NAME, second, Input::PlanFile);
     let end = verdicts::other_plan_line(
         words,
         0,
@@ -274,7 +286,7 @@ fn why(input: &[u8], table: &mut [u8], words: &mut [u8])
     let answer = read.answer;
     let site = read.site;
     let ReadAnswer::Done = answer else {
-        refuse(words, answer);
+        refuse(words, input, answer);
         return;
     };
     let end = why::why(site, table, words);
@@ -289,7 +301,7 @@ fn sheet(input: &[u8], out: &mut [u8], words: &mut [u8])
     let answer = read.answer;
     let site = read.site;
     let ReadAnswer::Done = answer else {
-        refuse(words, answer);
+        refuse(words, input, answer);
         return;
     };
     let written = sheet::write_sheet(site, out);
@@ -298,6 +310,26 @@ fn sheet(input: &[u8], out: &mut [u8], words: &mut [u8])
         return;
     };
     yes(out, size);
+}
+
+// Whether a fault is one of the size.
+fn of_size(fault: Fault) -> bool {
+    match fault {
+        Fault::Fine => false,
+        Fault::Size => true,
+        Fault::Load(_) => false,
+        Fault::Reach(_) => false,
+    }
+}
+
+// The name of a range sheet that is refused. Of a size the sheet has no part: the slots and channels stand beside it, and its cells are 1 to 32.
+fn name_sheet(input: &[u8], answer: SheetAnswer) {
+    if let SheetAnswer::Refused(fault) = answer {
+        if of_size(fault) {
+            return;
+        }
+    }
+    reply::named(FIRST_NAME, input, Input::RangeSheet);
 }
 
 // A range sheet as a site file, with slots and channels.
@@ -309,6 +341,7 @@ fn site(input: &[u8], slots: u16, channels: u16, out: &mut [u8], words: &mut [u8
     let site = read.site;
     let end = verdicts::sheet_words(words, 0, answer);
     let SheetAnswer::Done = answer else {
+        name_sheet(input, answer);
         no(words, end);
         return;
     };
@@ -325,10 +358,10 @@ fn share_of(slots: u16, burst: u16, period: u16) -> ShareAnswer {
     let t = Slots(slots as u32);
     let c = Fragments(burst as u32);
     let p = Slots(period as u32);
-    if os::arg_count() < 6 {
+    if os::arg_count() <= NUMBERS + 3 {
         return shares::share(t, c, p);
     }
-    shares::share_of(t, c, p, Repeats(number(5) as u32))
+    shares::share_of(t, c, p, Repeats(number(NUMBERS + 3) as u32))
 }
 
 // The share of a flow, in words.
@@ -336,7 +369,7 @@ fn share(slots: u16, burst: u16, period: u16, words: &mut [u8])
     requires { ⌜ 65536 ≤ length (now words) ⌝ }
 {
     let answer = share_of(slots, burst, period);
-    let end = verdicts::share_words(words, 0, answer);
+    let end = verdicts::share_words(words, 0, burst as usize, period as usize, answer);
     let ShareAnswer::Done(_, _, _) = answer else {
         no(words, end);
         return;
@@ -373,12 +406,13 @@ fn admit(input: &[u8], second: &[u8], words: &mut [u8])
     let answer = read.answer;
     let site = read.site;
     let ReadAnswer::Done = answer else {
-        refuse(words, answer);
+        refuse(words, input, answer);
         return;
     };
     let flows = flowsheet::read_flows(second);
     let said = flows.answer;
     let FlowsAnswer::Done = said else {
+        reply::named(SECOND_NAME, second, Input::FlowSheet);
         let end = flowwords::flow_sheet_words(words, 0, said);
         no(words, end);
         return;
@@ -486,8 +520,19 @@ fn main() {
         ),
         Command::Why => why(&input[..n], &mut table, &mut words),
         Command::Sheet => sheet(&input[..n], &mut out, &mut words),
-        Command::Site => site(&input[..n], number(2), number(3), &mut out, &mut words),
-        Command::Share => share(number(2), number(3), number(4), &mut words),
+        Command::Site => site(
+            &input[..n],
+            number(NUMBERS),
+            number(NUMBERS + 1),
+            &mut out,
+            &mut words,
+        ),
+        Command::Share => share(
+            number(NUMBERS),
+            number(NUMBERS + 1),
+            number(NUMBERS + 2),
+            &mut words,
+        ),
         Command::Admit => admit(&input[..n], &second[..m], &mut words),
         Command::Unknown => no(b"duggfrask: there is no such command\n", 36),
     }

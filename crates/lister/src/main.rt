@@ -1,5 +1,6 @@
 // The lister: reads a site file on standard input, the first 4,096 bytes, and prints document 01's listing. `head` makes the first lines and plans
-// the site, and `row_line` the line of a planned cell; `main`, `print_rows` and `tell` only read and write. A file that is refused is listed as refused, and then said in words.
+// the site, and `row_line` the line of a planned cell; `main`, `print_rows` and `tell` only read and write. A file that is refused is listed as refused, and then said in words, after its name, which is argument 1.
+use inputs::Input;
 use judges::ChainAnswer;
 use judges::LoadAnswer;
 use libc::STDIN_FILENO;
@@ -171,6 +172,7 @@ fn tell(out: &mut [u8], file: &[u8])
     match answer {
         ReadAnswer::Done => reply::done(),
         ReadAnswer::Refused(number, offset) => {
+            reply::named(1, file, Input::SiteFile);
             let end = refusals::refused(out, 0, number as usize, Place::Byte(offset));
             reply::no(out, end);
         }

@@ -9,6 +9,7 @@ pub mod Least
 pub mod Heaviest
 pub mod Spare
 pub mod Files
+pub mod Called
 pub mod Sheets
 pub mod FlowSheets
 pub mod Admission

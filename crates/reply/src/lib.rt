@@ -1,5 +1,6 @@
 // How a program answers the script `duggfrask`, whose head says what stands on which descriptor: the result on standard output, words on standard error, and the status, one
 // byte, on descriptor 3. What is written is no value, so these functions have no contract but that they are safe.
+use inputs::Input;
 use libc::STDERR_FILENO;
 use libc::STDOUT_FILENO;
 ghost use Prim.Native.Nat.{_≤_};
@@ -31,6 +32,15 @@ pub fn result(bytes: &[u8], end: usize) -> bool {
 // The first bytes of a buffer, as words; whether all of them were written.
 pub fn words(text: &[u8], end: usize) -> bool {
     put(STDERR_FILENO, text, end)
+}
+
+// The name of an input, argument i, which the script gives as it is to be said; and where its bytes show another file than the one asked for, what it is. A name has at most 4,096 bytes.
+pub fn named(i: usize, input: &[u8], asked: Input) {
+    let mut text = io::buffer();
+    let n = os::arg(i, &mut text);
+    words(&text, n);
+    let end = inputs::file_words(&mut text, 0, inputs::input_of(input), asked);
+    words(&text, end);
 }
 
 // Done, or yes.

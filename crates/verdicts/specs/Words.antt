@@ -69,6 +69,18 @@ mendedLine number = said "mended with @1 change@a\n" number 0 0 0
 abbrev pub shareLine : (share queue delay : ℕ) → List ℕ
 shareLine share queue delay = said "share @1 fragment@a in a superframe\nqueue at most @2 fragment@b\ndelay at most @3 slot@c\n" share queue delay 0
 
+abbrev pub badSlotsLine : List ℕ
+badSlotsLine = said "refused 1: the slots are not 1 to 128\n" 0 0 0 0
+
+abbrev pub badBurstLine : List ℕ
+badBurstLine = said "refused 15: the burst is not 1 to 65,535\n" 0 0 0 0
+
+abbrev pub badPeriodLine : List ℕ
+badPeriodLine = said "refused 15: the period is not 1 to 65,535\n" 0 0 0 0
+
+abbrev pub badRepeatsLine : List ℕ
+badRepeatsLine = said "refused 15: the repeats are not 1 to 4\n" 0 0 0 0
+
 abbrev pub otherPlanLine : (cells slots channels : ℕ) → List ℕ
 otherPlanLine cells slots channels = said "refused: the plan is for @1 cell@a, @2 slot@b and @3 channel@c, and the site is of another size\n" cells slots channels 0
 
@@ -127,12 +139,16 @@ planWords s plan.TableShort = refusedLine 4 Nowhere
 planWords s (plan.NoRoom cell short) = noRoomLine cell short
 planWords s (plan.Refused f) = faultWords f
 
--- "share, queue bound, delay bound, each with its unit"
-abbrev pub shareWords : ShareAnswer → List ℕ
-shareWords (share.Done s q d) = shareLine (s .0) (q .0) (d .0)
-shareWords share.OutOfRange = refusedLine 1 Nowhere
-shareWords share.BadFlow = refusedLine 15 Nowhere
-shareWords share.BigShare = refusedLine 16 Nowhere
+-- which of burst c, period p and repeats makes a share's 15, the first that does: `repeats-wrong` says that it is the repeats where it is neither of the two
+unfoldable pub badFlowWords : (c p : ℕ) → List ℕ
+badFlowWords c p = pick (upTo 65535 c) (pick (upTo 65535 p) badRepeatsLine badPeriodLine) badBurstLine
+
+-- "share, queue bound, delay bound, each with its unit", for a flow with burst c and period p
+abbrev pub shareWords : (c p : ℕ) → ShareAnswer → List ℕ
+shareWords c p (share.Done s q d) = shareLine (s .0) (q .0) (d .0)
+shareWords c p share.OutOfRange = badSlotsLine
+shareWords c p share.BadFlow = badFlowWords c p
+shareWords c p share.BigShare = refusedLine 16 Nowhere
 
 -- how many changes the mender makes; none exactly where the table is valid: `valid-unchanged` and `unchanged-valid` of crate `promises`
 unfoldable pub changesWords : ℕ → List ℕ

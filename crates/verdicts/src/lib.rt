@@ -16,8 +16,9 @@ ghost use Prim.Native.Nat.{_+_, _≤_};
 ghost use lib.ListN.{length};
 ghost use lib.Seq.{sets};
 ghost use Rattle.verdicts.specs.Words.{validLine, clashForthLine, clashBackLine, clashBothLine, clashLine, countLine, plannedLine, noRoomLine, keptNoRoomLine};
-ghost use Rattle.verdicts.specs.Words.{unchangedLine, mendedLine, shareLine, otherPlanLine};
-ghost use Rattle.verdicts.specs.Words.{loadOf, reachNamed, clashWords, faultWords, readWords, planReadWords, sheetWords, checkWords, planWords, shareWords, changesWords, mendWords};
+ghost use Rattle.verdicts.specs.Words.{unchangedLine, mendedLine, shareLine, badSlotsLine, badBurstLine, badPeriodLine, badRepeatsLine, otherPlanLine};
+ghost use Rattle.verdicts.specs.Words.{loadOf, reachNamed, clashWords, faultWords, readWords, planReadWords, sheetWords, checkWords, planWords, badFlowWords};
+ghost use Rattle.verdicts.specs.Words.{shareWords, changesWords, mendWords};
 
 // A valid table.
 fn valid_line(out: &mut [u8], at: usize) -> usize
@@ -394,11 +395,105 @@ pub fn sheet_words(out: &mut [u8], at: usize, reply: SheetAnswer) -> usize
     }
 }
 
-// A share with its bounds, or its refusal.
-pub fn share_words(out: &mut [u8], at: usize, reply: ShareAnswer) -> usize
+// A share whose slots are out of range.
+fn bad_slots_line(out: &mut [u8], at: usize) -> usize
+    requires { ⌜ at + 1000 ≤ length (now out) ⌝ }
+    ensures stored { λ r. ⌜ now (out .exit) ≡ sets (now (out .entry)) at badSlotsLine ⌝ }
+    ensures next { λ r. ⌜ r ≡ at + length badSlotsLine ⌝ }
+    ensures short { λ r. ⌜ r ≤ at + 1000 ⌝ }
+{
+    say(
+        out,
+        at,
+        b"refused 1: the slots are not 1 to 128\n",
+        0,
+        0,
+        0,
+        0,
+    )
+}
+
+// A flow whose burst is out of range.
+fn bad_burst_line(out: &mut [u8], at: usize) -> usize
+    requires { ⌜ at + 1000 ≤ length (now out) ⌝ }
+    ensures stored { λ r. ⌜ now (out .exit) ≡ sets (now (out .entry)) at badBurstLine ⌝ }
+    ensures next { λ r. ⌜ r ≡ at + length badBurstLine ⌝ }
+    ensures short { λ r. ⌜ r ≤ at + 1000 ⌝ }
+{
+    say(
+        out,
+        at,
+        b"refused 15: the burst is not 1 to 65,535\n",
+        0,
+        0,
+        0,
+        0,
+    )
+}
+
+// A flow whose period is out of range.
+fn bad_period_line(out: &mut [u8], at: usize) -> usize
+    requires { ⌜ at + 1000 ≤ length (now out) ⌝ }
+    ensures stored { λ r. ⌜ now (out .exit) ≡ sets (now (out .entry)) at badPeriodLine ⌝ }
+    ensures next { λ r. ⌜ r ≡ at + length badPeriodLine ⌝ }
+    ensures short { λ r. ⌜ r ≤ at + 1000 ⌝ }
+{
+    say(
+        out,
+        at,
+        b"refused 15: the period is not 1 to 65,535\n",
+        0,
+        0,
+        0,
+        0,
+    )
+}
+
+// A flow whose repeats are out of range.
+fn bad_repeats_line(out: &mut [u8], at: usize) -> usize
+    requires { ⌜ at + 1000 ≤ length (now out) ⌝ }
+    ensures stored { λ r. ⌜ now (out .exit) ≡ sets (now (out .entry)) at badRepeatsLine ⌝ }
+    ensures next { λ r. ⌜ r ≡ at + length badRepeatsLine ⌝ }
+    ensures short { λ r. ⌜ r ≤ at + 1000 ⌝ }
+{
+    say(
+        out,
+        at,
+        b"refused 15: the repeats are not 1 to 4\n",
+        0,
+        0,
+        0,
+        0,
+    )
+}
+
+// Which of a flow's numbers is wrong, the first that is: where the burst and the period are in range, the repeats are not.
+fn bad_flow_words(out: &mut [u8], at: usize, burst: usize, period: usize) -> usize
+    requires { ⌜ at + 1000 ≤ length (now out) ⌝ }
+    ensures stored { λ r. ⌜ now (out .exit) ≡ sets (now (out .entry)) at (badFlowWords burst period) ⌝ }
+    ensures next { λ r. ⌜ r ≡ at + length (badFlowWords burst period) ⌝ }
+    ensures short { λ r. ⌜ r ≤ at + 1000 ⌝ }
+{
+    if !within(burst, 65535) {
+        return bad_burst_line(out, at);
+    }
+    if !within(period, 65535) {
+        return bad_period_line(out, at);
+    }
+    bad_repeats_line(out, at)
+}
+
+// A share with its bounds, or its refusal, for a flow with this burst and period.
+pub fn share_words(
+    out: &mut [u8],
+    at: usize,
+    burst: usize,
+    period: usize,
+    reply: ShareAnswer,
+) -> usize
     requires { ⌜ at + 2000 ≤ length (now out) ⌝ }
-    ensures stored { λ r. ⌜ now (out .exit) ≡ sets (now (out .entry)) at (shareWords reply) ⌝ }
-    ensures next { λ r. ⌜ r ≡ at + length (shareWords reply) ⌝ }
+    ensures stored { λ r. ⌜ now (out .exit) ≡ sets (now (out .entry)) at (shareWords burst period reply) ⌝ }
+    ensures next { λ r. ⌜ r ≡ at + length (shareWords burst period reply) ⌝ }
     ensures short { λ r. ⌜ r ≤ at + 2000 ⌝ }
 {
     match reply {
@@ -409,8 +504,8 @@ pub fn share_words(out: &mut [u8], at: usize, reply: ShareAnswer) -> usize
             queue.0 as usize,
             delay.0 as usize,
         ),
-        ShareAnswer::OutOfRange => refusals::refused(out, at, 1, Place::Nowhere),
-        ShareAnswer::BadFlow => refusals::refused(out, at, 15, Place::Nowhere),
+        ShareAnswer::OutOfRange => bad_slots_line(out, at),
+        ShareAnswer::BadFlow => bad_flow_words(out, at, burst, period),
         ShareAnswer::BigShare => refusals::refused(out, at, 16, Place::Nowhere),
     }
 }

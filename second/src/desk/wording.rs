@@ -59,6 +59,21 @@ fn meaning(page: &str, number: u64) -> String {
     first.chain(sentence.chars().skip(1)).collect()
 }
 
+/// The slots of a share are out of range: refusal 1, which here is of the slots alone.
+pub fn wrong_slots() -> String {
+    String::from("refused 1: the slots are not 1 to 128\n")
+}
+
+/// Refusal 15 of a share: the first of its numbers that is out of range.
+pub fn wrong_flow(burst: u64, period: u64) -> String {
+    let wrong = match (burst, period) {
+        (0 | 65_536.., _) => "the burst is not 1 to 65,535",
+        (_, 0 | 65_536..) => "the period is not 1 to 65,535",
+        _ => "the repeats are not 1 to 4",
+    };
+    format!("refused 15: {wrong}\n")
+}
+
 /// Refusal 5 of the planner.
 pub fn no_room(no: &Answer) -> String {
     let [cell, short, _] = no.value;

@@ -22,20 +22,20 @@ share-line-requires c κs = search needs
 enum-told : tie.Need-enum-told
 enum-told c = search needs
 
-refused-requires : tie.Need-refused-requires
-refused-requires c κs = search needs
+bad-slots-line-requires : tie.Need-bad-slots-line-requires
+bad-slots-line-requires c κs = search needs
 
 enum-told-2 : tie.Need-enum-told-2
 enum-told-2 c = search needs
 
-refused-requires-2 : tie.Need-refused-requires-2
-refused-requires-2 c κs = search needs
+bad-flow-words-requires : tie.Need-bad-flow-words-requires
+bad-flow-words-requires c κs = search needs
 
 enum-told-3 : tie.Need-enum-told-3
 enum-told-3 c = search needs
 
-refused-requires-3 : tie.Need-refused-requires-3
-refused-requires-3 c κs = search needs
+refused-requires : tie.Need-refused-requires
+refused-requires c κs = search needs
 
 same-length : tie.Need-same-length
 same-length c = search needs
@@ -50,7 +50,7 @@ same-length-2 c = search needs
 
 returns-2 : tie.Need-returns-2
 returns-2 c =
-    let e = c .before .before .refused .ensures in
+    let e = c .before .before .bad-slots-line .ensures in
     rw (c .before .before .before .before .enum-told .given .1) (e .0, (e .1 .0, omega (arith, e .1 .1)))
 
 same-length-3 : tie.Need-same-length-3
@@ -58,7 +58,7 @@ same-length-3 c = search needs
 
 returns-3 : tie.Need-returns-3
 returns-3 c =
-    let e = c .before .before .refused2 .ensures in
+    let e = c .before .before .bad-flow-words .ensures in
     rw (c .before .before .before .before .enum-told2 .given .1) (e .0, (e .1 .0, omega (arith, e .1 .1)))
 
 same-length-4 : tie.Need-same-length-4
@@ -66,7 +66,7 @@ same-length-4 c = search needs
 
 returns-4 : tie.Need-returns-4
 returns-4 c =
-    let e = c .before .before .refused3 .ensures in
+    let e = c .before .before .refused .ensures in
     rw (c .before .before .before .before .enum-told3 .given .1) (e .0, (e .1 .0, omega (arith, e .1 .1)))
 
 pub share-words-spec : {M : Type 1} → statement M
@@ -79,11 +79,11 @@ share-words-spec =
     cast-share-line-3
     share-line-requires
     enum-told
-    refused-requires
+    bad-slots-line-requires
     enum-told-2
-    refused-requires-2
+    bad-flow-words-requires
     enum-told-3
-    refused-requires-3
+    refused-requires
     same-length
     returns
     same-length-2

@@ -10,7 +10,7 @@ mod random;
 #[path = "../compare/sites.rs"]
 mod sites;
 
-use second::desk::{self, Done, Told};
+use second::desk::{self, Done, Input, Told};
 use std::fs;
 use std::io::{self, Write};
 use std::process::ExitCode;
@@ -32,20 +32,28 @@ fn main() -> ExitCode {
 
 /// What a command says; nothing if it is used wrongly.
 fn said(words: &[&str]) -> io::Result<Option<Told>> {
+    let mut files = Vec::new();
+    let count = match words.first() {
+        Some(&("check" | "mend" | "admit")) => 2,
+        Some(&"share") => 0,
+        _ => 1,
+    };
+    for name in words.iter().skip(1).take(count) {
+        files.push(fs::read(name)?);
+    }
+    let file = |k: usize| Input { name: words[k + 1], bytes: &files[k] };
     Ok(Some(match *words {
-        ["plan", site] => desk::plan(&fs::read(site)?),
-        ["check", site, plan] => desk::check(&fs::read(site)?, &fs::read(plan)?),
-        ["mend", site, plan] => desk::mend(&fs::read(site)?, &fs::read(plan)?),
-        ["why", site] => desk::why(&fs::read(site)?),
-        ["sheet", site] => desk::sheet(&fs::read(site)?),
-        ["site", sheet, "--slots", slots, "--channels", channels] => {
-            desk::site(&fs::read(sheet)?, number(slots), number(channels))
-        }
+        ["plan", _] => desk::plan(file(0)),
+        ["check", _, _] => desk::check(file(0), file(1)),
+        ["mend", _, _] => desk::mend(file(0), file(1)),
+        ["why", _] => desk::why(file(0)),
+        ["sheet", _] => desk::sheet(file(0)),
+        ["site", _, "--slots", slots, "--channels", channels] => desk::site(file(0), number(slots), number(channels)),
         ["share", slots, burst, period] => desk::share(number(slots), number(burst), number(period), None),
         ["share", slots, burst, period, repeats] => {
             desk::share(number(slots), number(burst), number(period), Some(number(repeats)))
         }
-        ["admit", site, flows] => desk::admit(&fs::read(site)?, &fs::read(flows)?),
+        ["admit", _, _] => desk::admit(file(0), file(1)),
         _ => return Ok(None),
     }))
 }

@@ -1,0 +1,4 @@
+-- The laws of crate `inputs`, module by module.
+pub mod Eaten
+pub mod Cases
+pub mod Example

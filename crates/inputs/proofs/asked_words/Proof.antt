@@ -1,0 +1,88 @@
+-- `inputs::asked_words` meets its contract: a case for each number. Assumes nothing.
+use native.Mathlib.Omega.{arith}
+use borrow.Author.Tests.{eq-eqb, ne-eqb}
+use Rattle.inputs.specs.Words.{askedWords}
+use borrow.Author.Needs.{needs}
+use Rattle.inputs.proofs.asked_words.Statement.{statement}
+use Rattle.inputs.proofs.asked_words.Tie as tie
+
+slice-aggregate-say : tie.Need-slice-aggregate-say
+slice-aggregate-say c = search needs
+
+say-requires : tie.Need-say-requires
+say-requires c κs = search needs
+
+same-length : tie.Need-same-length
+same-length c = search needs
+
+returns : tie.Need-returns
+unfolding askedWords
+returns c =
+    let e = c .before .before .say .ensures in
+    rw (eq-eqb _ 1 (c .before .before .before .before .before .if1 .taken)) (e .0, (e .1 .0, omega (arith, e .1 .1)))
+
+slice-aggregate-say-2 : tie.Need-slice-aggregate-say-2
+slice-aggregate-say-2 c = search needs
+
+say-requires-2 : tie.Need-say-requires-2
+say-requires-2 c κs = search needs
+
+same-length-2 : tie.Need-same-length-2
+same-length-2 c = search needs
+
+returns-2 : tie.Need-returns-2
+unfolding askedWords
+returns-2 c =
+    let e = c .before .before .say2 .ensures in
+    rw (ne-eqb _ 1 (c .before .before .before .before .before .before .if1 .left), eq-eqb _ 2 (c .before .before .before .before .before .if2 .taken)) (e .0, (e .1 .0, omega (arith, e .1 .1)))
+
+slice-aggregate-say-3 : tie.Need-slice-aggregate-say-3
+slice-aggregate-say-3 c = search needs
+
+say-requires-3 : tie.Need-say-requires-3
+say-requires-3 c κs = search needs
+
+same-length-3 : tie.Need-same-length-3
+same-length-3 c = search needs
+
+returns-3 : tie.Need-returns-3
+unfolding askedWords
+returns-3 c =
+    let e = c .before .before .say3 .ensures in
+    rw (ne-eqb _ 1 (c .before .before .before .before .before .before .before .if1 .left), ne-eqb _ 2 (c .before .before .before .before .before .before .if2 .left), eq-eqb _ 3 (c .before .before .before .before .before .if3 .taken)) (e .0, (e .1 .0, omega (arith, e .1 .1)))
+
+slice-aggregate-say-4 : tie.Need-slice-aggregate-say-4
+slice-aggregate-say-4 c = search needs
+
+say-requires-4 : tie.Need-say-requires-4
+say-requires-4 c κs = search needs
+
+same-length-4 : tie.Need-same-length-4
+same-length-4 c = search needs
+
+returns-4 : tie.Need-returns-4
+unfolding askedWords
+returns-4 c =
+    let e = c .before .before .say4 .ensures in
+    rw (ne-eqb _ 1 (c .before .before .before .before .before .before .before .if1 .left), ne-eqb _ 2 (c .before .before .before .before .before .before .if2 .left), ne-eqb _ 3 (c .before .before .before .before .before .if3 .left)) (e .0, (e .1 .0, omega (arith, e .1 .1)))
+
+pub asked-words-spec : {M : Type 1} → statement M
+asked-words-spec =
+    tie.close
+    (tie.spec
+    slice-aggregate-say
+    say-requires
+    same-length
+    returns
+    slice-aggregate-say-2
+    say-requires-2
+    same-length-2
+    returns-2
+    slice-aggregate-say-3
+    say-requires-3
+    same-length-3
+    returns-3
+    slice-aggregate-say-4
+    say-requires-4
+    same-length-4
+    returns-4)

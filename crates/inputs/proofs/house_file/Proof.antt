@@ -1,0 +1,48 @@
+-- `inputs::house_file` meets its contract: each way out is a law of the definition. Assumes nothing.
+use mathlib.Core.Path.{ap, _∙_}
+use Rattle.inputs.specs.Files.{byKind}
+use Rattle.inputs.proofs.Cases.{house-short, house-length, house-kind, house-is}
+use borrow.Author.Needs.{needs}
+use Rattle.inputs.proofs.house_file.Statement.{statement}
+use Rattle.inputs.proofs.house_file.Tie as tie
+
+returns : tie.Need-returns
+returns c = house-short _ (c .if1 .taken)
+
+word-requires : tie.Need-word-requires
+word-requires c κs = search needs
+
+returns-2 : tie.Need-returns-2
+returns-2 c = house-length _ _ (c .before .before .if1 .left) (c .before .word .ensures) (c .if2 .taken)
+
+word-requires-2 : tie.Need-word-requires-2
+word-requires-2 c κs = search needs
+
+returns-3 : tie.Need-returns-3
+returns-3 c =
+    house-kind _ _ _ (c .before .before .before .before .if1 .left) (c .before .before .before .word .ensures) (c .before .before .if2 .left) (c .before .word2 .ensures) (c .if3 .taken)
+
+word-requires-3 : tie.Need-word-requires-3
+word-requires-3 c κs = search needs
+
+by-kind-requires : tie.Need-by-kind-requires
+by-kind-requires c κs = search needs
+
+returns-4 : tie.Need-returns-4
+returns-4 c =
+    c .by-kind .ensures
+    ∙ ap byKind (c .before .word3 .ensures)
+    ∙ house-is _ _ _ (c .before .before .before .before .before .before .if1 .left) (c .before .before .before .before .before .word .ensures) (c .before .before .before .before .if2 .left) (c .before .before .before .word2 .ensures) (c .before .before .if3 .left)
+
+pub house-file-spec : {M : Type 1} → statement M
+house-file-spec =
+    tie.close
+    (tie.spec
+    returns
+    word-requires
+    returns-2
+    word-requires-2
+    returns-3
+    word-requires-3
+    by-kind-requires
+    returns-4)

@@ -1,0 +1,3 @@
+-- The definitions of crate `inputs`, module by module.
+pub mod Files
+pub mod Words
