@@ -94,7 +94,7 @@ module _ (site : Site) (n : ℕ) (e : leastGiven (leastAnswer site) ≡ doneWith
       let turned : positions other ≡ other .channels * other .slots = mul-comm (other .slots) (other .channels) in
       (λ h. f .0 (rw turned at (x .0 h)), λ h. x .1 (rw turned (f .1 h)))
 
-  -- with fewer no planner can do it: no table at all is valid
+  -- with fewer no plan exists: no table at all is valid
   pub least-full : positions other < n → (any : List ℕ) → checkGiven (checkAnswer other any) ≡ done → ⊥
   least-full few any v =
       let same : Easier other other = record { same-cells = refl; as-many-channel-slots = le-refl _; no-greater-load = λ i _. le-refl _; no-new-clash = λ a c _ _ q. q } in
