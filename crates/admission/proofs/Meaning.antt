@@ -1,5 +1,5 @@
--- What the call says, from a second side: each answer exactly where it is due. The definition is a row of choices; each of the ways that they go has its answer,
--- and no two ways have the same. Assumes nothing.
+-- What the call says, from a second side: each answer exactly where it is due. The definition is a row of choices; each of the ways that they go has its
+-- answer, and no two ways have the same. Assumes nothing.
 use Prim.Native.Nat.{ℕ, _+_, _≤_, _<_, zero-le}
 use mathlib.Core.Bool.{Bool, true, false, true≢false}
 use mathlib.Core.List.{List}

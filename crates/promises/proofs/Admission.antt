@@ -112,8 +112,8 @@ module _ (s : Site) (fs : List Flow) (x : ℕ) (e : admitGiven (admitAnswer s fs
 pub empty-counts : (s : Site) (fs : List Flow) → allowed (netOf s) (flowsOf s fs) 0 ≡ true
 empty-counts s fs = empty-allowed (netOf s) (flowsOf s fs)
 
--- ---- "Refusals: record faults first, then 18 over 16 flows, 19 site not chained, then per flow 2, 15, 16 with the flow's number." Each exactly where it is due;
--- 2, 15 and 16 by the flow's cell, by its burst, period and repeats, and by products (crates/admission/specs/Means.antt).
+-- ---- "Refusals: record faults first, then 18 over 16 flows, 19 site not chained, then per flow 2, 15, 16 with the flow's number." Each exactly where it is
+-- due; 2, 15 and 16 by the flow's cell, by its burst, period and repeats, and by products (crates/admission/specs/Means.antt).
 
 -- the record's numbers are 1 to 3
 above-three : (a : AdmitAnswer) → 3 < admitGiven a .number → ofRecord a ≡ false

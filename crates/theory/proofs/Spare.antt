@@ -1,5 +1,5 @@
--- A spare cell numbered in at any place changes no verdict of the load test or of the chain: the same cells are named, where they stand then. No search stops at
--- a cell without load, so that each search finds the same cell, moved; and no sum has anything of it.
+-- A spare cell numbered in at any place changes no verdict of the load test or of the chain: the same cells are named, where they stand then. No search stops
+-- at a cell without load, so that each search finds the same cell, moved; and no sum has anything of it.
 -- Assumes nothing.
 use mathlib.Core.Path.{_≡_, refl, sym, ap, ap₂, _∙_}
 use mathlib.Core.Bool.{Bool, true, false, _&&_, not, and-false}
