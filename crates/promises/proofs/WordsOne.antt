@@ -4,7 +4,7 @@ use mathlib.Core.Path.{_≡_, sym, _∙_}
 use mathlib.Core.Bool.{Bool}
 use mathlib.Core.List.{List}
 use Prim.Native.Nat.{ℕ}
-use Rattle.promises.specs.WordsSays.{WordsAddRow, WordsApart, WordsFirstIn, WordsGreater, WordsHas, WordsJoinRow, WordsLay, WordsLoaded, WordsLoadedIn, WordsLoadsOf, WordsLowest, WordsSecondIn, WordsWide, WordsWordAt}
+use Rattle.promises.specs.WordsSays.{WordsAddRow, WordsApart, WordsFirstIn, WordsGreater, WordsHas, WordsJoinRow, WordsLay, WordsLoaded, WordsLoadedIn, WordsLoadsOf, WordsLoadsOfMany, WordsLowest, WordsSecondIn, WordsWide, WordsWordAt}
 
 -- words::lay
 pub wordsLay-one : (words : List ℕ) (from : ℕ) (m : ℕ) (word : ℕ) (words′ words″ : List ℕ) → WordsLay words from m word words′ → WordsLay words from m word words″ → (words′ ≡ words″)
@@ -50,13 +50,17 @@ wordsWide-one x r q says also = says .answer ∙ sym (also .answer)
 pub wordsGreater-one : (a : ℕ) (b : ℕ) (r q : ℕ) → WordsGreater a b r → WordsGreater a b q → (r ≡ q)
 wordsGreater-one a b r q says also = says .answer ∙ sym (also .answer)
 
+-- words::loaded
+pub wordsLoaded-one : (loads : List ℕ) (r q : ℕ) → WordsLoaded loads r → WordsLoaded loads q → (r ≡ q)
+wordsLoaded-one loads r q says also = says .answer ∙ sym (also .answer)
+
 -- words::loaded_in
 pub wordsLoadedIn-one : (loads : List ℕ) (cells : ℕ) (r q : ℕ) → WordsLoadedIn loads cells r → WordsLoadedIn loads cells q → (r ≡ q)
 wordsLoadedIn-one loads cells r q says also = says .answer ∙ sym (also .answer)
 
--- words::loaded
-pub wordsLoaded-one : (loads : List ℕ) (cells : ℕ) (r q : ℕ) → WordsLoaded loads cells r → WordsLoaded loads cells q → (r ≡ q)
-wordsLoaded-one loads cells r q says also = says .answer ∙ sym (also .answer)
+-- words::loads_of_many
+pub wordsLoadsOfMany-one : (loads : List ℕ) (word : ℕ) (r q : ℕ) → WordsLoadsOfMany loads word r → WordsLoadsOfMany loads word q → (r ≡ q)
+wordsLoadsOfMany-one loads word r q says also = says .answer ∙ sym (also .answer)
 
 -- words::loads_of
 pub wordsLoadsOf-one : (loads : List ℕ) (word : ℕ) (r q : ℕ) → WordsLoadsOf loads word r → WordsLoadsOf loads word q → (r ≡ q)
