@@ -4,7 +4,7 @@ use mathlib.Core.Path.{_≡_, refl}
 use mathlib.Core.Bool.{Bool, _&&_, not}
 use mathlib.Core.List.{List}
 use Prim.Native.Nat.{ℕ}
-use Rattle.contracts.specs.WordsSays.{WordsAddRow, WordsApart, WordsFirstIn, WordsGreater, WordsHas, WordsJoinRow, WordsLay, WordsLoaded, WordsLoadedIn, WordsLoadsOf, WordsLowest, WordsSecondIn, WordsWide, WordsWordAt}
+use Rattle.contracts.specs.WordsSays.{WordsAddRow, WordsApart, WordsFirstIn, WordsGreater, WordsHas, WordsJoinRow, WordsLay, WordsLoaded, WordsLoadedIn, WordsLoadsOf, WordsLoadsOfMany, WordsLowest, WordsSecondIn, WordsWide, WordsWordAt}
 use Rattle.laws.specs.Bits.{bitAt, wordOf}
 use Rattle.laws.specs.Most.{greater}
 use Rattle.laws.specs.Part.{listOf}
@@ -128,6 +128,16 @@ wordsGreater-one a b = (
   λ q says. says .answer,
 )
 
+-- words::loaded
+pub wordsLoaded-one : (loads : List ℕ)
+    → (r : ℕ) × (WordsLoaded loads r)
+    × ((q : ℕ) → WordsLoaded loads q → (q ≡ r))
+wordsLoaded-one loads = (
+  wordOf (λ i. ltb 0 (getD loads i 0)) 32,
+  record { answer = refl },
+  λ q says. says .answer,
+)
+
 -- words::loaded_in
 pub wordsLoadedIn-one : (loads : List ℕ) (cells : ℕ)
     → (r : ℕ) × (WordsLoadedIn loads cells r)
@@ -138,12 +148,12 @@ wordsLoadedIn-one loads cells = (
   λ q says. says .answer,
 )
 
--- words::loaded
-pub wordsLoaded-one : (loads : List ℕ) (cells : ℕ)
-    → (r : ℕ) × (WordsLoaded loads cells r)
-    × ((q : ℕ) → WordsLoaded loads cells q → (q ≡ r))
-wordsLoaded-one loads cells = (
-  wordOf (λ i. ltb 0 (getD loads i 0)) cells,
+-- words::loads_of_many
+pub wordsLoadsOfMany-one : (loads : List ℕ) (word : ℕ)
+    → (r : ℕ) × (WordsLoadsOfMany loads word r)
+    × ((q : ℕ) → WordsLoadsOfMany loads word q → (q ≡ r))
+wordsLoadsOfMany-one loads word = (
+  loadsIn loads word,
   record { answer = refl },
   λ q says. says .answer,
 )

@@ -60,13 +60,17 @@ pub record WordsWide (x : ℕ) (r : ℕ) : Type 0 where
 pub record WordsGreater (a : ℕ) (b : ℕ) (r : ℕ) : Type 0 where
   pub answer : r ≡ greater a b
 
+-- words::loaded
+pub record WordsLoaded (loads : List ℕ) (r : ℕ) : Type 0 where
+  pub answer : r ≡ wordOf (λ i. ltb 0 (getD loads i 0)) 32
+
 -- words::loaded_in
 pub record WordsLoadedIn (loads : List ℕ) (cells : ℕ) (r : ℕ) : Type 0 where
   pub answer : r ≡ wordOf (λ i. ltb 0 (getD loads i 0)) cells
 
--- words::loaded
-pub record WordsLoaded (loads : List ℕ) (cells : ℕ) (r : ℕ) : Type 0 where
-  pub answer : r ≡ wordOf (λ i. ltb 0 (getD loads i 0)) cells
+-- words::loads_of_many
+pub record WordsLoadsOfMany (loads : List ℕ) (word : ℕ) (r : ℕ) : Type 0 where
+  pub answer : r ≡ loadsIn loads word
 
 -- words::loads_of
 pub record WordsLoadsOf (loads : List ℕ) (word : ℕ) (r : ℕ) : Type 0 where

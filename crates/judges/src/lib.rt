@@ -85,7 +85,7 @@ pub fn load_test(site: Site) -> LoadAnswer
     let room = site.slots as u32 * site.channels as u32;
     let loads = site.loads;
     let clash = site.clash_rows();
-    let who = loaded(&loads, 32);
+    let who = loaded(&loads);
     let i = first_over(&loads, &clash, who, cells, room);
     if i < cells {
         let d = demand(&loads, clash[i], i);
@@ -105,7 +105,7 @@ pub fn chain(site: Site) -> ChainAnswer
     let cells = site.cells as usize;
     let loads = site.loads;
     let clash = site.clash_rows();
-    let who = loaded(&loads, 32);
+    let who = loaded(&loads);
     let a = first_break(&clash, who, cells);
     if a < cells {
         let c = break_of(clash[a], who, a, cells);
@@ -151,7 +151,7 @@ pub fn least(site: Site) -> LeastAnswer
     let cells = site.cells as usize;
     let loads = site.loads;
     let clash = site.clash_rows();
-    let who = loaded(&loads, 32);
+    let who = loaded(&loads);
     let n = most_demand(&loads, &clash, who, cells) as usize;
     if first_break(&clash, who, cells) < cells {
         return LeastAnswer::Enough(n);

@@ -1,6 +1,6 @@
--- The heaviest clash, over what the calls say, in numbers: the cells that are named share no position, so a valid table has a position for each of their fragments. It depends on
--- cells, loads and reach alone, so that it is that of every site with the same. Assumes nothing.
-use mathlib.Core.Path.{_≡_, refl, sym, ap, ap₂, _∙_}
+-- The heaviest clash, over what the calls say, in numbers: the cells that are named share no position, so a valid table has a position for each of their
+-- fragments. It depends on cells, loads and reach alone, so that it is that of every site with the same. Assumes nothing.
+use mathlib.Core.Path.{_≡_, ap, ap₂, _∙_}
 use mathlib.Core.List.{List, [], _∷_}
 use mathlib.Core.Logic.{_↔_}
 use Prim.Native.Nat.{ℕ, _≤_, _<_}

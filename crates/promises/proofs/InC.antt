@@ -1,6 +1,6 @@
 -- In C a value that the document does not name is 0. So a good verdict is 0, 0, 0, and this is told apart from every other answer: cells are numbered from 1.
--- The least number of channel-slots and the heaviest clash always have their two values, so they are read back whatever they are, 0 and 0 too: no call refuses with the fault
--- that is none.
+-- The least number of channel-slots and the heaviest clash always have their two values, so they are read back whatever they are, 0 and 0 too: no call refuses
+-- with the fault that is none.
 -- Assumes nothing.
 use mathlib.Core.Path.{_≡_, refl, ap}
 use mathlib.Core.Logic.{_↔_}

@@ -37,7 +37,18 @@ fn bit_of(load: u16, bit: u32) -> u32
     0
 }
 
-// The word of the cells below `cells` with load above 0. One pass without a branch.
+// The word of the cells with load above 0, of all 32: the compiler makes vector code of a pass of fixed length without a branch.
+pub fn loaded(loads: &[u16; 32]) -> u32
+    ensures { λ r. ⌜ r ≡ wordOf (λ i. ltb 0 (getD (now (loads .entry)) i 0)) 32 ⌝ }
+{
+    let mut word: u32 = 0;
+    for i in 0..32 {
+        word = word | bit_of(loads[i], 1 << i);
+    }
+    word
+}
+
+// The same of the cells below `cells`, of any lent loads.
 pub fn loaded_in(loads: &[u16], cells: usize) -> u32
     requires { ⌜ (cells ≤ 32) × (cells ≤ length (now loads)) ⌝ }
     ensures { λ r. ⌜ r ≡ wordOf (λ i. ltb 0 (getD (now (loads .entry)) i 0)) cells ⌝ }
@@ -49,14 +60,6 @@ pub fn loaded_in(loads: &[u16], cells: usize) -> u32
     word
 }
 
-// The same of a record's loads.
-pub fn loaded(loads: &[u16; 32], cells: usize) -> u32
-    requires { ⌜ cells ≤ 32 ⌝ }
-    ensures { λ r. ⌜ r ≡ wordOf (λ i. ltb 0 (getD (now (loads .entry)) i 0)) cells ⌝ }
-{
-    loaded_in(loads, cells)
-}
-
 // The load of cell j where a word has it, else 0.
 fn part(load: u16, word: u32, j: usize) -> u32
     requires { ⌜ j < 32 ⌝ }
@@ -66,7 +69,7 @@ fn part(load: u16, word: u32, j: usize) -> u32
 }
 
 // The loads of the cells of a word, each cell asked: fast for a word with many.
-fn loads_of_many(loads: &[u16; 32], word: u32) -> u32
+pub fn loads_of_many(loads: &[u16; 32], word: u32) -> u32
     ensures { λ r. ⌜ (r ≡ loadsIn (now (loads .entry)) word) × (r ≤ 2097120) ⌝ }
 {
     let mut sum: u32 = 0;
