@@ -22,6 +22,7 @@ use Rattle.judges.specs.Given.{loadGiven, chainGiven, leastGiven}
 use Rattle.judges.proofs.Meaning.{least-means, enough-means}
 use Rattle.why.specs.Words.{fewest}
 use Rattle.site.specs.Alike.{Alike}
+use Rattle.why.proofs.Numbers.{same-demand}
 use Rattle.why.proofs.Sizes.{fewest-exact}
 use Rattle.checker.specs.Check.{checkAnswer}
 use Rattle.checker.specs.Given.{checkGiven}
@@ -34,10 +35,6 @@ use Rattle.promises.proofs.Demand3.{demand-three-calls, chained-exact, 
 -- ---- sites with the same cells, loads and reach
 
 module _ (other site : Site) (alike : Alike other site) where
-  same-most : mostDemand (netOf other) (counted other) ≡ mostDemand (netOf site) (counted site)
-  unfolding mostDemand
-  same-most = rw (alike .same-cells, alike .same-loads, alike .same-reach)
-
   same-chain : Chained (netOf site) (counted site) → Chained (netOf other) (counted other)
   same-chain h = rw (alike .same-cells, alike .same-loads, alike .same-reach) h
 
@@ -45,7 +42,7 @@ module _ (other site : Site) (alike : Alike other site) where
   room-test : (n : ℕ) → mostDemand (netOf site) (counted site) ≡ n → Accepted other → n ≤ positions other ↔ loadGiven (loadAnswer other) ≡ done
   room-test n e ok =
       let t = most-demand-test (netOf other) (counted other) in
-      let is : mostDemand (netOf other) (counted other) ≡ n = same-most ∙ e in
+      let is : mostDemand (netOf other) (counted other) ≡ n = same-demand site other alike ∙ e in
       let room = net-open other in (
         λ h. load-is-C1 other .1 (ok, t .0 (omega arith)),
         λ h. omega (arith, t .1 (load-is-C1 other .0 h .1)),

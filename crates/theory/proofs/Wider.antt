@@ -1,5 +1,5 @@
--- More positions never hurt the planner: what a cell has left before a position does not depend on how many positions there are, and never grows, so that where nothing is left after
--- n positions nothing is left after more.
+-- More positions never hurt the planner: what a cell has left before a position does not depend on how many positions there are, and never grows, so
+-- that where nothing is left after n positions nothing is left after more.
 --     plans-met      where the run plans, nothing is left of any load
 --     plans-wider    a problem that is planned is planned with more positions
 -- Assumes nothing.

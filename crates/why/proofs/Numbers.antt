@@ -1,5 +1,6 @@
 -- What the two numbers of `why` are worth, on every accepted site with the same cells, loads and reach.
 --     at-least     with fewer channel-slots than the heaviest clash needs no plan exists: a valid table has room for it
+--     same-demand  the greatest demand is the same on all of them
 --     demand-does  as many as the greatest demand will do: the load test holds
 --     own-does     what the site itself is planned with will do, and so will more: the planner takes the same positions
 --     fewer-slots, slots-do, fewer-channels, channels-do   the same of slots and of channels
@@ -51,7 +52,7 @@ at-least s o alike fine few res v =
     let same : weight (netOf o) (bitAt (set s)) ≡ weight (netOf s) (bitAt (set s)) = rw (alike .same-cells, alike .same-loads) in
     omega (arith, mutual-fits (netOf o) res v (bitAt (set s)) close, net-open o, same)
 
-same-demand : (s o : Site) → Alike o s → mostDemand (netOf o) (counted o) ≡ mostDemand (netOf s) (counted s)
+pub same-demand : (s o : Site) → Alike o s → mostDemand (netOf o) (counted o) ≡ mostDemand (netOf s) (counted s)
 unfolding mostDemand
 same-demand s o alike = rw (alike .same-cells, alike .same-loads, alike .same-reach)
 

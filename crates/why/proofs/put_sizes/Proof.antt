@@ -7,12 +7,12 @@ use Rattle.why.proofs.put_sizes.Statement.{statement}
 use Rattle.why.proofs.put_sizes.Tie as tie
 
 size-phrase-requires : tie.Need-size-phrase-requires
-size-phrase-requires c κs = let z = fine-sized _ (c .before .before .pre .1) in (omega arith, omega (arith, z .channels-some))
+size-phrase-requires c κs = let z = fine-sized _ (c .before .before .pre .1) in (omega arith, omega (arith, z .channels-some, z .slots-some))
 
 size-phrase-requires-2 : tie.Need-size-phrase-requires-2
 size-phrase-requires-2 c κs =
     let z = fine-sized _ (c .before .before .before .before .before .before .before .before .pre .1) in
-    (omega arith, omega (arith, z .slots-some))
+    (omega arith, omega (arith, z .channels-some, z .slots-some))
 
 returns : tie.Need-returns
 returns c =
