@@ -235,9 +235,12 @@ mod tests {
         assert_eq!(share(1, 1, 1, None), said(one));
         let two = "share 2 fragments in a superframe\nqueue at most 2 fragments\ndelay at most 2 slots\n";
         assert_eq!(share(1, 1, 1, Some(2)), said(two));
-        for (numbers, number) in
-            [((0, 0, 0), "refused 1: the slots "), ((1, 0, 0), "refused 15: the burst "), ((1, 1, 0), "refused 15: the period "), ((2, 65_535, 1), "refused 16: ")]
-        {
+        for (numbers, number) in [
+            ((0, 0, 0), "refused 1: the slots "),
+            ((1, 0, 0), "refused 15: the burst "),
+            ((1, 1, 0), "refused 15: the period "),
+            ((2, 65_535, 1), "refused 16: "),
+        ] {
             assert!(share(numbers.0, numbers.1, numbers.2, None).unwrap_err().starts_with(number));
         }
         assert!(share(1, 1, 1, Some(0)).unwrap_err().starts_with("refused 15: the repeats "));

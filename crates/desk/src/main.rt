@@ -1,5 +1,6 @@
-// The desk's program, run by the script `duggfrask`, whose head says how the two speak: argument 1 is the command, 2 and 3 are the names of its inputs, and its numbers follow; the
-// first input is on standard input, the second on descriptor 4. What it says and writes is made by proved functions over slices; here it is only read and written, by way of `reply`.
+// The desk's program, run by the script `duggfrask`, whose head says how the two speak: argument 1 is the command, 2 and 3 are the names of its inputs, and
+// its numbers follow; the first input is on standard input, the second on descriptor 4. What it says and writes is made by proved functions over slices;
+// here it is only read and written, by way of `reply`.
 //
 // Every buffer has 65,536 bytes: the table of the largest site has as many, 32 cells by 2,048 positions. What is said at once has far fewer, and so has every good input. Of a longer one only
 // the first 65,536 bytes are read, and they are refused.
@@ -170,7 +171,8 @@ struct Row {
     written: bool,
 }
 
-// The changes of a cell in words, a slot at a time, where its bytes begin at `from` in both tables. Where a table ended before, or the words can't be written, it stops there.
+// The changes of a cell in words, a slot at a time, where its bytes begin at `from` in both tables. Where a table ended before, or the words can't be
+// written, it stops there.
 fn put_row(
     old: &[u8],
     new: &[u8],

@@ -1,4 +1,5 @@
--- Which file it is, computed: P1's site file and its plan file, cut after the kind of the second record, the first lines of both sheets, and what is none of them; and the words. Assumes nothing.
+-- Which file it is, computed: P1's site file and its plan file, cut after the kind of the second record, the first lines of both sheets, and what is none
+-- of them; and the words. Assumes nothing.
 use mathlib.Core.Path.{_≡_, refl}
 use mathlib.Core.List.{[], _∷_}
 use Rattle.lines.specs.Match.{starts}

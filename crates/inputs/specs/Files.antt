@@ -1,4 +1,5 @@
--- Which of the product's files some bytes are, as far as their beginning shows it. "A site file is kinds 1, 2, 3", "A plan file is kinds 1, 4"; a sheet shows itself by its first line.
+-- Which of the product's files some bytes are, as far as their beginning shows it. "A site file is kinds 1, 2, 3", "A plan file is kinds 1, 4"; a sheet
+-- shows itself by its first line.
 use Prim.Native.Nat.{ℕ}
 use mathlib.Core.Bool.{_&&_}
 use mathlib.Core.List.{List}

@@ -1,4 +1,5 @@
-// What a file is, by its first bytes; and the words after its name that say so, where another one was asked for. A function of words puts them at `at` and answers where the next byte goes.
+// What a file is, by its first bytes; and the words after its name that say so, where another one was asked for. A function of words puts them at `at` and
+// answers where the next byte goes.
 use lines::eat_text;
 use records::word;
 use speech::say;

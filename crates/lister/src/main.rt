@@ -1,5 +1,6 @@
-// The lister: reads a site file on standard input, the first 4,096 bytes, and prints document 01's listing. `head` makes the first lines and plans
-// the site, and `row_line` the line of a planned cell; `main`, `print_rows` and `tell` only read and write. A file that is refused is listed as refused, and then said in words, after its name, which is argument 1.
+// The lister: reads a site file on standard input, the first 4,096 bytes, and prints document 01's listing. `head` makes the first lines and plans the
+// site, and `row_line` the line of a planned cell; `main`, `print_rows` and `tell` only read and write. A file that is refused is listed as refused, and
+// then said in words, after its name, which is argument 1.
 use inputs::Input;
 use judges::ChainAnswer;
 use judges::LoadAnswer;

@@ -1,4 +1,5 @@
--- No file that a reader accepts is called another file: an accepted one is the bytes of what was read, and every such file is called by its name, by its first bytes. Assumes nothing.
+-- No file that a reader accepts is called another file: an accepted one is the bytes of what was read, and every such file is called by its name, by its
+-- first bytes. Assumes nothing.
 use Prim.Native.Nat.{ℕ, _+_, _*_}
 use mathlib.Core.Path.{_≡_, refl, sym, ap, _∙_}
 use mathlib.Core.List.{List, [], _∷_, _++_}
@@ -46,4 +47,5 @@ flows-called f n = refl
 
 -- so of a file that is accepted
 pub accepted-called : (file : List ℕ) → Bytes file → readGiven (readSite file .answer) ≡ done → inputOf file ≡ SiteFile
-accepted-called file bytes ok = ap inputOf (sym (read-then-written file bytes (read-apart (readSite file .answer) read.Done ok))) ∙ site-called (readSite file .site)
+accepted-called file bytes ok =
+    ap inputOf (sym (read-then-written file bytes (read-apart (readSite file .answer) read.Done ok))) ∙ site-called (readSite file .site)

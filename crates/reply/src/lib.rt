@@ -34,7 +34,8 @@ pub fn words(text: &[u8], end: usize) -> bool {
     put(STDERR_FILENO, text, end)
 }
 
-// The name of an input, argument i, which the script gives as it is to be said; and where its bytes show another file than the one asked for, what it is. A name has at most 4,096 bytes.
+// The name of an input, argument i, which the script gives as it is to be said; and where its bytes show another file than the one asked for, what it is. A
+// name has at most 4,096 bytes.
 pub fn named(i: usize, input: &[u8], asked: Input) {
     let mut text = io::buffer();
     let n = os::arg(i, &mut text);

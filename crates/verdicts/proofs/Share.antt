@@ -1,4 +1,5 @@
--- What a share's refusals say is so: 1 only where the slots are out of range, and of a 15 the number that is named is out of range. By what a share's answer means. Assumes nothing.
+-- What a share's refusals say is so: 1 only where the slots are out of range, and of a 15 the number that is named is. By what a share's answer means.
+-- Assumes nothing.
 use Prim.Native.Nat.{ℕ}
 use mathlib.Core.Path.{_≡_, refl, sym, _∙_}
 use mathlib.Core.Bool.{Bool, true, false, true≢false}
@@ -28,7 +29,8 @@ module _ (t c p k : ℕ) where
   outside : (most x : ℕ) → upTo most x ≡ false → UpTo most x → ⊥
   outside most x e i = true≢false (sym (up-to-is most x i) ∙ e)
 
-  by : (u v : Bool) → upTo 65535 c ≡ u → upTo 65535 p ≡ v → ShareMeans t c p k BadFlow → NamesWrong c p k (pick u (pick v badRepeatsLine badPeriodLine) badBurstLine)
+  by : (u v : Bool) → upTo 65535 c ≡ u → upTo 65535 p ≡ v → ShareMeans t c p k BadFlow
+      → NamesWrong c p k (pick u (pick v badRepeatsLine badPeriodLine) badBurstLine)
   by false v e h m = inl (refl, outside 65535 c e)
   by true false e h m = inr (inl (refl, outside 65535 p h))
   by true true e h m = inr (inr (refl, λ i. m .1 (up-to _ _ e, (up-to _ _ h, i))))

@@ -50,7 +50,9 @@ impl Input<'_> {
     pub fn refused(&self, asked: Kind, line: String) -> String {
         let name = self.name;
         match kind_of(self.bytes) {
-            Some(kind) if kind != asked => format!("{name} is {}; {} is asked for: {line}", kind.words(), asked.words()),
+            Some(kind) if kind != asked => {
+                format!("{name} is {}; {} is asked for: {line}", kind.words(), asked.words())
+            }
             _ => format!("{name}: {line}"),
         }
     }
@@ -66,7 +68,9 @@ mod tests {
         let with = |more: &[u8]| [&head[..], more].concat();
         assert_eq!(kind_of(&with(&[8, 0, 2, 0])), Some(Kind::SiteFile));
         assert_eq!(kind_of(&with(&[5, 0, 4, 0])), Some(Kind::PlanFile));
-        for other in [with(&[5, 0, 4]), with(&[5, 0, 3, 0]), with(&[5, 0, 4, 1]), vec![9, 0, 1, 0], vec![], b"cell".to_vec()] {
+        for other in
+            [with(&[5, 0, 4]), with(&[5, 0, 3, 0]), with(&[5, 0, 4, 1]), vec![9, 0, 1, 0], vec![], b"cell".to_vec()]
+        {
             assert_eq!(kind_of(&other), None, "{other:?}");
         }
         assert_eq!(kind_of(b"cell,load,1\n"), Some(Kind::RangeSheet));

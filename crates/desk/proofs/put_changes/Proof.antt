@@ -35,7 +35,7 @@ put-row-requires : tie.Need-put-row-requires Inv-loop μ-loop
 put-row-requires c κs = (omega (arith, c .before .before .before .before .before .before .before .before .before .before .pre, c .before .before .loop .inv .1), omega arith)
 
 same-length : tie.Need-same-length Inv-loop μ-loop
-same-length c = c .before .before .before .before .put-row .kept .1 .1 .0 ∙ c .before .before .before .before .before .before .before .loop .inv .1
+same-length c = let r = c .before .before .before .before in r .put-row .kept .1 .1 .0 ∙ r .before .before .before .loop .inv .1
 
 returns-2 : tie.Need-returns-2 Inv-loop μ-loop
 returns-2 c = search needs
@@ -47,7 +47,7 @@ loop-less : tie.Need-loop-less Inv-loop μ-loop
 loop-less c = omega arith
 
 loop-again : tie.Need-loop-again Inv-loop μ-loop
-loop-again c = (omega arith, c .before .before .before .before .put-row .kept .1 .1 .0 ∙ c .before .before .before .before .before .before .before .loop .inv .1)
+loop-again c = let r = c .before .before .before .before in (omega arith, r .put-row .kept .1 .1 .0 ∙ r .before .before .before .loop .inv .1)
 
 same-length-2 : tie.Need-same-length-2 Inv-loop μ-loop
 same-length-2 c = c .before .loop .inv .1

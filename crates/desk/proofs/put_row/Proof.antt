@@ -51,13 +51,15 @@ words-requires : tie.Need-words-requires Inv-loop μ-loop
 words-requires c κs = search needs
 
 same-length-3 : tie.Need-same-length-3 Inv-loop μ-loop
-same-length-3 c = c .before .before .before .before .before .slot-words .kept .0 ∙ c .before .before .before .before .before .before .before .before .before .before .before .before .loop .inv .1
+same-length-3 c =
+    let w = c .before .before .before .before .before in
+    w .slot-words .kept .0 ∙ w .before .before .before .before .before .before .before .loop .inv .1
 
 returns-3 : tie.Need-returns-3 Inv-loop μ-loop
 returns-3 c = search needs
 
 add-at : tie.Need-add-at Inv-loop μ-loop
-add-at c = omega (arith, c .before .before .before .before .before .before .before .before .holds2 .ensures (not-false _ (c .before .before .before .before .before .before .before .if2 .left)))
+add-at c = let t = c .before .before .before .before .before .before .before in omega (arith, t .before .holds2 .ensures (not-false _ (t .if2 .left)))
 
 add-slot : tie.Need-add-slot Inv-loop μ-loop
 add-slot c = omega arith
@@ -66,7 +68,9 @@ loop-less : tie.Need-loop-less Inv-loop μ-loop
 loop-less c = omega arith
 
 loop-again : tie.Need-loop-again Inv-loop μ-loop
-loop-again c = (omega arith, c .before .before .before .before .before .slot-words .kept .0 ∙ c .before .before .before .before .before .before .before .before .before .before .before .before .loop .inv .1)
+loop-again c =
+    let w = c .before .before .before .before .before in
+    (omega arith, w .slot-words .kept .0 ∙ w .before .before .before .before .before .before .before .loop .inv .1)
 
 same-length-4 : tie.Need-same-length-4 Inv-loop μ-loop
 same-length-4 c = c .before .loop .inv .1

@@ -19,7 +19,8 @@ returns : tie.Need-returns
 unfolding askedWords
 returns c =
     let e = c .before .before .say .ensures in
-    rw (eq-eqb _ 1 (c .before .before .before .before .before .if1 .taken)) (e .0, (e .1 .0, omega (arith, e .1 .1)))
+    let t = c .before .before .before .before .before in
+    rw (eq-eqb _ 1 (t .if1 .taken)) (e .0, (e .1 .0, omega (arith, e .1 .1)))
 
 slice-aggregate-say-2 : tie.Need-slice-aggregate-say-2
 slice-aggregate-say-2 c = search needs
@@ -34,7 +35,8 @@ returns-2 : tie.Need-returns-2
 unfolding askedWords
 returns-2 c =
     let e = c .before .before .say2 .ensures in
-    rw (ne-eqb _ 1 (c .before .before .before .before .before .before .if1 .left), eq-eqb _ 2 (c .before .before .before .before .before .if2 .taken)) (e .0, (e .1 .0, omega (arith, e .1 .1)))
+    let t = c .before .before .before .before .before in
+    rw (ne-eqb _ 1 (t .before .if1 .left), eq-eqb _ 2 (t .if2 .taken)) (e .0, (e .1 .0, omega (arith, e .1 .1)))
 
 slice-aggregate-say-3 : tie.Need-slice-aggregate-say-3
 slice-aggregate-say-3 c = search needs
@@ -49,7 +51,8 @@ returns-3 : tie.Need-returns-3
 unfolding askedWords
 returns-3 c =
     let e = c .before .before .say3 .ensures in
-    rw (ne-eqb _ 1 (c .before .before .before .before .before .before .before .if1 .left), ne-eqb _ 2 (c .before .before .before .before .before .before .if2 .left), eq-eqb _ 3 (c .before .before .before .before .before .if3 .taken)) (e .0, (e .1 .0, omega (arith, e .1 .1)))
+    let t = c .before .before .before .before .before in
+    rw (ne-eqb _ 1 (t .before .before .if1 .left), ne-eqb _ 2 (t .before .if2 .left), eq-eqb _ 3 (t .if3 .taken)) (e .0, (e .1 .0, omega (arith, e .1 .1)))
 
 slice-aggregate-say-4 : tie.Need-slice-aggregate-say-4
 slice-aggregate-say-4 c = search needs
@@ -64,7 +67,8 @@ returns-4 : tie.Need-returns-4
 unfolding askedWords
 returns-4 c =
     let e = c .before .before .say4 .ensures in
-    rw (ne-eqb _ 1 (c .before .before .before .before .before .before .before .if1 .left), ne-eqb _ 2 (c .before .before .before .before .before .before .if2 .left), ne-eqb _ 3 (c .before .before .before .before .before .if3 .left)) (e .0, (e .1 .0, omega (arith, e .1 .1)))
+    let t = c .before .before .before .before .before in
+    rw (ne-eqb _ 1 (t .before .before .if1 .left), ne-eqb _ 2 (t .before .if2 .left), ne-eqb _ 3 (t .if3 .left)) (e .0, (e .1 .0, omega (arith, e .1 .1)))
 
 pub asked-words-spec : {M : Type 1} → statement M
 asked-words-spec =

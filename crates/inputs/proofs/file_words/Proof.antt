@@ -20,9 +20,10 @@ same-length c = search needs
 
 returns : tie.Need-returns
 returns c =
-    let s = c .before .before .before .before .before .before .before .before in
+    let t = c .before .before .before .before in
+    let s = t .before .before .before .before in
     let e = c .before .before .plain-words .ensures in
-    rw (sym (said-nothing (s .args .found) (s .args .asked) _ _ (c .before .before .before .before .before .before .number-of .ensures) (c .before .before .before .before .before .number-of2 .ensures) (c .before .before .before .before .if1 .taken)))
+    rw (sym (said-nothing (s .args .found) (s .args .asked) _ _ (t .before .before .number-of .ensures) (t .before .number-of2 .ensures) (t .if1 .taken)))
     (e .0, (e .1 .0, omega (arith, e .1 .1)))
 
 plain-words-requires-2 : tie.Need-plain-words-requires-2
@@ -33,9 +34,11 @@ same-length-2 c = search needs
 
 returns-2 : tie.Need-returns-2
 returns-2 c =
-    let s = c .before .before .before .before .before .before .before .before .before in
+    let t = c .before .before .before .before in
+    let n = t .before .before in
+    let s = n .before .before .before in
     let e = c .before .before .plain-words2 .ensures in
-    rw (sym (said-same (s .args .found) (s .args .asked) _ _ (c .before .before .before .before .before .before .before .number-of .ensures) (c .before .before .before .before .before .before .number-of2 .ensures) (c .before .before .before .before .before .if1 .left) (c .before .before .before .before .if2 .taken)))
+    rw (sym (said-same (s .args .found) (s .args .asked) _ _ (n .before .number-of .ensures) (n .number-of2 .ensures) (t .before .if1 .left) (t .if2 .taken)))
     (e .0, (e .1 .0, omega (arith, e .1 .1)))
 
 other-words-requires : tie.Need-other-words-requires
@@ -46,8 +49,10 @@ same-length-3 c = search needs
 
 returns-3 : tie.Need-returns-3
 returns-3 c =
-    let s = c .before .before .before .before .before .before .before .before .before in
-    rw (sym (said-other (s .args .found) (s .args .asked) _ _ (c .before .before .before .before .before .before .before .number-of .ensures) (c .before .before .before .before .before .before .number-of2 .ensures) (c .before .before .before .before .before .if1 .left) (c .before .before .before .before .if2 .left)))
+    let t = c .before .before .before .before in
+    let n = t .before .before in
+    let s = n .before .before .before in
+    rw (sym (said-other (s .args .found) (s .args .asked) _ _ (n .before .number-of .ensures) (n .number-of2 .ensures) (t .before .if1 .left) (t .if2 .left)))
     (c .before .before .other-words .ensures)
 
 pub file-words-spec : {M : Type 1} → statement M

@@ -20,7 +20,8 @@ word-requires-2 c κs = search needs
 
 returns-3 : tie.Need-returns-3
 returns-3 c =
-    house-kind _ _ _ (c .before .before .before .before .if1 .left) (c .before .before .before .word .ensures) (c .before .before .if2 .left) (c .before .word2 .ensures) (c .if3 .taken)
+    let t = c .before .before in
+    house-kind _ _ _ (t .before .before .if1 .left) (t .before .word .ensures) (t .if2 .left) (c .before .word2 .ensures) (c .if3 .taken)
 
 word-requires-3 : tie.Need-word-requires-3
 word-requires-3 c κs = search needs
@@ -30,9 +31,11 @@ by-kind-requires c κs = search needs
 
 returns-4 : tie.Need-returns-4
 returns-4 c =
+    let k = c .before .before in
+    let t = k .before .before in
     c .by-kind .ensures
     ∙ ap byKind (c .before .word3 .ensures)
-    ∙ house-is _ _ _ (c .before .before .before .before .before .before .if1 .left) (c .before .before .before .before .before .word .ensures) (c .before .before .before .before .if2 .left) (c .before .before .before .word2 .ensures) (c .before .before .if3 .left)
+    ∙ house-is _ _ _ (t .before .before .if1 .left) (t .before .word .ensures) (t .if2 .left) (k .before .word2 .ensures) (k .if3 .left)
 
 pub house-file-spec : {M : Type 1} → statement M
 house-file-spec =

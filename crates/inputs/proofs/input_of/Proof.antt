@@ -21,15 +21,18 @@ begins-requires-2 : tie.Need-begins-requires-2
 begins-requires-2 c κs = search needs
 
 returns-2 : tie.Need-returns-2
-returns-2 c = input-flows _ (sym (c .before .before .before .before .begins .ensures) ∙ c .before .before .before .if1 .left) (sym (c .before .begins2 .ensures) ∙ c .if2 .taken)
+returns-2 c =
+    let t = c .before .before .before in
+    input-flows _ (sym (t .before .begins .ensures) ∙ t .if1 .left) (sym (c .before .begins2 .ensures) ∙ c .if2 .taken)
 
 house-file-requires : tie.Need-house-file-requires
 house-file-requires c κs = search needs
 
 returns-3 : tie.Need-returns-3
 returns-3 c =
+    let t = c .before .before .before .before in
     c .house-file .ensures
-    ∙ input-house _ (sym (c .before .before .before .before .before .begins .ensures) ∙ c .before .before .before .before .if1 .left) (sym (c .before .before .begins2 .ensures) ∙ c .before .if2 .left)
+    ∙ input-house _ (sym (t .before .begins .ensures) ∙ t .if1 .left) (sym (c .before .before .begins2 .ensures) ∙ c .before .if2 .left)
 
 pub input-of-spec : {M : Type 1} → statement M
 input-of-spec =

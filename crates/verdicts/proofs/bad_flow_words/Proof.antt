@@ -17,7 +17,9 @@ same-length c = search needs
 
 returns : tie.Need-returns
 unfolding badFlowWords
-returns c = rw (sym (c .before .before .before .before .before .within .ensures) ∙ not-true _ (c .before .before .before .before .if1 .taken)) (c .before .before .bad-burst-line .ensures)
+returns c =
+    let t = c .before .before .before .before in
+    rw (sym (t .before .within .ensures) ∙ not-true _ (t .if1 .taken)) (c .before .before .bad-burst-line .ensures)
 
 within-requires-2 : tie.Need-within-requires-2
 within-requires-2 c κs = search needs
@@ -31,8 +33,10 @@ same-length-2 c = search needs
 returns-2 : tie.Need-returns-2
 unfolding badFlowWords
 returns-2 c =
-    let burst = sym (c .before .before .before .before .before .before .before .within .ensures) ∙ not-false _ (c .before .before .before .before .before .before .if1 .left) in
-    rw (burst, sym (c .before .before .before .before .before .within2 .ensures) ∙ not-true _ (c .before .before .before .before .if2 .taken)) (c .before .before .bad-period-line .ensures)
+    let t = c .before .before .before .before in
+    let u = t .before .before in
+    let burst = sym (u .before .within .ensures) ∙ not-false _ (u .if1 .left) in
+    rw (burst, sym (t .before .within2 .ensures) ∙ not-true _ (t .if2 .taken)) (c .before .before .bad-period-line .ensures)
 
 bad-repeats-line-requires : tie.Need-bad-repeats-line-requires
 bad-repeats-line-requires c κs = search needs
@@ -43,8 +47,10 @@ same-length-3 c = search needs
 returns-3 : tie.Need-returns-3
 unfolding badFlowWords
 returns-3 c =
-    let burst = sym (c .before .before .before .before .before .before .before .within .ensures) ∙ not-false _ (c .before .before .before .before .before .before .if1 .left) in
-    rw (burst, sym (c .before .before .before .before .before .within2 .ensures) ∙ not-false _ (c .before .before .before .before .if2 .left)) (c .before .before .bad-repeats-line .ensures)
+    let t = c .before .before .before .before in
+    let u = t .before .before in
+    let burst = sym (u .before .within .ensures) ∙ not-false _ (u .if1 .left) in
+    rw (burst, sym (t .before .within2 .ensures) ∙ not-false _ (t .if2 .left)) (c .before .before .bad-repeats-line .ensures)
 
 pub bad-flow-words-spec : {M : Type 1} → statement M
 bad-flow-words-spec =
