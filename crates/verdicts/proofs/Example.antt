@@ -23,7 +23,7 @@ use Rattle.sheet.specs.declared.SheetAnswer.the-variants as sheet
 use Rattle.text.specs.Decimal.{digitsOf, decimal}
 use Rattle.speech.specs.Speech.{bytes, spoken}
 use Rattle.refusals.specs.Words.{meaning, refusedLine}
-use Rattle.verdicts.specs.Words.{loadOf, reachNamed, clashWords, changesWords, checkWords, planWords, mendWords, shareWords}
+use Rattle.verdicts.specs.Words.{loadOf, reachNamed, clashWords, changesWords, checkWords, planWords, mendWords, badFlowWords, shareWords}
 use Rattle.verdicts.specs.Words.{faultWords, readWords, planReadWords, sheetWords, otherPlanLine}
 
 -- P1 and P2: cell 2 reaches cells 1 and 3
@@ -95,17 +95,20 @@ unfolding firstOf sum any part forbid marked fill unmet run upTo sizeOk rowBad e
     stand mendAnswer planAnswer changesWords meaning refusedLine spoken decimal digitsOf
 mended = refl
 
--- ---- share: once and twice; a superframe of 0 slots, a burst of 0, a share that is too big
+-- ---- share: once and twice; a superframe of 0 slots; of a 15 the first number that is out of range; a share that is too big
 shared :
-    shareWords (shareOf 3 3 4 defaultRepeats) ∷ shareWords (shareOf 3 3 4 2) ∷ shareWords (shareOf 1 1 1 1)
-    ∷ shareWords (shareOf 0 0 4 1) ∷ shareWords (shareOf 3 0 4 1) ∷ shareWords (shareOf 2 65535 1 1) ∷ []
+    shareWords 3 4 (shareOf 3 3 4 defaultRepeats) ∷ shareWords 3 4 (shareOf 3 3 4 2) ∷ shareWords 1 1 (shareOf 1 1 1 1)
+    ∷ shareWords 0 4 (shareOf 0 0 4 1) ∷ shareWords 0 0 (shareOf 3 0 0 5) ∷ shareWords 3 0 (shareOf 3 3 0 5) ∷ shareWords 3 4 (shareOf 3 3 4 5)
+    ∷ shareWords 65535 1 (shareOf 2 65535 1 1) ∷ []
     ≡ bytes "share 3 fragments in a superframe\nqueue at most 6 fragments\ndelay at most 6 slots\n"
     ∷ bytes "share 6 fragments in a superframe\nqueue at most 6 fragments\ndelay at most 6 slots\n"
     ∷ bytes "share 1 fragment in a superframe\nqueue at most 2 fragments\ndelay at most 2 slots\n"
-    ∷ bytes "refused 1: the size is out of range: a site has 1 to 32 cells, 1 to 128 slots and 1 to 16 channels\n"
-    ∷ bytes "refused 15: the burst or the period of a flow is not 1 to 65,535, or its repeats are not 1 to 4\n"
+    ∷ bytes "refused 1: the slots are not 1 to 128\n"
+    ∷ bytes "refused 15: the burst is not 1 to 65,535\n"
+    ∷ bytes "refused 15: the period is not 1 to 65,535\n"
+    ∷ bytes "refused 15: the repeats are not 1 to 4\n"
     ∷ bytes "refused 16: the flow needs a share above 65,535 fragments in a superframe, its repeats counted\n" ∷ []
-unfolding roundedUp upTo shareOf meaning refusedLine spoken decimal digitsOf
+unfolding roundedUp upTo shareOf badFlowWords meaning refusedLine spoken decimal digitsOf
 shared = refl
 
 -- ---- files and sheets: the site file and the plan file are told apart, a line and a cell too; and a plan of another size

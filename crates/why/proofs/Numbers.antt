@@ -35,7 +35,8 @@ use Rattle.judges.specs.Judges.{counted}
 use Rattle.judges.proofs.Meaning.{covers-counted}
 use Rattle.heaviest.proofs.Mutual.{heaviest-is}
 use Rattle.why.specs.Words.{fewest}
-use Rattle.why.specs.Means.{Alike, NoPlan, Planned, AtLeast, WillDo, AtLeastSlots, AtLeastChannels, SlotsDo, ChannelsDo, set}
+use Rattle.site.specs.Alike.{Alike}
+use Rattle.why.specs.Means.{NoPlan, Planned, AtLeast, WillDo, AtLeastSlots, AtLeastChannels, SlotsDo, ChannelsDo, set}
 use Rattle.why.proofs.Sizes.{fewest-exact}
 
 -- every site is like itself
