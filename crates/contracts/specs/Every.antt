@@ -103,6 +103,26 @@ pub record EveryCall : Type 0 where
   pub check : (site : Site) (table : List ℕ)
       → (r : CheckAnswer) × (Check site table r)
       × ((q : CheckAnswer) → Check site table q → (q ≡ r))
+  -- heaviest::heaviest
+  pub heaviest : (site : Site)
+      → (r : HeaviestAnswer) × (Heaviest site r)
+      × ((q : HeaviestAnswer) → Heaviest site q → (q ≡ r))
+  -- shares::share_of
+  pub shareOf : (slots : Slots) (burst : Fragments) (period : Slots) (repeats : Repeats)
+      → (r : ShareAnswer) × (ShareOf slots burst period repeats r)
+      × ((q : ShareAnswer) → ShareOf slots burst period repeats q → (q ≡ r))
+  -- shares::share
+  pub share : (slots : Slots) (burst : Fragments) (period : Slots)
+      → (r : ShareAnswer) × (Share slots burst period r)
+      × ((q : ShareAnswer) → Share slots burst period q → (q ≡ r))
+  -- mender::mend
+  pub mend : (site : Site) (table : List ℕ) (changes : List ℕ)
+      → (r : MendAnswer) × (table′ : List ℕ) × (changes′ : List ℕ) × (Mend site table changes r table′ changes′)
+      × ((q : MendAnswer) (table″ : List ℕ) (changes″ : List ℕ) → Mend site table changes q table″ changes″ → (q ≡ r) × (table″ ≡ table′) × (changes″ ≡ changes′))
+  -- mender::mend_only
+  pub mendOnly : (site : Site) (table : List ℕ)
+      → (r : MendAnswer) × (table′ : List ℕ) × (MendOnly site table r table′)
+      × ((q : MendAnswer) (table″ : List ℕ) → MendOnly site table q table″ → (q ≡ r) × (table″ ≡ table′))
   -- wordtable::plan_words
   pub planWords : (site : Site) (words : List ℕ)
       → (r : PlanAnswer) × (words′ : List ℕ) × (PlanWords site words r words′)
@@ -119,26 +139,6 @@ pub record EveryCall : Type 0 where
   pub toBytes : (site : Site) (words : List ℕ) (table : List ℕ)
       → (r : FormAnswer) × (table′ : List ℕ) × (ToBytes site words table r table′)
       × ((q : FormAnswer) (table″ : List ℕ) → ToBytes site words table q table″ → (q ≡ r) × (table″ ≡ table′))
-  -- mender::mend
-  pub mend : (site : Site) (table : List ℕ) (changes : List ℕ)
-      → (r : MendAnswer) × (table′ : List ℕ) × (changes′ : List ℕ) × (Mend site table changes r table′ changes′)
-      × ((q : MendAnswer) (table″ : List ℕ) (changes″ : List ℕ) → Mend site table changes q table″ changes″ → (q ≡ r) × (table″ ≡ table′) × (changes″ ≡ changes′))
-  -- mender::mend_only
-  pub mendOnly : (site : Site) (table : List ℕ)
-      → (r : MendAnswer) × (table′ : List ℕ) × (MendOnly site table r table′)
-      × ((q : MendAnswer) (table″ : List ℕ) → MendOnly site table q table″ → (q ≡ r) × (table″ ≡ table′))
-  -- shares::share_of
-  pub shareOf : (slots : Slots) (burst : Fragments) (period : Slots) (repeats : Repeats)
-      → (r : ShareAnswer) × (ShareOf slots burst period repeats r)
-      × ((q : ShareAnswer) → ShareOf slots burst period repeats q → (q ≡ r))
-  -- shares::share
-  pub share : (slots : Slots) (burst : Fragments) (period : Slots)
-      → (r : ShareAnswer) × (Share slots burst period r)
-      × ((q : ShareAnswer) → Share slots burst period q → (q ≡ r))
-  -- heaviest::heaviest
-  pub heaviest : (site : Site)
-      → (r : HeaviestAnswer) × (Heaviest site r)
-      × ((q : HeaviestAnswer) → Heaviest site q → (q ≡ r))
   -- admission::share_in
   pub shareIn : (slots : ℕ) (f : Flow)
       → (r : ShareAnswer) × (ShareIn slots f r)
@@ -151,6 +151,10 @@ pub record EveryCall : Type 0 where
   pub admit : (site : Site) (flows : List Flow)
       → (r : AdmitAnswer) × (Admit site flows r)
       × ((q : AdmitAnswer) → Admit site flows q → (q ≡ r))
+  -- flowsheet::read_flows
+  pub readFlows : (bytes : List ℕ)
+      → (r : FlowsRead) × (ReadFlows bytes r)
+      × ((q : FlowsRead) → ReadFlows bytes q → (q ≡ r))
   -- sitefile::read_site
   pub readSite : (bytes : List ℕ)
       → (r : SiteRead) × (ReadSite bytes r)
@@ -175,10 +179,6 @@ pub record EveryCall : Type 0 where
   pub writeSheet : (site : Site) (out : List ℕ)
       → (r : SheetWritten) × (out′ : List ℕ) × (WriteSheet site out r out′)
       × ((q : SheetWritten) (out″ : List ℕ) → WriteSheet site out q out″ → (q ≡ r) × (out″ ≡ out′))
-  -- flowsheet::read_flows
-  pub readFlows : (bytes : List ℕ)
-      → (r : FlowsRead) × (ReadFlows bytes r)
-      × ((q : FlowsRead) → ReadFlows bytes q → (q ≡ r))
   -- capi::dugg_fault
   pub duggFault : (site : Site)
       → (r : Answer) × (DuggFault site r)
