@@ -18,7 +18,10 @@ use crate::sheet::{read_sheet, write_sheet};
 use crate::site::Site;
 pub use input::Input;
 use input::Kind;
-use wording::{change_line, counted, no_room, no_room_beside, not_chained, refused, sends_wrongly, sizes, wrong_flow, wrong_slots, Place};
+use wording::{
+    change_line, counted, no_room, no_room_beside, not_chained, refused, sends_wrongly, sizes, wrong_flow, wrong_slots,
+    Place,
+};
 
 /// Of each input no more than this is looked at.
 const MOST_BYTES: usize = 65_536;

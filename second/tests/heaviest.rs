@@ -3,7 +3,7 @@
 
 mod common;
 
-use common::{p1, p4, site};
+use common::{faulty, p1, p4, site};
 use second::answer::refuse;
 use second::checker::check;
 use second::heaviest::{heaviest, Heaviest};
@@ -37,12 +37,9 @@ fn desk_examples() {
 
 #[test]
 fn a_faulty_record_is_refused() {
-    assert_eq!(heaviest(&Site::sized(3, 0, 2)), refuse(1, &[]));
-    let mut site = p1(&[5, 1, 4]);
-    site.reach[2] = 1 << 2;
-    assert_eq!(heaviest(&site), refuse(3, &[3]));
-    site.loads[3] = 1;
-    assert_eq!(heaviest(&site), refuse(2, &[4]));
+    for (site, number, values) in faulty() {
+        assert_eq!(heaviest(&site), refuse(number, values));
+    }
 }
 
 /// 32 cells of load 1, of which those clash that `clash` says, asked with the lower cell first and counted from 0.

@@ -2,7 +2,7 @@
 
 mod common;
 
-use common::{p1, p4, site};
+use common::{faulty, p1, p4, site};
 use second::answer::refuse;
 use second::checker::check;
 use second::judge::{chain, least, Least};
@@ -36,12 +36,9 @@ fn desk_examples() {
 
 #[test]
 fn a_faulty_record_is_refused() {
-    assert_eq!(least(&Site::sized(3, 0, 2)), refuse(1, &[]));
-    let mut site = p1(&[5, 1, 4]);
-    site.reach[2] = 1 << 2;
-    assert_eq!(least(&site), refuse(3, &[3]));
-    site.loads[3] = 1;
-    assert_eq!(least(&site), refuse(2, &[4]));
+    for (site, number, values) in faulty() {
+        assert_eq!(least(&site), refuse(number, values));
+    }
 }
 
 /// The site with other slots and channels, in every way that gives so many channel-slots.

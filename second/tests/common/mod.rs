@@ -25,3 +25,12 @@ pub fn p1(loads: &[u16]) -> Site {
 pub fn p4() -> Site {
     site(2, 1, &[1, 1, 1, 1], &[(1, 3), (2, 4), (3, 4)])
 }
+
+/// Records with a fault, each with the number and the values of its refusal.
+pub fn faulty() -> [(Site, u64, &'static [u64]); 3] {
+    let mut own_reach = p1(&[5, 1, 4]);
+    own_reach.reach[2] = 1 << 2;
+    let mut extra_load = own_reach;
+    extra_load.loads[3] = 1;
+    [(Site::sized(3, 0, 2), 1, &[]), (own_reach, 3, &[3]), (extra_load, 2, &[4])]
+}
