@@ -3,7 +3,7 @@
 
 mod common;
 
-use common::{faulty, p1, p4, site};
+use common::{faulty, p1, p4, site, small_site};
 use second::answer::refuse;
 use second::checker::check;
 use second::heaviest::{heaviest, Heaviest};
@@ -71,20 +71,6 @@ fn large_sites() {
     }
 }
 
-/// Bit k of `clashes` is for the k-th pair, and digit i of `loads`, to the base 3, is the load of a cell.
-fn small_site(cells: usize, mut clashes: usize, mut loads: usize) -> Site {
-    let mut site = Site::sized(cells, 2, 1);
-    for a in 0..cells {
-        site.loads[a] = (loads % 3) as u16;
-        loads /= 3;
-        for b in a + 1..cells {
-            site.reach[a] |= ((clashes % 2) as u32) << b;
-            clashes /= 2;
-        }
-    }
-    site
-}
-
 /// Every set of a small site, in rising order of its word: the first with the greatest load.
 fn by_all_sets(site: &Site) -> Heaviest {
     let mut best = Heaviest { load: 0, cells: 0 };
@@ -104,7 +90,7 @@ fn every_site_of_four_cells() {
     let (mut chained, mut fewer) = (0, 0);
     for clashes in 0..64 {
         for loads in 0..81 {
-            let site = small_site(4, clashes, loads);
+            let site = small_site(4, 2, clashes, loads);
             let found = heaviest(&site).unwrap();
             assert_eq!(found, by_all_sets(&site), "{site:?}");
             let enough = least(&site).unwrap();
@@ -127,7 +113,7 @@ fn with_fewer_no_table_is_valid() {
     let mut asked = 0;
     for clashes in 0..8 {
         for loads in 0..27 {
-            let site = small_site(3, clashes, loads);
+            let site = small_site(3, 2, clashes, loads);
             let load = heaviest(&site).unwrap().load as usize;
             if !(2..=4).contains(&load) {
                 continue;

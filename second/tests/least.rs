@@ -2,7 +2,7 @@
 
 mod common;
 
-use common::{faulty, p1, p4, site};
+use common::{faulty, p1, p4, site, small_site};
 use second::answer::refuse;
 use second::checker::check;
 use second::judge::{chain, least, Least};
@@ -66,26 +66,12 @@ fn so_many_do(site: &Site) -> bool {
     !fewer_may_do
 }
 
-/// Bit k of `clashes` is for the k-th pair, and digit i of `loads`, to the base 3, is the load of a cell.
-fn small_site(cells: usize, mut clashes: usize, mut loads: usize) -> Site {
-    let mut site = Site::sized(cells, 1, 1);
-    for a in 0..cells {
-        site.loads[a] = (loads % 3) as u16;
-        loads /= 3;
-        for b in a + 1..cells {
-            site.reach[a] |= ((clashes % 2) as u32) << b;
-            clashes /= 2;
-        }
-    }
-    site
-}
-
 #[test]
 fn every_site_of_four_cells() {
     let mut chained = 0;
     for clashes in 0..64 {
         for loads in 0..81 {
-            chained += so_many_do(&small_site(4, clashes, loads)) as usize;
+            chained += so_many_do(&small_site(4, 1, clashes, loads)) as usize;
         }
     }
     assert!(64 < chained && chained < 64 * 81);
@@ -138,7 +124,7 @@ fn with_fewer_no_table_is_valid() {
     let mut asked = 0;
     for clashes in 0..8 {
         for loads in 0..27 {
-            let site = small_site(3, clashes, loads);
+            let site = small_site(3, 1, clashes, loads);
             let Least { channel_slots, fewer_may_do } = least(&site).unwrap();
             if fewer_may_do || !(2..=4).contains(&channel_slots) {
                 continue;

@@ -34,3 +34,17 @@ pub fn faulty() -> [(Site, u64, &'static [u64]); 3] {
     extra_load.loads[3] = 1;
     [(Site::sized(3, 0, 2), 1, &[]), (own_reach, 3, &[3]), (extra_load, 2, &[4])]
 }
+
+/// Bit k of `clashes` is for the k-th pair, and digit i of `loads`, to the base 3, is the load of a cell.
+pub fn small_site(cells: usize, slots: usize, mut clashes: usize, mut loads: usize) -> Site {
+    let mut site = Site::sized(cells, slots, 1);
+    for a in 0..cells {
+        site.loads[a] = (loads % 3) as u16;
+        loads /= 3;
+        for b in a + 1..cells {
+            site.reach[a] |= ((clashes % 2) as u32) << b;
+            clashes /= 2;
+        }
+    }
+    site
+}
