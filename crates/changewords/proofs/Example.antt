@@ -1,9 +1,11 @@
--- The words of changes, computed: a table for three slots of two channels where cell 3 clashes with cell 2 in the last channel, as it was and as it is once mended. Assumes nothing.
+-- The words of changes, computed: a table for three slots of two channels where cell 3 clashes with cell 2 in the last channel, as it was and as it is
+-- once mended. Assumes nothing.
 use mathlib.Core.Path.{_≡_, refl}
 use mathlib.Core.List.{List, [], _∷_}
 use Prim.Native.Nat.{ℕ}
 use Rattle.text.specs.Decimal.{digitsOf, decimal}
 use Rattle.speech.specs.Speech.{bytes, spoken}
+use Rattle.changewords.specs.Lines.{lines}
 use Rattle.changewords.specs.Words.{changeWords, slotWords, rowWords, allWords}
 
 abbrev before : List ℕ
@@ -14,10 +16,10 @@ after = 1 ∷ 1 ∷ 1 ∷ 1 ∷ 1 ∷ 0 ∷ 7 ∷ 2 ∷ 0 ∷ 0 ∷ 0 ∷ 1 ∷ 
 
 -- by the mender's list
 list-said : changeWords 2 (3 ∷ 0 ∷ 0 ∷ 1 ∷ 3 ∷ 5 ∷ 1 ∷ 0 ∷ []) ≡ bytes "cell 3: slot 1 channel 1 added\ncell 3: slot 3 channel 2 dropped\n"
-unfolding changeWords spoken decimal digitsOf
+unfolding lines changeWords spoken decimal digitsOf
 list-said = refl
 
 -- and by the two tables
 tables-said : allWords before after 3 2 3 ≡ bytes "cell 3: slot 1 channel 1 added\ncell 3: slot 3 channel 2 dropped\n"
-unfolding allWords rowWords slotWords spoken decimal digitsOf
+unfolding lines allWords rowWords slotWords spoken decimal digitsOf
 tables-said = refl

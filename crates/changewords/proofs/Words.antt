@@ -1,5 +1,5 @@
--- The words of two tables are those of the mender's own list of changes: going through the cells in order, and in each cell through its slots, gives the changes in the order of
--- the list. A position t * F + f is channel f of slot t.
+-- The words of two tables are those of the mender's own list of changes: going through the cells in order, and in each cell through its slots, gives the
+-- changes in the order of the list. A position t * F + f is channel f of slot t.
 --     slot-more        a channel more, as the loop counts
 --     said-one         a change, and nothing where there is none
 --     said-slot, said-row, said-all      a slot, a row, a table
@@ -15,15 +15,17 @@ use lib.Arith.{digits-div, digits-mod}
 use lib.ListN.{length, getD}
 use Rattle.laws.specs.Sum.{count}
 use Rattle.theory.specs.Net.{Reserved}
-use Rattle.theory.specs.Greedy.{sends, reserved}
+use Rattle.theory.specs.Greedy.{reserved}
 use Rattle.mending.specs.Changes.{change, changed, cellChanges, changes, changeCount}
 use Rattle.mending.proofs.Changes.{cell-length, changes-length}
-use Rattle.changewords.specs.Words.{addedLine, droppedLine, changeLine, changeWords, wordsOf, slotWords, rowWords, allWords}
+use Rattle.phrases.specs.Phrases.{phrase}
+use Rattle.changewords.specs.Lines.{lines}
+use Rattle.changewords.specs.Words.{changePhrase, changeWords, channelPhrase, phraseAt, slotWords, rowWords, allWords}
 
 -- ---- a channel more, as the loop counts
 
 pub slot-more : (old new : List ℕ) (from cell slot f : ℕ)
-    → slotWords old new from cell slot (f + 1) ≡ slotWords old new from cell slot f ++ wordsOf (sends (getD new (from + f) 0)) (sends (getD old (from + f) 0)) cell slot (f + 1)
+    → slotWords old new from cell slot (f + 1) ≡ slotWords old new from cell slot f ++ phrase lines (phraseAt old new (from + f) cell slot (f + 1))
 unfolding slotWords
 slot-more old new from cell slot f = ap (slotWords old new from cell slot) (add-one f)
 
@@ -38,14 +40,15 @@ module _ (F : ℕ) where
   said-append m (c ∷ k ∷ []) b e = absurd (omega arith)
   said-append m (c ∷ k ∷ w ∷ []) b e = absurd (omega arith)
   said-append m (c ∷ k ∷ w ∷ x ∷ a) b e =
-      ap (λ y. changeLine F c k x ++ y) (said-append (m - 1) a b (omega arith)) ∙ sym (append-assoc (changeLine F c k x) (changeWords F a) (changeWords F b))
+      let here = phrase lines (changePhrase F c k x) in
+      ap (λ y. here ++ y) (said-append (m - 1) a b (omega arith)) ∙ sym (append-assoc here (changeWords F a) (changeWords F b))
 
   -- a change, and nothing where there is none
-  said-one : (is was : Bool) (i k : ℕ) → changeWords F (change is was i k) ≡ wordsOf is was (i + 1) (k / F + 1) (k % F + 1)
+  said-one : (is was : Bool) (i k : ℕ) → changeWords F (change is was i k) ≡ phrase lines (channelPhrase is was (i + 1) (k / F + 1) (k % F + 1))
   unfolding changeWords
   said-one true true i k = refl
-  said-one true false i k = append-nil (addedLine (i + 1) (k / F + 1) (k % F + 1))
-  said-one false true i k = append-nil (droppedLine (i + 1) (k / F + 1) (k % F + 1))
+  said-one true false i k = append-nil _
+  said-one false true i k = append-nil _
   said-one false false i k = refl
 
 -- ---- two tables of rows of n
@@ -61,18 +64,22 @@ module _ (old new : List ℕ) (F n : ℕ) where
   said-slot : (i t f : ℕ) → f ≤ F
       → changeWords F (cellChanges is was i (t * F + f)) ≡ changeWords F (cellChanges is was i (t * F)) ++ slotWords old new (i * n + t * F) (i + 1) (t + 1) f
   unfolding cellChanges slotWords
-  said-slot i t zero h = ap (λ k. changeWords F (cellChanges is was i k)) (add-zero (t * F)) ∙ sym (append-nil (changeWords F (cellChanges is was i (t * F))))
+  said-slot i t zero h =
+      ap (λ k. changeWords F (cellChanges is was i k)) (add-zero (t * F)) ∙ sym (append-nil (changeWords F (cellChanges is was i (t * F))))
   said-slot i t (suc f) h =
       let k = t * F + f in
       let before = changeWords F (cellChanges is was i (t * F)) in
-      let here = wordsOf (is i k) (was i k) (i + 1) (t + 1) (f + 1) in
+      let slot = slotWords old new (i * n + t * F) (i + 1) (t + 1) f in
+      let here = phrase lines (channelPhrase (is i k) (was i k) (i + 1) (t + 1) (f + 1)) in
+      let one =
+      said-one F (is i k) (was i k) i k
+      ∙ ap₂ (λ (s c : ℕ). phrase lines (channelPhrase (is i k) (was i k) (i + 1) (s + 1) (c + 1))) (digits-div t h) (digits-mod t h) in
       let place : i * n + k ≡ i * n + t * F + f = omega arith in
       ap (λ x. changeWords F (cellChanges is was i x)) (add-suc (t * F) f)
       ∙ said-append F (count (changed is was i) k) (cellChanges is was i k) (change (is i k) (was i k) i k) (cell-length is was i k)
-      ∙ ap₂ (λ (a b : List ℕ). a ++ b) (said-slot i t f (omega arith))
-      (said-one F (is i k) (was i k) i k ∙ ap₂ (λ (s c : ℕ). wordsOf (is i k) (was i k) (i + 1) (s + 1) (c + 1)) (digits-div t h) (digits-mod t h))
-      ∙ append-assoc before (slotWords old new (i * n + t * F) (i + 1) (t + 1) f) here
-      ∙ ap (λ (x : ℕ). before ++ (slotWords old new (i * n + t * F) (i + 1) (t + 1) f ++ wordsOf (sends (getD new x 0)) (sends (getD old x 0)) (i + 1) (t + 1) (f + 1))) place
+      ∙ ap₂ (λ (a b : List ℕ). a ++ b) (said-slot i t f (omega arith)) one
+      ∙ append-assoc before slot here
+      ∙ ap (λ (x : ℕ). before ++ (slot ++ phrase lines (phraseAt old new x (i + 1) (t + 1) (f + 1)))) place
 
   -- the first t slots of a row
   said-row : (i t : ℕ) → changeWords F (cellChanges is was i (t * F)) ≡ rowWords old new F (i * n) (i + 1) t

@@ -1,74 +1,48 @@
-// The words of the changes of a table, a slot of a cell at a time, written into a lent buffer. Each function puts its words at `at` and answers where the next byte
-// goes. The list of changes is not asked for: the table as it was and the table as it is say the same.
-use speech::say;
+// The words of the changes of a table, a slot of a cell at a time, written into a lent buffer. Each function puts its words at `at` and answers where
+// the next byte goes. The list of changes is not asked for: the table as it was and the table as it is say the same.
+use phrases::Phrase;
+use phrases::put_phrase;
 ghost use mathlib.Core.Path.{_≡_};
 ghost use Prim.Native.Nat.{_+_, _*_, _≤_};
 ghost use lib.ListN.{length};
-ghost use lib.Seq.{sets};
 ghost use Rattle.theory.specs.Greedy.{sends};
-ghost use Rattle.changewords.specs.Words.{addedLine, droppedLine, wordsOf, slotWords};
+ghost use Rattle.phrases.specs.Put.{Put};
+ghost use Rattle.phrases.specs.Phrases.{phrase};
+ghost use Rattle.changewords.specs.Lines.{lines};
+ghost use Rattle.changewords.specs.Words.{channelPhrase, slotWords};
 
-// A reservation that was added.
-fn added_line(out: &mut [u8], at: usize, cell: usize, slot: usize, channel: usize) -> usize
+const ADDED: usize = 0;
+
+const DROPPED: usize = 1;
+
+// Puts a line: a row of the table with its values, or nothing.
+fn put(out: &mut [u8], at: usize, what: Phrase) -> usize
     requires { ⌜ at + 400 ≤ length (now out) ⌝ }
-    ensures stored { λ r. ⌜ now (out .exit) ≡ sets (now (out .entry)) at (addedLine cell slot channel) ⌝ }
-    ensures next { λ r. ⌜ r ≡ at + length (addedLine cell slot channel) ⌝ }
-    ensures short { λ r. ⌜ r ≤ at + 400 ⌝ }
+    ensures { λ r. ⌜ Put (now (out .entry)) at (phrase lines what) 400 (now (out .exit)) r ⌝ }
 {
-    say(
+    put_phrase(
         out,
         at,
-        b"cell @1: slot @2 channel @3 added\n",
-        cell,
-        slot,
-        channel,
-        0,
+        b"cell @1: slot @2 channel @3 added\n|\
+          cell @1: slot @2 channel @3 dropped\n|",
+        what,
     )
 }
 
-// A reservation that was dropped.
-fn dropped_line(out: &mut [u8], at: usize, cell: usize, slot: usize, channel: usize) -> usize
-    requires { ⌜ at + 400 ≤ length (now out) ⌝ }
-    ensures stored { λ r. ⌜ now (out .exit) ≡ sets (now (out .entry)) at (droppedLine cell slot channel) ⌝ }
-    ensures next { λ r. ⌜ r ≡ at + length (droppedLine cell slot channel) ⌝ }
-    ensures short { λ r. ⌜ r ≤ at + 400 ⌝ }
-{
-    say(
-        out,
-        at,
-        b"cell @1: slot @2 channel @3 dropped\n",
-        cell,
-        slot,
-        channel,
-        0,
-    )
-}
-
-// The words of one channel of a slot, by its byte as it is and as it was; nothing where both are reservations, or neither is.
-fn channel_words(
-    out: &mut [u8],
-    at: usize,
-    is: u8,
-    was: u8,
-    cell: usize,
-    slot: usize,
-    channel: usize,
-) -> usize
-    requires { ⌜ at + 400 ≤ length (now out) ⌝ }
-    ensures stored { λ r. ⌜ now (out .exit) ≡ sets (now (out .entry)) at (wordsOf (sends is) (sends was) cell slot channel) ⌝ }
-    ensures next { λ r. ⌜ r ≡ at + length (wordsOf (sends is) (sends was) cell slot channel) ⌝ }
-    ensures short { λ r. ⌜ r ≤ at + 400 ⌝ }
+// One channel of a slot, by its byte as it is and as it was; nothing where both are reservations, or neither is.
+fn channel_phrase(is: u8, was: u8, cell: usize, slot: usize, channel: usize) -> Phrase
+    ensures { λ r. ⌜ r ≡ channelPhrase (sends is) (sends was) cell slot channel ⌝ }
 {
     if is == 1 {
         if was == 1 {
-            return at;
+            return Phrase::Silent;
         }
-        return added_line(out, at, cell, slot, channel);
+        return Phrase::Row(ADDED, cell, slot, channel, 0);
     }
     if was == 1 {
-        return dropped_line(out, at, cell, slot, channel);
+        return Phrase::Row(DROPPED, cell, slot, channel, 0);
     }
-    at
+    Phrase::Silent
 }
 
 // The words of the changes of a cell in one slot: `from` is where the slot's bytes begin in either table.
@@ -83,16 +57,15 @@ pub fn slot_words(
     slot: usize,
 ) -> usize
     requires { ⌜ (from + channels ≤ length (now old)) × (from + channels ≤ length (now new)) × (at + 400 * channels ≤ length (now out)) ⌝ }
-    ensures stored { λ r. ⌜ now (out .exit) ≡ sets (now (out .entry)) at (slotWords (now (old .entry)) (now (new .entry)) from cell slot channels) ⌝ }
-    ensures next { λ r. ⌜ r ≡ at + length (slotWords (now (old .entry)) (now (new .entry)) from cell slot channels) ⌝ }
-    ensures short { λ r. ⌜ r ≤ at + 400 * channels ⌝ }
+    ensures { λ r. ⌜ Put (now (out .entry)) at (slotWords (now (old .entry)) (now (new .entry)) from cell slot channels)
+        (400 * channels) (now (out .exit)) r ⌝ }
 {
     let mut next = at;
     let mut f = 0;
     while f < channels {
         let is = new[from + f];
         let was = old[from + f];
-        next = channel_words(out, next, is, was, cell, slot, f + 1);
+        next = put(out, next, channel_phrase(is, was, cell, slot, f + 1));
         f += 1;
     }
     next

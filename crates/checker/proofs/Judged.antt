@@ -1,6 +1,7 @@
 -- From what the searches find to the verdict. The searches for a clash do not look at loads, nor the search for a wrong count at clashes, so each is
 -- stated over a problem without them, and has the whole problem's answer. Assumes nothing.
 use mathlib.Core.Path.{_≡_, refl, sym, ap, _∙_}
+use mathlib.Core.Bool.{false}
 use mathlib.Core.List.{List}
 use Prim.Native.Nat.{ℕ, _+_, _*_, _≤_, _<_, zero-le}
 use native.Mathlib.Omega.{arith}
@@ -9,19 +10,20 @@ use borrow.Author.Tests.{lt-ltb, le-ltb, ltb-true}
 use Rattle.laws.specs.Bits.{bitIn}
 use Rattle.laws.specs.Sum.{count}
 use Rattle.laws.proofs.Search.{first-passes, first-most}
-use Rattle.theory.specs.Net.{Net, unblocked}
+use Rattle.theory.specs.Net.{Net, Reserved, unblocked}
 use Rattle.theory.specs.Greedy.{reserved}
 use Rattle.theory.specs.Verdict.{valid, clash, wrong, secondAt, clashesAt, firstAt, lowestClash, wrongIn, lowestWrong, tableVerdict}
-use Rattle.site.specs.Record.{positions, faultOf}
-use Rattle.site.specs.Reach.{netIn, netOf}
+use Rattle.site.specs.Record.{positions, size, faultOf, isFine}
+use Rattle.site.specs.Reach.{clashOf, netIn, netOf}
 use Rattle.site.specs.declared.Site.{Site}
+use Rattle.site.specs.declared.Fault.{Fault}
 use Rattle.site.specs.declared.Fault.the-variants.{Fine}
 use Rattle.words.specs.Words.{wordAt}
 use Rattle.words.specs.Clashes.{secondIn, firstIn}
 use Rattle.words.proofs.Clashes.{second-word, first-word}
 use Rattle.checker.specs.Marks.{clashNet, loadNet, clashing}
-use Rattle.checker.specs.Check.{verdictOf, checkAnswer}
-use Rattle.checker.specs.declared.CheckAnswer.the-variants.{Valid, Clash, Count}
+use Rattle.checker.specs.Check.{verdictOf, checkedBy, checkAnswer}
+use Rattle.checker.specs.declared.CheckAnswer.the-variants.{Valid, TableShort, Clash, Count, Refused}
 
 module _ (cells n : ℕ) (rows t : List ℕ) where
   -- at the lowest position with a clash there is a first cell
@@ -89,8 +91,26 @@ module _ (cells n : ℕ) (loads rows t : List ℕ) where
           rw (sym (lowest ∙ same-clash), le-ltb p n none, sym (low ∙ same-wrong), le-ltb i cells h) in
           ap verdictOf v
 
+-- ---- the ways of a check, whatever form the table has: so much is lent, and so much is due
+
+module _ (s : Site) (res : Reserved) (lent due : ℕ) where
+  pub refused-by : (f : Fault) → f ≡ faultOf s → isFine f ≡ false → Refused f ≡ checkedBy s lent due res
+  refused-by f e h = rw (sym e, h)
+
+  module _ (ok : faultOf s ≡ Fine) where
+    pub short-by : lent < due → TableShort ≡ checkedBy s lent due res
+    short-by h = rw (ok, lt-ltb lent due h)
+
+    pub judged-by : due ≤ lent → verdictOf (tableVerdict (netOf s) res) ≡ checkedBy s lent due res
+    judged-by h = rw (ok, le-ltb lent due h)
+
+    -- by the clash rows of the site
+    pub rows-by : due ≤ lent → (rows : List ℕ) → bitIn rows ≡ clashOf s
+        → verdictOf (tableVerdict (netIn (s .cells) (positions s) (s .loads) (bitIn rows) unblocked) res) ≡ checkedBy s lent due res
+    rows-by h rows e = ap (λ clash. verdictOf (tableVerdict (netIn (s .cells) (positions s) (s .loads) clash unblocked) res)) e ∙ judged-by h
+
 -- the check of a site with no fault and a table that is long enough
 pub check-judged : (s : Site) (t : List ℕ) → faultOf s ≡ Fine → s .cells * positions s ≤ length t
     → verdictOf (tableVerdict (netOf s) (reserved (positions s) t)) ≡ checkAnswer s t
 unfolding checkAnswer
-check-judged s t e h = rw (e, le-ltb (length t) (s .cells * positions s) h)
+check-judged s t = judged-by s (reserved (positions s) t) (length t) (size s)

@@ -5,6 +5,7 @@ use Prim.Native.Nat.{ℕ, _+_}
 use lib.Dec.{ltb}
 use lib.ListN.{length}
 use Rattle.laws.specs.Choice.{pick}
+use Rattle.theory.specs.Net.{Reserved}
 use Rattle.theory.specs.Greedy.{reserved}
 use Rattle.theory.specs.Verdict.{TableVerdict, valid, clash, wrong, tableVerdict}
 use Rattle.site.specs.Record.{positions, size, faultOf, isFine}
@@ -20,9 +21,11 @@ verdictOf valid = Valid
 verdictOf (clash k a c) = Clash k (a + 1) (c + 1)
 verdictOf (wrong i n) = Count (i + 1) n
 
--- "Order: record 1, 2, 3, .. then 4, .. or 6 before 7." "4 lent table shorter than IN"
+-- "Order: record 1, 2, 3, .. then 4, .. or 6 before 7.": a check, by how much is lent, how much is due, and which cells are reserved where
+abbrev pub checkedBy : Site → (lent due : ℕ) → Reserved → CheckAnswer
+checkedBy s lent due res =
+    pick (isFine (faultOf s)) (pick (ltb lent due) TableShort (verdictOf (tableVerdict (netOf s) res))) (Refused (faultOf s))
+
+-- "4 lent table shorter than IN"
 unfoldable pub checkAnswer : Site → List ℕ → CheckAnswer
-checkAnswer s t =
-    pick (isFine (faultOf s))
-    (pick (ltb (length t) (size s)) TableShort (verdictOf (tableVerdict (netOf s) (reserved (positions s) t))))
-    (Refused (faultOf s))
+checkAnswer s t = checkedBy s (length t) (size s) (reserved (positions s) t)

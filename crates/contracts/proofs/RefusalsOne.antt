@@ -3,9 +3,11 @@
 use mathlib.Core.Path.{_≡_, refl}
 use mathlib.Core.List.{List}
 use Prim.Native.Nat.{_+_, ℕ}
-use Rattle.contracts.specs.RefusalsSays.{RefusalsRefused}
+use Rattle.contracts.specs.RefusalsSays.{RefusalsPutSentence, RefusalsRefused}
+use Rattle.refusals.specs.Sentences.{sentenceIn}
 use Rattle.refusals.specs.Words.{refusedLine}
 use Rattle.refusals.specs.declared.Place.{Place}
+use Rattle.refusals.specs.declared.Sentence.{Sentence}
 use lib.ListN.{length}
 use lib.Seq.{sets}
 
@@ -16,6 +18,17 @@ pub refusalsRefused-one : (out : List ℕ) (at : ℕ) (number : ℕ) (place : Pl
 refusalsRefused-one out at number place = (
   at + length (refusedLine number place),
   sets out at (refusedLine number place),
+  record { answer = refl; out-after = refl },
+  λ q out″ says. (says .answer, says .out-after),
+)
+
+-- refusals::put_sentence
+pub refusalsPutSentence-one : (out : List ℕ) (at : ℕ) (table : List ℕ) (sentence : Sentence)
+    → (r : ℕ) × (out′ : List ℕ) × (RefusalsPutSentence out at table sentence r out′)
+    × ((q : ℕ) (out″ : List ℕ) → RefusalsPutSentence out at table sentence q out″ → (q ≡ r) × (out″ ≡ out′))
+refusalsPutSentence-one out at table sentence = (
+  at + length (sentenceIn table sentence),
+  sets out at (sentenceIn table sentence),
   record { answer = refl; out-after = refl },
   λ q out″ says. (says .answer, says .out-after),
 )

@@ -4,7 +4,7 @@ use mathlib.Core.Path.{_≡_, refl}
 use mathlib.Core.List.{List}
 use Prim.Native.Nat.{_+_, ℕ}
 use Rattle.checker.specs.declared.CheckAnswer.{CheckAnswer}
-use Rattle.contracts.specs.VerdictsSays.{VerdictsCheckWords, VerdictsFaultWords, VerdictsMendWords, VerdictsOtherPlanLine, VerdictsPlanReadWords, VerdictsPlanWords, VerdictsReadWords, VerdictsShareWords, VerdictsSheetWords}
+use Rattle.contracts.specs.VerdictsSays.{VerdictsCheckWords, VerdictsFaultWords, VerdictsMendWords, VerdictsOtherPlanLine, VerdictsPlanWords, VerdictsReadWords, VerdictsShareWords, VerdictsSheetWords}
 use Rattle.mender.specs.declared.MendAnswer.{MendAnswer}
 use Rattle.planner.specs.declared.PlanAnswer.{PlanAnswer}
 use Rattle.records.specs.declared.ReadAnswer.{ReadAnswer}
@@ -12,20 +12,10 @@ use Rattle.shares.specs.declared.ShareAnswer.{ShareAnswer}
 use Rattle.sheet.specs.declared.SheetAnswer.{SheetAnswer}
 use Rattle.site.specs.declared.Fault.{Fault}
 use Rattle.site.specs.declared.Site.{Site}
-use Rattle.verdicts.specs.Words.{checkWords, faultWords, mendWords, otherPlanLine, planReadWords, planWords, readWords, shareWords, sheetWords}
+use Rattle.verdicts.specs.Words.{checkWords, faultWords, mendWords, otherPlanLine, planWords, readWords, shareWords, sheetWords}
+use Rattle.verdicts.specs.declared.File.{File}
 use lib.ListN.{length}
 use lib.Seq.{sets}
-
--- verdicts::other_plan_line
-pub verdictsOtherPlanLine-one : (out : List ℕ) (at : ℕ) (cells : ℕ) (slots : ℕ) (channels : ℕ)
-    → (r : ℕ) × (out′ : List ℕ) × (VerdictsOtherPlanLine out at cells slots channels r out′)
-    × ((q : ℕ) (out″ : List ℕ) → VerdictsOtherPlanLine out at cells slots channels q out″ → (q ≡ r) × (out″ ≡ out′))
-verdictsOtherPlanLine-one out at cells slots channels = (
-  at + length (otherPlanLine cells slots channels),
-  sets out at (otherPlanLine cells slots channels),
-  record { answer = refl; out-after = refl },
-  λ q out″ says. (says .answer, says .out-after),
-)
 
 -- verdicts::fault_words
 pub verdictsFaultWords-one : (out : List ℕ) (at : ℕ) (reply : Fault)
@@ -39,23 +29,12 @@ verdictsFaultWords-one out at reply = (
 )
 
 -- verdicts::read_words
-pub verdictsReadWords-one : (out : List ℕ) (at : ℕ) (reply : ReadAnswer)
-    → (r : ℕ) × (out′ : List ℕ) × (VerdictsReadWords out at reply r out′)
-    × ((q : ℕ) (out″ : List ℕ) → VerdictsReadWords out at reply q out″ → (q ≡ r) × (out″ ≡ out′))
-verdictsReadWords-one out at reply = (
-  at + length (readWords reply),
-  sets out at (readWords reply),
-  record { answer = refl; out-after = refl },
-  λ q out″ says. (says .answer, says .out-after),
-)
-
--- verdicts::plan_read_words
-pub verdictsPlanReadWords-one : (out : List ℕ) (at : ℕ) (reply : ReadAnswer)
-    → (r : ℕ) × (out′ : List ℕ) × (VerdictsPlanReadWords out at reply r out′)
-    × ((q : ℕ) (out″ : List ℕ) → VerdictsPlanReadWords out at reply q out″ → (q ≡ r) × (out″ ≡ out′))
-verdictsPlanReadWords-one out at reply = (
-  at + length (planReadWords reply),
-  sets out at (planReadWords reply),
+pub verdictsReadWords-one : (out : List ℕ) (at : ℕ) (file : File) (reply : ReadAnswer)
+    → (r : ℕ) × (out′ : List ℕ) × (VerdictsReadWords out at file reply r out′)
+    × ((q : ℕ) (out″ : List ℕ) → VerdictsReadWords out at file reply q out″ → (q ≡ r) × (out″ ≡ out′))
+verdictsReadWords-one out at file reply = (
+  at + length (readWords file reply),
+  sets out at (readWords file reply),
   record { answer = refl; out-after = refl },
   λ q out″ says. (says .answer, says .out-after),
 )
@@ -71,13 +50,13 @@ verdictsSheetWords-one out at reply = (
   λ q out″ says. (says .answer, says .out-after),
 )
 
--- verdicts::share_words
-pub verdictsShareWords-one : (out : List ℕ) (at : ℕ) (burst : ℕ) (period : ℕ) (reply : ShareAnswer)
-    → (r : ℕ) × (out′ : List ℕ) × (VerdictsShareWords out at burst period reply r out′)
-    × ((q : ℕ) (out″ : List ℕ) → VerdictsShareWords out at burst period reply q out″ → (q ≡ r) × (out″ ≡ out′))
-verdictsShareWords-one out at burst period reply = (
-  at + length (shareWords burst period reply),
-  sets out at (shareWords burst period reply),
+-- verdicts::check_words
+pub verdictsCheckWords-one : (out : List ℕ) (at : ℕ) (site : Site) (reply : CheckAnswer)
+    → (r : ℕ) × (out′ : List ℕ) × (VerdictsCheckWords out at site reply r out′)
+    × ((q : ℕ) (out″ : List ℕ) → VerdictsCheckWords out at site reply q out″ → (q ≡ r) × (out″ ≡ out′))
+verdictsCheckWords-one out at site reply = (
+  at + length (checkWords site reply),
+  sets out at (checkWords site reply),
   record { answer = refl; out-after = refl },
   λ q out″ says. (says .answer, says .out-after),
 )
@@ -93,13 +72,24 @@ verdictsPlanWords-one out at site reply = (
   λ q out″ says. (says .answer, says .out-after),
 )
 
--- verdicts::check_words
-pub verdictsCheckWords-one : (out : List ℕ) (at : ℕ) (site : Site) (reply : CheckAnswer)
-    → (r : ℕ) × (out′ : List ℕ) × (VerdictsCheckWords out at site reply r out′)
-    × ((q : ℕ) (out″ : List ℕ) → VerdictsCheckWords out at site reply q out″ → (q ≡ r) × (out″ ≡ out′))
-verdictsCheckWords-one out at site reply = (
-  at + length (checkWords site reply),
-  sets out at (checkWords site reply),
+-- verdicts::other_plan_line
+pub verdictsOtherPlanLine-one : (out : List ℕ) (at : ℕ) (cells : ℕ) (slots : ℕ) (channels : ℕ)
+    → (r : ℕ) × (out′ : List ℕ) × (VerdictsOtherPlanLine out at cells slots channels r out′)
+    × ((q : ℕ) (out″ : List ℕ) → VerdictsOtherPlanLine out at cells slots channels q out″ → (q ≡ r) × (out″ ≡ out′))
+verdictsOtherPlanLine-one out at cells slots channels = (
+  at + length (otherPlanLine cells slots channels),
+  sets out at (otherPlanLine cells slots channels),
+  record { answer = refl; out-after = refl },
+  λ q out″ says. (says .answer, says .out-after),
+)
+
+-- verdicts::share_words
+pub verdictsShareWords-one : (out : List ℕ) (at : ℕ) (burst : ℕ) (period : ℕ) (reply : ShareAnswer)
+    → (r : ℕ) × (out′ : List ℕ) × (VerdictsShareWords out at burst period reply r out′)
+    × ((q : ℕ) (out″ : List ℕ) → VerdictsShareWords out at burst period reply q out″ → (q ≡ r) × (out″ ≡ out′))
+verdictsShareWords-one out at burst period reply = (
+  at + length (shareWords burst period reply),
+  sets out at (shareWords burst period reply),
   record { answer = refl; out-after = refl },
   λ q out″ says. (says .answer, says .out-after),
 )

@@ -2,8 +2,10 @@
 use mathlib.Core.Path.{_≡_}
 use mathlib.Core.List.{List}
 use Prim.Native.Nat.{_+_, ℕ}
+use Rattle.refusals.specs.Sentences.{sentenceIn}
 use Rattle.refusals.specs.Words.{refusedLine}
 use Rattle.refusals.specs.declared.Place.{Place}
+use Rattle.refusals.specs.declared.Sentence.{Sentence}
 use lib.ListN.{length}
 use lib.Seq.{sets}
 
@@ -11,3 +13,8 @@ use lib.Seq.{sets}
 pub record RefusalsRefused (out : List ℕ) (at : ℕ) (number : ℕ) (place : Place) (r : ℕ) (out′ : List ℕ) : Type 0 where
   pub answer : r ≡ at + length (refusedLine number place)
   pub out-after : out′ ≡ sets out at (refusedLine number place)
+
+-- refusals::put_sentence
+pub record RefusalsPutSentence (out : List ℕ) (at : ℕ) (table : List ℕ) (sentence : Sentence) (r : ℕ) (out′ : List ℕ) : Type 0 where
+  pub answer : r ≡ at + length (sentenceIn table sentence)
+  pub out-after : out′ ≡ sets out at (sentenceIn table sentence)

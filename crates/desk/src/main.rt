@@ -26,6 +26,7 @@ use sheet::SheetWritten;
 use site::Fault;
 use site::Site;
 use sitefile::SiteWritten;
+use verdicts::File;
 ghost use mathlib.Core.Path.{_≡_};
 ghost use mathlib.Core.Bool.{true, _&&_};
 ghost use Prim.Native.Nat.{_+_, _≤_};
@@ -46,7 +47,7 @@ fn refuse(words: &mut [u8], input: &[u8], answer: ReadAnswer)
     requires { ⌜ 65536 ≤ length (now words) ⌝ }
 {
     reply::named(FIRST_NAME, input, Input::SiteFile);
-    let end = verdicts::read_words(words, 0, answer);
+    let end = verdicts::read_words(words, 0, File::SiteFile, answer);
     no(words, end);
 }
 
@@ -118,7 +119,7 @@ fn read_pair(input: &[u8], second: &[u8], table: &mut [u8], words: &mut [u8]) ->
     let plan_answer = plan.answer;
     let ReadAnswer::Done = plan_answer else {
         reply::named(SECOND_NAME, second, Input::PlanFile);
-        let end = verdicts::plan_read_words(words, 0, plan_answer);
+        let end = verdicts::read_words(words, 0, File::PlanFile, plan_answer);
         no(words, end);
         return Pair { site, good: false };
     };

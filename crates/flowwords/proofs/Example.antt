@@ -1,6 +1,7 @@
 -- The words of an admission, computed letter by letter: the call is asked, and its answer said. A list of loads or rows that ends early goes on with zeros.
 -- Assumes nothing.
 use Prim.Native.Nat.{ℕ, zero, suc}
+use Prim.Native.String.{_++_}
 use mathlib.Core.List.{List, [], _∷_}
 use mathlib.Core.Path.{_≡_, refl}
 use Rattle.laws.specs.Search.{firstOf}
@@ -16,8 +17,10 @@ use Rattle.bestset.specs.Best.{allowed, bestOf, best}
 use Rattle.flowlist.specs.declared.Flow.{Flow}
 use Rattle.flowsheet.specs.declared.FlowsAnswer.the-variants as flows
 use Rattle.admission.specs.Admit.{badIn, refusedIn, firstBadIn, answerIn}
+use Rattle.refusals.specs.Lines.{meanings, heads}
 use Rattle.refusals.specs.Words.{meaning, refusedLine}
 use Rattle.refusals.specs.declared.Place.the-variants.{Nowhere}
+use Rattle.flowwords.specs.Lines.{lines, chainLines}
 use Rattle.flowwords.specs.Words.{listWords, nineteenWords, admitWords, flowSheetWords}
 
 -- what is said of an admission
@@ -46,7 +49,7 @@ taken :
     ≡ bytes "the loads of the site are set aside\nflow 1: cell 1, share 6, value 10, not taken\nflow 2: cell 2, share 16, value 30, taken\nworth 30\n"
     ∷ bytes "the loads of the site are set aside\nflow 1: cell 1, share 6, value 10, taken\nflow 2: cell 2, share 8, value 30, taken\nworth 40\n" ∷ []
 unfolding firstOf sum overloaded lowestOver loadVerdict gap breaks breakOf firstBreak chainVerdict upTo sizeOk rowBad extraLoad badRow faultOf
-    reaches clashIn roundedUp shareOf allowed bestOf best badIn refusedIn firstBadIn answerIn listWords spoken decimal digitsOf
+    reaches clashIn roundedUp shareOf allowed bestOf best badIn refusedIn firstBadIn answerIn lines listWords spoken decimal digitsOf
 taken = refl
 
 -- each refusal: 2, 15 and 16 with the flow's number, 18 alone, 19 with the three cells, and a record's own; and those of a sheet of flows
@@ -59,12 +62,14 @@ refused :
     ∷ bytes "refused 15, flow 1: the burst or the period of a flow is not 1 to 65,535, or its repeats are not 1 to 4\n"
     ∷ bytes "refused 16, flow 2: the flow needs a share above 65,535 fragments in a superframe, its repeats counted\n"
     ∷ bytes "refused 18: more than 16 flows ask to be admitted\n"
-    ∷ bytes "refused 19: the site is not chained when all its cells count, the spare ones too: cells 1 and 4 clash, and cell 2 between them does not clash with cell 1\n"
+    ∷ bytes (
+    "refused 19: the site is not chained when all its cells count, the spare ones too: "
+    ++ "cells 1 and 4 clash, and cell 2 between them does not clash with cell 1\n")
     ∷ bytes "refused 3, cell 2: the reach has a cell that reaches itself, or a cell that the site does not have\n"
     ∷ bytes "refused 17, line 3: the sheet is malformed: a line is not as the format asks, or is missing, or is one too many\n"
     ∷ [] ∷ []
 unfolding firstOf sum gap breaks breakOf firstBreak chainVerdict upTo sizeOk rowBad extraLoad badRow faultOf reaches clashIn roundedUp shareOf
-    badIn refusedIn firstBadIn answerIn nineteenWords meaning refusedLine spoken decimal digitsOf
+    badIn refusedIn firstBadIn answerIn chainLines nineteenWords meanings heads meaning refusedLine spoken decimal digitsOf
 refused = refl
 
 -- and 18 of a sheet as of an admission; the letters are in crate `refusals`

@@ -12,7 +12,9 @@ use Rattle.shares.proofs.ShareAnswer.{the-type}
 use Rattle.admission.specs.Admit.{amount, isShare}
 use Rattle.admission.proofs.Asking.{no-share}
 use Rattle.flowlist.specs.declared.Flow.{Flow}
-use Rattle.flowwords.specs.Words.{flowWords, listWords}
+use Rattle.phrases.specs.Phrases.{phrase}
+use Rattle.flowwords.specs.Lines.{lines}
+use Rattle.flowwords.specs.Words.{flowPhrase, listWords}
 
 none-asked : (a : ShareAnswer) → isShare a ≡ false → amount a ≡ 0
 none-asked (share.Done s q d) h = absurd (true≢false h)
@@ -23,6 +25,6 @@ none-asked share.BigShare h = refl
 pub no-amount : (a : ShareAnswer) → OneOf (1 ∷ 2 ∷ 3 ∷ []) (tagOf the-type a) → amount a ≡ 0
 no-amount a h = none-asked a (no-share a h)
 
-pub list-more : (slots set : ℕ) (f : ℕ → Flow) (k : ℕ) → listWords slots set f (k + 1) ≡ listWords slots set f k ++ flowWords slots set (f k) k
+pub list-more : (slots set : ℕ) (f : ℕ → Flow) (k : ℕ) → listWords slots set f (k + 1) ≡ listWords slots set f k ++ phrase lines (flowPhrase slots set (f k) k)
 unfolding listWords
 list-more slots set f k = ap (listWords slots set f) (add-one k)

@@ -1,2 +1,3 @@
 -- The definitions of crate `flowwords`, module by module.
+pub mod Lines
 pub mod Words

@@ -16,47 +16,37 @@ use Rattle.bestset.specs.Best.{worth}
 use Rattle.admission.specs.Admit.{shareIn, amount, flowsIn}
 use Rattle.admission.specs.declared.AdmitAnswer.{AdmitAnswer}
 use Rattle.admission.specs.declared.AdmitAnswer.the-variants as admit
-use Rattle.speech.specs.Speech.{said}
+use Rattle.phrases.specs.Phrases.{phrase}
+use Rattle.phrases.specs.declared.Phrase.{Phrase}
+use Rattle.phrases.specs.declared.Phrase.the-variants.{Row}
 use Rattle.refusals.specs.Words.{refusedLine}
 use Rattle.refusals.specs.declared.Place.the-variants as place
 use Rattle.verdicts.specs.Words.{faultWords}
-
--- ---- the lines
-
--- "The site's own loads are set aside: every cell starts at 0."
-abbrev pub asideLine : List ℕ
-asideLine = said "the loads of the site are set aside\n" 0 0 0 0
-
-abbrev pub takenLine : (number cell share value : ℕ) → List ℕ
-takenLine number cell share value = said "flow @1: cell @2, share @3, value @4, taken\n" number cell share value
-
-abbrev pub leftLine : (number cell share value : ℕ) → List ℕ
-leftLine number cell share value = said "flow @1: cell @2, share @3, value @4, not taken\n" number cell share value
-
-abbrev pub worthLine : (w : ℕ) → List ℕ
-worthLine w = said "worth @1\n" w 0 0 0
-
--- a and c clash, and b between them does not clash with a. Up to the colon it is the sentence of number 19, as crate `refusals` has it
-abbrev pub brokenLine : (a b c : ℕ) → List ℕ
-brokenLine a b c =
-    said "refused 19: the site is not chained when all its cells count, the spare ones too: cells @1 and @3 clash, and cell @2 between them does not clash with cell @1\n"
-    a b c 0
+use Rattle.flowwords.specs.Lines.{lines, chainLines, asideRow, takenRow, leftRow, worthRow, brokenRow}
 
 -- ---- the flows
 
--- the line of the flow at place k: it is taken where its bit is in the set
-abbrev pub flowWords : (slots set : ℕ) → Flow → ℕ → List ℕ
-flowWords slots set f k =
-    pick (bitAt set k)
-    (takenLine (k + 1) (f .cell) (amount (shareIn slots f)) (f .value))
-    (leftLine (k + 1) (f .cell) (amount (shareIn slots f)) (f .value))
+-- "The site's own loads are set aside: every cell starts at 0."
+abbrev pub asidePhrase : Phrase
+asidePhrase = Row asideRow 0 0 0 0
+
+-- the flow at place k: it is taken where its bit is in the set
+abbrev pub flowPhrase : (slots set : ℕ) → Flow → ℕ → Phrase
+flowPhrase slots set f k = Row (pick (bitAt set k) takenRow leftRow) (k + 1) (f .cell) (amount (shareIn slots f)) (f .value)
 
 -- the lines of the first n flows, in order
 unfoldable pub listWords : (slots set : ℕ) → (ℕ → Flow) → ℕ → List ℕ
 listWords slots set f zero = []
-listWords slots set f (suc k) = listWords slots set f k ++ flowWords slots set (f k) k
+listWords slots set f (suc k) = listWords slots set f k ++ phrase lines (flowPhrase slots set (f k) k)
+
+abbrev pub worthPhrase : (w : ℕ) → Phrase
+worthPhrase w = Row worthRow w 0 0 0
 
 -- ---- the chain
+
+-- a and c clash, and b between them does not clash with a
+abbrev pub brokenLine : (a b c : ℕ) → List ℕ
+brokenLine a b c = phrase chainLines (Row brokenRow a b c 0)
 
 -- the first three cells that break the chain, by number
 abbrev pub brokenWords : ChainVerdict → List ℕ
@@ -72,7 +62,8 @@ nineteenWords s = pick (isFine (faultOf s)) (brokenWords (chainVerdict (netOf s)
 
 -- "which flows to take", and their total value; or the refusal: "18 over 16 flows, 19 site not chained, then per flow 2, 15, 16 with the flow's number"
 abbrev pub admitWords : Site → (ℕ → Flow) → ℕ → AdmitAnswer → List ℕ
-admitWords s f n (admit.Admitted set) = asideLine ++ (listWords (s .slots) set f n ++ worthLine (worth (flowsIn (s .slots) f n) set))
+admitWords s f n (admit.Admitted set) =
+    phrase lines asidePhrase ++ (listWords (s .slots) set f n ++ phrase lines (worthPhrase (worth (flowsIn (s .slots) f n) set)))
 admitWords s f n admit.TooMany = refusedLine 18 place.Nowhere
 admitWords s f n admit.NotChained = nineteenWords s
 admitWords s f n (admit.BadCell k) = refusedLine 2 (place.Flow k)

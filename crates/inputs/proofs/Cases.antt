@@ -2,14 +2,14 @@
 use Prim.Native.Nat.{ℕ, _≤_, _<_}
 use mathlib.Core.Path.{_≡_, sym, _∙_}
 use mathlib.Core.Bool.{true, false}
-use mathlib.Core.List.{List, _++_}
+use mathlib.Core.List.{List}
 use lib.ListN.{length}
 use borrow.Author.Tests.{lt-ltb, le-ltb, eq-eqb, ne-eqb}
 use Rattle.records.specs.Bytes.{le16}
 use Rattle.lines.specs.Match.{starts}
 use Rattle.speech.specs.Speech.{bytes}
 use Rattle.inputs.specs.Files.{byKind, houseFile, inputOf}
-use Rattle.inputs.specs.Words.{numberOf, plainWords, foundWords, askedWords, fileWords}
+use Rattle.inputs.specs.Words.{numberOf, plainWords, otherWords, fileWords}
 use Rattle.inputs.specs.declared.Input.{Input as File}
 use Rattle.inputs.specs.declared.Input.the-variants.{RangeSheet, FlowSheet, Other}
 
@@ -51,6 +51,6 @@ module _ (found asked : File) (a b : ℕ) (ea : a ≡ numberOf found) (eb : b �
   unfolding fileWords
   said-same n h = rw (ne-eqb (numberOf found) 0 (λ q. n (ea ∙ q)), eq-eqb (numberOf found) (numberOf asked) (sym ea ∙ h ∙ eb))
 
-  pub said-other : (a ≡ 0 → ⊥) → (a ≡ b → ⊥) → (foundWords a ++ askedWords b) ≡ fileWords found asked
+  pub said-other : (a ≡ 0 → ⊥) → (a ≡ b → ⊥) → otherWords found asked ≡ fileWords found asked
   unfolding fileWords
-  said-other n m = rw (ne-eqb (numberOf found) 0 (λ q. n (ea ∙ q)), ne-eqb (numberOf found) (numberOf asked) (λ q. m (ea ∙ q ∙ sym eb)), ea, eb)
+  said-other n m = rw (ne-eqb (numberOf found) 0 (λ q. n (ea ∙ q)), ne-eqb (numberOf found) (numberOf asked) (λ q. m (ea ∙ q ∙ sym eb)))

@@ -5,7 +5,8 @@ use mathlib.Core.List.{[], _∷_}
 use Rattle.lines.specs.Match.{starts}
 use Rattle.speech.specs.Speech.{bytes, spoken}
 use Rattle.inputs.specs.Files.{byKind, houseFile, inputOf}
-use Rattle.inputs.specs.Words.{foundWords, askedWords, fileWords}
+use Rattle.inputs.specs.Lines.{lines}
+use Rattle.inputs.specs.Words.{fileWords}
 use Rattle.inputs.specs.declared.Input.the-variants.{SiteFile, PlanFile, RangeSheet, FlowSheet, Other}
 
 site-file : inputOf (8 ∷ 0 ∷ 1 ∷ 0 ∷ 3 ∷ 0 ∷ 3 ∷ 0 ∷ 2 ∷ 0 ∷ 8 ∷ 0 ∷ 2 ∷ 0 ∷ []) ≡ SiteFile
@@ -32,18 +33,17 @@ another : inputOf (bytes "cell by cell, and so on") ≡ Other
 unfolding inputOf houseFile byKind starts
 another = refl
 
-plan-for-site : fileWords PlanFile SiteFile ≡ bytes " is a plan file; a site file is asked for: "
-unfolding fileWords foundWords askedWords spoken
-plan-for-site = refl
+-- each file as what came, and as what was asked for
+others-said :
+    fileWords PlanFile SiteFile ∷ fileWords SiteFile PlanFile ∷ fileWords RangeSheet FlowSheet ∷ fileWords FlowSheet RangeSheet ∷ []
+    ≡ bytes " is a plan file; a site file is asked for: "
+    ∷ bytes " is a site file; a plan file is asked for: "
+    ∷ bytes " is a range sheet; a sheet of flows is asked for: "
+    ∷ bytes " is a sheet of flows; a range sheet is asked for: " ∷ []
+unfolding fileWords lines spoken
+others-said = refl
 
-range-for-flows : fileWords RangeSheet FlowSheet ≡ bytes " is a range sheet; a sheet of flows is asked for: "
-unfolding fileWords foundWords askedWords spoken
-range-for-flows = refl
-
-site-for-site : fileWords SiteFile SiteFile ≡ bytes ": "
-unfolding fileWords spoken
-site-for-site = refl
-
-other-for-plan : fileWords Other PlanFile ≡ bytes ": "
-unfolding fileWords spoken
-other-for-plan = refl
+-- the one that was asked for, and none
+nothing-said : fileWords SiteFile SiteFile ∷ fileWords Other PlanFile ∷ [] ≡ bytes ": " ∷ bytes ": " ∷ []
+unfolding fileWords lines spoken
+nothing-said = refl

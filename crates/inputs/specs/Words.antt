@@ -3,7 +3,11 @@ use Prim.Native.Nat.{ℕ}
 use mathlib.Core.List.{List, _++_}
 use lib.Dec.{eqb}
 use Rattle.laws.specs.Choice.{pick}
-use Rattle.speech.specs.Speech.{said}
+use Rattle.phrases.specs.Phrases.{phrase}
+use Rattle.phrases.specs.declared.Phrase.{Phrase}
+use Rattle.phrases.specs.declared.Phrase.the-variants.{Silent, Row}
+use Rattle.inputs.specs.Lines.{lines, plainRow, isSiteFileRow, isPlanFileRow, isRangeSheetRow, isFlowSheetRow}
+use Rattle.inputs.specs.Lines.{askSiteFileRow, askPlanFileRow, askRangeSheetRow, askFlowSheetRow}
 use Rattle.inputs.specs.declared.Input.{Input as File}
 use Rattle.inputs.specs.declared.Input.the-variants.{SiteFile, PlanFile, RangeSheet, FlowSheet, Other}
 
@@ -15,26 +19,31 @@ numberOf RangeSheet = 3
 numberOf FlowSheet = 4
 numberOf Other = 0
 
+-- what the file is
+abbrev pub foundPhrase : File → Phrase
+foundPhrase SiteFile = Row isSiteFileRow 0 0 0 0
+foundPhrase PlanFile = Row isPlanFileRow 0 0 0 0
+foundPhrase RangeSheet = Row isRangeSheetRow 0 0 0 0
+foundPhrase FlowSheet = Row isFlowSheetRow 0 0 0 0
+foundPhrase Other = Silent
+
+-- what was asked for
+abbrev pub askedPhrase : File → Phrase
+askedPhrase SiteFile = Row askSiteFileRow 0 0 0 0
+askedPhrase PlanFile = Row askPlanFileRow 0 0 0 0
+askedPhrase RangeSheet = Row askRangeSheetRow 0 0 0 0
+askedPhrase FlowSheet = Row askFlowSheetRow 0 0 0 0
+askedPhrase Other = Silent
+
 abbrev pub plainWords : List ℕ
-plainWords = said ": " 0 0 0 0
+plainWords = phrase lines (Row plainRow 0 0 0 0)
 
-unfoldable pub foundWords : ℕ → List ℕ
-foundWords number =
-    pick (eqb number 1) (said " is a site file; " 0 0 0 0) (
-    pick (eqb number 2) (said " is a plan file; " 0 0 0 0) (
-    pick (eqb number 3) (said " is a range sheet; " 0 0 0 0) (
-    said " is a sheet of flows; " 0 0 0 0)))
-
-unfoldable pub askedWords : ℕ → List ℕ
-askedWords number =
-    pick (eqb number 1) (said "a site file is asked for: " 0 0 0 0) (
-    pick (eqb number 2) (said "a plan file is asked for: " 0 0 0 0) (
-    pick (eqb number 3) (said "a range sheet is asked for: " 0 0 0 0) (
-    said "a sheet of flows is asked for: " 0 0 0 0)))
+abbrev pub otherWords : (found asked : File) → List ℕ
+otherWords found asked = phrase lines (foundPhrase found) ++ phrase lines (askedPhrase asked)
 
 -- where the bytes show no file, or the one that is asked for, there is nothing to say
 unfoldable pub fileWords : (found asked : File) → List ℕ
 fileWords found asked =
     pick (eqb (numberOf found) 0) plainWords (
     pick (eqb (numberOf found) (numberOf asked)) plainWords (
-    foundWords (numberOf found) ++ askedWords (numberOf asked)))
+    otherWords found asked))

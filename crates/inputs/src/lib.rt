@@ -1,18 +1,38 @@
 // What a file is, by its first bytes; and the words after its name that say so, where another one was asked for. A function of words puts them at `at` and
 // answers where the next byte goes.
 use lines::eat_text;
+use phrases::Phrase;
+use phrases::put_phrase;
 use records::word;
-use speech::say;
 ghost use mathlib.Core.Path.{_≡_};
-ghost use mathlib.Core.List.{_++_};
 ghost use Prim.Native.Nat.{_+_, _≤_};
 ghost use lib.ListN.{length};
-ghost use lib.Seq.{sets};
 ghost use Rattle.lines.specs.Match.{starts};
+ghost use Rattle.phrases.specs.Put.{Put};
+ghost use Rattle.phrases.specs.Phrases.{phrase};
 ghost use Rattle.inputs.specs.Files.{byKind, houseFile, inputOf};
-ghost use Rattle.inputs.specs.Words.{numberOf, plainWords, foundWords, askedWords, fileWords};
+ghost use Rattle.inputs.specs.Lines.{lines};
+ghost use Rattle.inputs.specs.Words.{numberOf, foundPhrase, askedPhrase, otherWords, fileWords};
 
 const NOWHERE: usize = 18446744073709551615;
+
+const PLAIN: usize = 0;
+
+const IS_SITE_FILE: usize = 1;
+
+const IS_PLAN_FILE: usize = 2;
+
+const IS_RANGE_SHEET: usize = 3;
+
+const IS_FLOW_SHEET: usize = 4;
+
+const ASK_SITE_FILE: usize = 5;
+
+const ASK_PLAN_FILE: usize = 6;
+
+const ASK_RANGE_SHEET: usize = 7;
+
+const ASK_FLOW_SHEET: usize = 8;
 
 // The product's files, and any other.
 pub enum Input {
@@ -91,79 +111,74 @@ fn number_of(input: Input) -> usize
     }
 }
 
-// What comes after a name of which nothing is said.
-fn plain_words(out: &mut [u8], at: usize) -> usize
+// Puts a row of the table, or nothing.
+fn put(out: &mut [u8], at: usize, what: Phrase) -> usize
     requires { ⌜ at + 500 ≤ length (now out) ⌝ }
-    ensures stored { λ r. ⌜ now (out .exit) ≡ sets (now (out .entry)) at plainWords ⌝ }
-    ensures next { λ r. ⌜ r ≡ at + length plainWords ⌝ }
-    ensures short { λ r. ⌜ r ≤ at + 500 ⌝ }
+    ensures { λ r. ⌜ Put (now (out .entry)) at (phrase lines what) 500 (now (out .exit)) r ⌝ }
 {
-    say(out, at, b": ", 0, 0, 0, 0)
+    put_phrase(
+        out,
+        at,
+        b": |\
+          \x20is a site file; |\
+          \x20is a plan file; |\
+          \x20is a range sheet; |\
+          \x20is a sheet of flows; |\
+          a site file is asked for: |\
+          a plan file is asked for: |\
+          a range sheet is asked for: |\
+          a sheet of flows is asked for: |",
+        what,
+    )
 }
 
-// What the file is, by its number in the list.
-fn found_words(out: &mut [u8], at: usize, number: usize) -> usize
-    requires { ⌜ at + 500 ≤ length (now out) ⌝ }
-    ensures stored { λ r. ⌜ now (out .exit) ≡ sets (now (out .entry)) at (foundWords number) ⌝ }
-    ensures next { λ r. ⌜ r ≡ at + length (foundWords number) ⌝ }
-    ensures short { λ r. ⌜ r ≤ at + 500 ⌝ }
+// What a file is.
+fn found_phrase(input: Input) -> Phrase
+    ensures { λ r. ⌜ r ≡ foundPhrase input ⌝ }
 {
-    if number == 1 {
-        return say(out, at, b" is a site file; ", 0, 0, 0, 0);
+    match input {
+        Input::SiteFile => Phrase::Row(IS_SITE_FILE, 0, 0, 0, 0),
+        Input::PlanFile => Phrase::Row(IS_PLAN_FILE, 0, 0, 0, 0),
+        Input::RangeSheet => Phrase::Row(IS_RANGE_SHEET, 0, 0, 0, 0),
+        Input::FlowSheet => Phrase::Row(IS_FLOW_SHEET, 0, 0, 0, 0),
+        Input::Other => Phrase::Silent,
     }
-    if number == 2 {
-        return say(out, at, b" is a plan file; ", 0, 0, 0, 0);
-    }
-    if number == 3 {
-        return say(out, at, b" is a range sheet; ", 0, 0, 0, 0);
-    }
-    say(out, at, b" is a sheet of flows; ", 0, 0, 0, 0)
 }
 
-// What was asked for, by its number in the list.
-fn asked_words(out: &mut [u8], at: usize, number: usize) -> usize
-    requires { ⌜ at + 500 ≤ length (now out) ⌝ }
-    ensures stored { λ r. ⌜ now (out .exit) ≡ sets (now (out .entry)) at (askedWords number) ⌝ }
-    ensures next { λ r. ⌜ r ≡ at + length (askedWords number) ⌝ }
-    ensures short { λ r. ⌜ r ≤ at + 500 ⌝ }
+// What was asked for.
+fn asked_phrase(input: Input) -> Phrase
+    ensures { λ r. ⌜ r ≡ askedPhrase input ⌝ }
 {
-    if number == 1 {
-        return say(out, at, b"a site file is asked for: ", 0, 0, 0, 0);
+    match input {
+        Input::SiteFile => Phrase::Row(ASK_SITE_FILE, 0, 0, 0, 0),
+        Input::PlanFile => Phrase::Row(ASK_PLAN_FILE, 0, 0, 0, 0),
+        Input::RangeSheet => Phrase::Row(ASK_RANGE_SHEET, 0, 0, 0, 0),
+        Input::FlowSheet => Phrase::Row(ASK_FLOW_SHEET, 0, 0, 0, 0),
+        Input::Other => Phrase::Silent,
     }
-    if number == 2 {
-        return say(out, at, b"a plan file is asked for: ", 0, 0, 0, 0);
-    }
-    if number == 3 {
-        return say(out, at, b"a range sheet is asked for: ", 0, 0, 0, 0);
-    }
-    say(out, at, b"a sheet of flows is asked for: ", 0, 0, 0, 0)
 }
 
-// Both, for two numbers.
-fn other_words(out: &mut [u8], at: usize, found: usize, asked: usize) -> usize
+// Both.
+fn put_other(out: &mut [u8], at: usize, found: Input, asked: Input) -> usize
     requires { ⌜ at + 1000 ≤ length (now out) ⌝ }
-    ensures stored { λ r. ⌜ now (out .exit) ≡ sets (now (out .entry)) at (foundWords found ++ askedWords asked) ⌝ }
-    ensures next { λ r. ⌜ r ≡ at + length (foundWords found ++ askedWords asked) ⌝ }
-    ensures short { λ r. ⌜ r ≤ at + 1000 ⌝ }
+    ensures { λ r. ⌜ Put (now (out .entry)) at (otherWords found asked) 1000 (now (out .exit)) r ⌝ }
 {
-    let middle = found_words(out, at, found);
-    asked_words(out, middle, asked)
+    let middle = put(out, at, found_phrase(found));
+    put(out, middle, asked_phrase(asked))
 }
 
 // What is said after the name of a file: what it is, where its bytes show another than the one asked for.
 pub fn file_words(out: &mut [u8], at: usize, found: Input, asked: Input) -> usize
     requires { ⌜ at + 1000 ≤ length (now out) ⌝ }
-    ensures stored { λ r. ⌜ now (out .exit) ≡ sets (now (out .entry)) at (fileWords found asked) ⌝ }
-    ensures next { λ r. ⌜ r ≡ at + length (fileWords found asked) ⌝ }
-    ensures short { λ r. ⌜ r ≤ at + 1000 ⌝ }
+    ensures { λ r. ⌜ Put (now (out .entry)) at (fileWords found asked) 1000 (now (out .exit)) r ⌝ }
 {
     let a = number_of(found);
     let b = number_of(asked);
     if a == 0 {
-        return plain_words(out, at);
+        return put(out, at, Phrase::Row(PLAIN, 0, 0, 0, 0));
     }
     if a == b {
-        return plain_words(out, at);
+        return put(out, at, Phrase::Row(PLAIN, 0, 0, 0, 0));
     }
-    other_words(out, at, a, b)
+    put_other(out, at, found, asked)
 }

@@ -21,9 +21,10 @@ use Rattle.records.specs.declared.ReadAnswer.the-variants.{Done, Refused}
 use Rattle.records.specs.Bytes.{Bytes}
 use Rattle.sitefile.specs.Read.{readSite}
 use Rattle.sitefile.proofs.Trip.{read-fine}
-use Rattle.listing.specs.Lines.{refusedLine, cellLine}
-use Rattle.lister.specs.Listing.{headLines, cellLines, cellsOf, listingOf, listing}
-use Rattle.lister.specs.Parts.{headOf, tableAfter, rowCount, siteRest, restOf}
+use Rattle.phrases.specs.Phrases.{phrase}
+use Rattle.listing.specs.Lines.{listingLines, cellLine}
+use Rattle.lister.specs.Listing.{headLines, unreadLine, cellLines, cellsOf, listingOf, listing}
+use Rattle.lister.specs.Parts.{headOf, tableAfter, rowCount, siteRest, restOf, fileHead, fileTable, fileRest}
 
 -- rows that stand in the first part of a table
 front :
@@ -50,7 +51,8 @@ cells-read s t fine long = go (greedy (netOf s)) refl
     go (planned u) e =
         let table : planTable s t ≡ u ++ drop (size s) t = run-table s t fine held ∙ ap (λ (o : Outcome). tableOf (size s) o ++ drop (size s) t) e in
         let fits : (0 + s .cells) * positions s ≤ length u = omega (arith, planned-size (netOf s) u e) in
-        sym (ap (λ (l : List ℕ). cellLines (s .channels) (positions s) l 0 (s .cells)) table ∙ front (s .channels) (positions s) u (drop (size s) t) 0 (s .cells) fits)
+        sym (ap (λ (l : List ℕ). cellLines (s .channels) (positions s) l 0 (s .cells)) table
+        ∙ front (s .channels) (positions s) u (drop (size s) t) 0 (s .cells) fits)
     go (noRoom c m) e = unfold cellLines in refl
 
 parts :
@@ -58,16 +60,11 @@ parts :
     listingOf s a ≡ headOf s a ++ cellLines (restOf s a .channels) (restOf s a .width) (tableAfter s a t) 0 (restOf s a .rows)
 unfolding siteRest
 parts s t Done fine long = ap (λ (l : List ℕ). headLines s ++ l) (cells-read s t (fine refl) long)
-parts s t (Refused number offset) fine long = unfold cellLines in sym (append-nil (refusedLine number offset))
+parts s t (Refused number offset) fine long = unfold cellLines in sym (append-nil (phrase listingLines (unreadLine number offset)))
 
 -- what the program writes, all together: `head` gives the first part, and `row_line` each line of the second
 pub printed :
     (file t : List ℕ) → Bytes file → 65536 ≤ length t →
-    listing file
-    ≡ headOf (readSite file .site) (readSite file .answer)
-    ++ cellLines (restOf (readSite file .site) (readSite file .answer) .channels) (restOf (readSite file .site) (readSite file .answer) .width)
-    (tableAfter (readSite file .site) (readSite file .answer) t)
-    0
-    (restOf (readSite file .site) (readSite file .answer) .rows)
+    listing file ≡ fileHead file ++ cellLines (fileRest file .channels) (fileRest file .width) (fileTable file t) 0 (fileRest file .rows)
 unfolding listing
 printed file t bytes long = parts (readSite file .site) t (readSite file .answer) (read-fine file bytes) long

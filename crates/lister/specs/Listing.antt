@@ -17,34 +17,48 @@ use Rattle.planner.specs.declared.PlanAnswer.the-variants as plan
 use Rattle.records.specs.declared.ReadAnswer.{ReadAnswer}
 use Rattle.records.specs.declared.ReadAnswer.the-variants.{Done, Refused}
 use Rattle.sitefile.specs.Read.{readSite}
-use Rattle.listing.specs.Lines.{siteLine, chainYes, chainNo, loadHolds, loadOver, planDone, planShort, refusedLine, cellLine}
+use Rattle.phrases.specs.Phrases.{phrase}
+use Rattle.phrases.specs.declared.Phrase.{Phrase}
+use Rattle.phrases.specs.declared.Phrase.the-variants.{Silent, Row}
+use Rattle.listing.specs.Lines.{listingLines, siteRow, chainYesRow, chainNoRow, loadHoldsRow, loadOverRow, planDoneRow, planShortRow, refusedRow, cellLine}
+
+-- "Fields: cells, slots, channels"
+abbrev pub siteLine : Site → Phrase
+siteLine s = Row siteRow (s .cells) (s .slots) (s .channels) 0
 
 -- "chain yes", "Otherwise chain no a b c". A site that was read has no fault, so that here and below the cases of a refused record never come.
-abbrev pub chainLine : ChainAnswer → List ℕ
-chainLine chain.Chained = chainYes
-chainLine (chain.Broken a b c) = chainNo a b c
-chainLine (chain.Refused f) = []
+abbrev pub chainLine : ChainAnswer → Phrase
+chainLine chain.Chained = Row chainYesRow 0 0 0 0
+chainLine (chain.Broken a b c) = Row chainNoRow a b c 0
+chainLine (chain.Refused f) = Silent
 
 -- "load holds", "Otherwise .. load over cell excess"
-abbrev pub loadLine : LoadAnswer → List ℕ
-loadLine load.Holds = loadHolds
-loadLine (load.Over cell excess) = loadOver cell excess
-loadLine (load.Refused f) = []
+abbrev pub loadLine : LoadAnswer → Phrase
+loadLine load.Holds = Row loadHoldsRow 0 0 0 0
+loadLine (load.Over cell excess) = Row loadOverRow cell excess 0 0
+loadLine (load.Refused f) = Silent
 
 -- "plan done", "Otherwise .. plan 5 cell short"
-abbrev pub planLine : PlanAnswer → List ℕ
-planLine plan.Done = planDone
-planLine (plan.NoRoom cell short) = planShort cell short
-planLine plan.TableShort = []
-planLine (plan.Refused f) = []
+abbrev pub planLine : PlanAnswer → Phrase
+planLine plan.Done = Row planDoneRow 0 0 0 0
+planLine (plan.NoRoom cell short) = Row planShortRow cell short 0 0
+planLine plan.TableShort = Silent
+planLine (plan.Refused f) = Silent
 
--- "Fields: cells, slots, channels; verdicts"
+-- "Fields: cells, slots, channels; verdicts", with the planner's answer
+abbrev pub headWith : Site → PlanAnswer → List ℕ
+headWith s answer =
+    phrase listingLines (siteLine s)
+    ++ (phrase listingLines (chainLine (chainAnswer s))
+    ++ (phrase listingLines (loadLine (loadAnswer s))
+    ++ phrase listingLines (planLine answer)))
+
 unfoldable pub headLines : Site → List ℕ
-headLines s =
-    siteLine (s .cells) (s .slots) (s .channels)
-    ++ (chainLine (chainAnswer s)
-    ++ (loadLine (loadAnswer s)
-    ++ planLine (answerOf (greedy (netOf s)))))
+headLines s = headWith s (answerOf (greedy (netOf s)))
+
+-- "An unreadable file gives one line, refused number offset."
+abbrev pub unreadLine : (number offset : ℕ) → Phrase
+unreadLine number offset = Row refusedRow number offset 0 0
 
 -- "then cell and its reservations": the lines of n cells from index i on, of a table with w positions to a row
 unfoldable pub cellLines : ℕ → ℕ → List ℕ → ℕ → ℕ → List ℕ
@@ -56,10 +70,10 @@ abbrev pub cellsOf : Site → Outcome → List ℕ
 cellsOf s (planned t) = cellLines (s .channels) (positions s) t 0 (s .cells)
 cellsOf s (noRoom c m) = []
 
--- "An unreadable file gives one line, refused number offset."
+-- an accepted file, and an unreadable one
 abbrev pub listingOf : Site → ReadAnswer → List ℕ
 listingOf s Done = headLines s ++ cellsOf s (greedy (netOf s))
-listingOf s (Refused number offset) = refusedLine number offset
+listingOf s (Refused number offset) = phrase listingLines (unreadLine number offset)
 
 unfoldable pub listing : List ℕ → List ℕ
 listing file = listingOf (readSite file .site) (readSite file .answer)

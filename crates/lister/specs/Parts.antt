@@ -11,13 +11,15 @@ use Rattle.planner.specs.declared.PlanAnswer.{PlanAnswer}
 use Rattle.planner.specs.declared.PlanAnswer.the-variants as plan
 use Rattle.records.specs.declared.ReadAnswer.{ReadAnswer}
 use Rattle.records.specs.declared.ReadAnswer.the-variants.{Done, Refused}
-use Rattle.listing.specs.Lines.{refusedLine}
-use Rattle.lister.specs.Listing.{headLines}
+use Rattle.sitefile.specs.Read.{readSite}
+use Rattle.phrases.specs.Phrases.{phrase}
+use Rattle.listing.specs.Lines.{listingLines}
+use Rattle.lister.specs.Listing.{headLines, unreadLine}
 use Rattle.lister.specs.declared.Rest.{Rest}
 
 abbrev pub headOf : Site → ReadAnswer → List ℕ
 headOf s Done = headLines s
-headOf s (Refused number offset) = refusedLine number offset
+headOf s (Refused number offset) = phrase listingLines (unreadLine number offset)
 
 -- the table that the cell lines are read from
 abbrev pub tableAfter : Site → ReadAnswer → List ℕ → List ℕ
@@ -43,11 +45,21 @@ siteRest s =
 
 abbrev pub restOf : Site → ReadAnswer → Rest
 restOf s Done = siteRest s
-restOf s (Refused number offset) = record { end = length (refusedLine number offset); rows = 0; width = 0; channels = 0 }
+restOf s (Refused number offset) = record { end = length (phrase listingLines (unreadLine number offset)); rows = 0; width = 0; channels = 0 }
+
+-- the same of a file's bytes
+abbrev pub fileHead : List ℕ → List ℕ
+fileHead file = headOf (readSite file .site) (readSite file .answer)
+
+abbrev pub fileTable : List ℕ → List ℕ → List ℕ
+fileTable file t = tableAfter (readSite file .site) (readSite file .answer) t
+
+abbrev pub fileRest : List ℕ → Rest
+fileRest file = restOf (readSite file .site) (readSite file .answer)
 
 -- what makes the program safe: the head is short, and the rows stand within a table of 65,536 bytes
 pub record Fits (r : Rest) : Type 0 where
-  pub short : r .end ≤ 320
+  pub short : r .end ≤ 800
   pub few : r .rows ≤ 32
   pub narrow : r .width ≤ 2048
   pub within : r .rows * r .width ≤ 65536

@@ -5,6 +5,16 @@ use inputs::Input;
 use judges::ChainAnswer;
 use judges::LoadAnswer;
 use libc::STDIN_FILENO;
+use listing::CHAIN_NO;
+use listing::CHAIN_YES;
+use listing::LOAD_HOLDS;
+use listing::LOAD_OVER;
+use listing::PLAN_DONE;
+use listing::PLAN_SHORT;
+use listing::REFUSED;
+use listing::SITE;
+use listing::put_line;
+use phrases::Phrase;
 use planner::PlanAnswer;
 use records::ReadAnswer;
 use refusals::Place;
@@ -17,10 +27,10 @@ ghost use Rattle.theory.specs.Greedy.{rowAt};
 ghost use Rattle.site.specs.Record.{faultOf};
 ghost use Rattle.site.specs.declared.Fault.the-variants.{Fine};
 ghost use Rattle.planner.specs.Plan.{planTable};
-ghost use Rattle.sitefile.specs.Read.{readSite};
+ghost use Rattle.phrases.specs.Put.{Put};
 ghost use Rattle.listing.specs.Lines.{cellLine};
-ghost use Rattle.lister.specs.Listing.{chainLine, loadLine, planLine, headLines};
-ghost use Rattle.lister.specs.Parts.{headOf, tableAfter, rowCount, siteRest, restOf, Fits};
+ghost use Rattle.lister.specs.Listing.{siteLine, chainLine, loadLine, planLine, headWith, headLines};
+ghost use Rattle.lister.specs.Parts.{fileHead, fileTable, rowCount, siteRest, fileRest, Fits};
 
 // What follows the head: where the head ends, how many cell lines there are, and the positions and channels of a row.
 pub struct Rest {
@@ -30,46 +40,47 @@ pub struct Rest {
     pub channels: usize,
 }
 
+// The line of the site.
+fn site_line(site: Site) -> Phrase
+    ensures { λ r. ⌜ r ≡ siteLine site ⌝ }
+{
+    let cells = site.cells as usize;
+    let slots = site.slots as usize;
+    let channels = site.channels as usize;
+    Phrase::Row(SITE, cells, slots, channels, 0)
+}
+
 // The line of the chain judge. A refusal has none: a site that was read is never refused.
-fn chain_line(out: &mut [u8], at: usize, answer: ChainAnswer) -> usize
-    requires { ⌜ at + 80 ≤ length (now out) ⌝ }
-    ensures stored { λ r. ⌜ now (out .exit) ≡ sets (now (out .entry)) at (chainLine answer) ⌝ }
-    ensures next { λ r. ⌜ r ≡ at + length (chainLine answer) ⌝ }
-    ensures short { λ r. ⌜ r ≤ at + 80 ⌝ }
+fn chain_line(answer: ChainAnswer) -> Phrase
+    ensures { λ r. ⌜ r ≡ chainLine answer ⌝ }
 {
     match answer {
-        ChainAnswer::Chained => listing::chain_yes(out, at),
-        ChainAnswer::Broken(a, b, c) => listing::chain_no(out, at, a, b, c),
-        ChainAnswer::Refused(_) => at,
+        ChainAnswer::Chained => Phrase::Row(CHAIN_YES, 0, 0, 0, 0),
+        ChainAnswer::Broken(a, b, c) => Phrase::Row(CHAIN_NO, a, b, c, 0),
+        ChainAnswer::Refused(_) => Phrase::Silent,
     }
 }
 
 // The line of the load test.
-fn load_line(out: &mut [u8], at: usize, answer: LoadAnswer) -> usize
-    requires { ⌜ at + 80 ≤ length (now out) ⌝ }
-    ensures stored { λ r. ⌜ now (out .exit) ≡ sets (now (out .entry)) at (loadLine answer) ⌝ }
-    ensures next { λ r. ⌜ r ≡ at + length (loadLine answer) ⌝ }
-    ensures short { λ r. ⌜ r ≤ at + 80 ⌝ }
+fn load_line(answer: LoadAnswer) -> Phrase
+    ensures { λ r. ⌜ r ≡ loadLine answer ⌝ }
 {
     match answer {
-        LoadAnswer::Holds => listing::load_holds(out, at),
-        LoadAnswer::Over(cell, excess) => listing::load_over(out, at, cell, excess),
-        LoadAnswer::Refused(_) => at,
+        LoadAnswer::Holds => Phrase::Row(LOAD_HOLDS, 0, 0, 0, 0),
+        LoadAnswer::Over(cell, excess) => Phrase::Row(LOAD_OVER, cell, excess, 0, 0),
+        LoadAnswer::Refused(_) => Phrase::Silent,
     }
 }
 
 // The line of the planner. A table of 65,536 bytes is never short.
-fn plan_line(out: &mut [u8], at: usize, answer: PlanAnswer) -> usize
-    requires { ⌜ at + 80 ≤ length (now out) ⌝ }
-    ensures stored { λ r. ⌜ now (out .exit) ≡ sets (now (out .entry)) at (planLine answer) ⌝ }
-    ensures next { λ r. ⌜ r ≡ at + length (planLine answer) ⌝ }
-    ensures short { λ r. ⌜ r ≤ at + 80 ⌝ }
+fn plan_line(answer: PlanAnswer) -> Phrase
+    ensures { λ r. ⌜ r ≡ planLine answer ⌝ }
 {
     match answer {
-        PlanAnswer::Done => listing::plan_done(out, at),
-        PlanAnswer::NoRoom(cell, short) => listing::plan_short(out, at, cell, short),
-        PlanAnswer::TableShort => at,
-        PlanAnswer::Refused(_) => at,
+        PlanAnswer::Done => Phrase::Row(PLAN_DONE, 0, 0, 0, 0),
+        PlanAnswer::NoRoom(cell, short) => Phrase::Row(PLAN_SHORT, cell, short, 0, 0),
+        PlanAnswer::TableShort => Phrase::Silent,
+        PlanAnswer::Refused(_) => Phrase::Silent,
     }
 }
 
@@ -85,10 +96,21 @@ fn row_count(answer: PlanAnswer, cells: usize) -> usize
     }
 }
 
+// The lines of the head, with the planner's answer, and where they end.
+fn put_head(out: &mut [u8], site: Site, answer: PlanAnswer) -> usize
+    requires { ⌜ 800 ≤ length (now out) ⌝ }
+    ensures { λ r. ⌜ Put (now (out .entry)) 0 (headWith site answer) 800 (now (out .exit)) r ⌝ }
+{
+    let chain = put_line(out, 0, site_line(site));
+    let load = put_line(out, chain, chain_line(judges::chain(site)));
+    let plan = put_line(out, load, load_line(judges::load_test(site)));
+    put_line(out, plan, plan_line(answer))
+}
+
 // The head of a site that was read, and its plan in the lent table.
 fn site_head(out: &mut [u8], site: Site, table: &mut [u8]) -> Rest
     requires { ⌜ faultOf site ≡ Fine ⌝ }
-    requires { ⌜ (320 ≤ length (now out)) × (65536 ≤ length (now table)) ⌝ }
+    requires { ⌜ (800 ≤ length (now out)) × (65536 ≤ length (now table)) ⌝ }
     ensures stored { λ r. ⌜ now (out .exit) ≡ sets (now (out .entry)) 0 (headLines site) ⌝ }
     ensures table { λ r. ⌜ now (table .exit) ≡ planTable site (now (table .entry)) ⌝ }
     ensures rest { λ r. ⌜ r ≡ siteRest site ⌝ }
@@ -97,26 +119,24 @@ fn site_head(out: &mut [u8], site: Site, table: &mut [u8]) -> Rest
     let cells = site.cells as usize;
     let slots = site.slots as usize;
     let channels = site.channels as usize;
-    let chain = listing::site_line(out, 0, cells, slots, channels);
-    let load = chain_line(out, chain, judges::chain(site));
-    let plan = load_line(out, load, judges::load_test(site));
+    let width = slots * channels;
     let answer = planner::plan(site, table);
-    let end = plan_line(out, plan, answer);
+    let end = put_head(out, site, answer);
     let rows = row_count(answer, cells);
     Rest {
         end,
         rows,
-        width: slots * channels,
+        width,
         channels,
     }
 }
 
 // The head of a file's listing. An accepted site is planned in the lent table.
 fn head(out: &mut [u8], file: &[u8], table: &mut [u8]) -> Rest
-    requires { ⌜ (320 ≤ length (now out)) × (65536 ≤ length (now table)) ⌝ }
-    ensures stored { λ r. ⌜ now (out .exit) ≡ sets (now (out .entry)) 0 (headOf (readSite (now (file .entry)) .site) (readSite (now (file .entry)) .answer)) ⌝ }
-    ensures table { λ r. ⌜ now (table .exit) ≡ tableAfter (readSite (now (file .entry)) .site) (readSite (now (file .entry)) .answer) (now (table .entry)) ⌝ }
-    ensures rest { λ r. ⌜ r ≡ restOf (readSite (now (file .entry)) .site) (readSite (now (file .entry)) .answer) ⌝ }
+    requires { ⌜ (800 ≤ length (now out)) × (65536 ≤ length (now table)) ⌝ }
+    ensures stored { λ r. ⌜ now (out .exit) ≡ sets (now (out .entry)) 0 (fileHead (now (file .entry))) ⌝ }
+    ensures table { λ r. ⌜ now (table .exit) ≡ fileTable (now (file .entry)) (now (table .entry)) ⌝ }
+    ensures rest { λ r. ⌜ r ≡ fileRest (now (file .entry)) ⌝ }
     ensures fits { λ r. ⌜ Fits r ⌝ }
 {
     let read = sitefile::read_site(file);
@@ -124,7 +144,7 @@ fn head(out: &mut [u8], file: &[u8], table: &mut [u8]) -> Rest
     let site = read.site;
     match answer {
         ReadAnswer::Refused(number, offset) => {
-            let end = listing::refused_line(out, 0, number as usize, offset);
+            let end = put_line(out, 0, Phrase::Row(REFUSED, number as usize, offset, 0, 0));
             Rest {
                 end,
                 rows: 0,
@@ -141,9 +161,7 @@ fn row_line(out: &mut [u8], table: &[u8], width: usize, channels: usize, i: usiz
     requires { ⌜ (0 < channels) × (width ≤ 2048) ⌝ }
     requires { ⌜ (i < 32) × (i * width + width ≤ length (now table)) ⌝ }
     requires { ⌜ 24576 ≤ length (now out) ⌝ }
-    ensures stored { λ r. ⌜ now (out .exit) ≡ sets (now (out .entry)) 0 (cellLine (i + 1) channels (rowAt width (now (table .entry)) i)) ⌝ }
-    ensures next { λ r. ⌜ r ≡ length (cellLine (i + 1) channels (rowAt width (now (table .entry)) i)) ⌝ }
-    ensures within { λ r. ⌜ r ≤ length (now (out .exit)) ⌝ }
+    ensures { λ r. ⌜ Put (now (out .entry)) 0 (cellLine (i + 1) channels (rowAt width (now (table .entry)) i)) 24576 (now (out .exit)) r ⌝ }
 {
     let from = i * width;
     let to = from + width;

@@ -1,17 +1,14 @@
--- How a call ends. Where every cell stands, the words and counts are those of what stands, so that the changes that are written are the rule's; the ways out of the call,
--- each with its answer, its table and its list. Assumes nothing.
-use mathlib.Core.Path.{_≡_, refl, sym, ap, ap₂, _∙_}
+-- How a call ends. Where every cell stands, the words and counts are those of what stands, so that the changes that are written are the rule's.
+-- And the ways out of the call, each with its answer, its table and its list. Assumes nothing.
+use mathlib.Core.Path.{_≡_, refl, sym, ap, _∙_}
 use mathlib.Core.Bool.{Bool, false}
 use mathlib.Core.List.{List}
-use Prim.Native.Nat.{ℕ, _+_, _*_, _≤_, _<_}
+use Prim.Native.Nat.{ℕ, _+_, _≤_, _<_}
 use native.Mathlib.Omega.{arith}
 use borrow.Author.Tests.{lt-ltb, le-ltb}
-use lib.Dec.{ltb}
 use lib.ListN.{length}
-use lib.Seq.{sets}
-use Rattle.laws.specs.Choice.{pick}
 use Rattle.laws.specs.Bits.{bitIn}
-use Rattle.theory.specs.Net.{Net}
+use Rattle.theory.specs.Net.{Net, Reserved}
 use Rattle.theory.specs.Greedy.{reserved, Outcome, planned, noRoom}
 use Rattle.site.specs.Record.{size, faultOf, isFine}
 use Rattle.site.specs.Reach.{clashOf, netOf}
@@ -19,14 +16,14 @@ use Rattle.site.proofs.Reach.{clash-sym}
 use Rattle.site.specs.declared.Site.{Site}
 use Rattle.site.specs.declared.Fault.{Fault}
 use Rattle.site.specs.declared.Fault.the-variants.{Fine}
-use Rattle.mending.specs.Mend.{mend}
+use Rattle.mending.specs.Mend.{mend, overlay}
 use Rattle.mending.specs.Changes.{changes, follow}
 use Rattle.mending.proofs.Changes.{count-cong, number-cong, changes-cong}
 use Rattle.mending.proofs.Mended.{mended-follows}
 use Rattle.mender.specs.Mend.{numberOf, listed, stoodOf, answerOf, tableAfter, listAfter, mendAnswer, mendTable, mendList}
 use Rattle.mender.specs.Words.{standsIn, allCount, TwoWay, Counted, Says}
 use Rattle.mender.specs.declared.Stood.the-variants.{All, Short}
-use Rattle.mender.specs.declared.MendAnswer.the-variants.{Done, TableShort, NoRoom, ListShort, Refused}
+use Rattle.mender.specs.declared.MendAnswer.the-variants.{TableShort, NoRoom, Refused}
 
 -- ---- what stands, by the answer of the cells' turns
 
@@ -61,43 +58,33 @@ module _ (s : Net) (u l : List ℕ) (cell short : ℕ) (lack : Lacking s u cell 
   pub no-room : NoRoom cell short ≡ answerOf s u l (mend s u)
   no-room = ap (λ c. NoRoom c short) (lack .named) ∙ sym (ap (answerOf s u l) (lack .mends))
 
-  pub no-table : u ≡ tableAfter s u l (mend s u)
-  no-table = sym (ap (tableAfter s u l) (lack .mends))
-
-  pub no-list : l ≡ listAfter s u l (mend s u)
-  no-list = sym (ap (listAfter s u l) (lack .mends))
-
 -- ---- every cell stands
 
-module _ (s : Net) (u l words counts : List ℕ) (number : ℕ) (all : Whole s u number) (says : Says (s .cells) (s .width) (all .table) u words counts) where
+module _ (s : Net) (u words counts : List ℕ) (number : ℕ) (all : Whole s u number) (says : Says (s .cells) (s .width) (all .table) u words counts) where
   abbrev t : List ℕ
   t = all .table
 
+  -- what stands now, as the words have it and as it is, and what stood
+  abbrev is : Reserved
+  is = standsIn words
+
+  abbrev stands : Reserved
+  stands = reserved (s .width) t
+
+  abbrev was : Reserved
+  was = reserved (s .width) u
+
   pub end-counted : Counted (s .cells) (s .width) words u counts
-  end-counted i h =
-      says .counted i h
-      ∙ sym (count-cong (standsIn words) (reserved (s .width) t) (reserved (s .width) u) (reserved (s .width) u) i (s .width) (λ k m. says .stands i k h m) (λ k _. refl))
+  end-counted i h = says .counted i h ∙ sym (count-cong is stands was was i (s .width) (λ k m. says .stands i k h m) (λ k _. refl))
 
   pub end-number : number ≡ allCount (s .cells) (s .width) words u
-  end-number =
-      all .all
-      ∙ sym (number-cong (standsIn words) (reserved (s .width) t) (reserved (s .width) u) (reserved (s .width) u) (s .width) (s .cells) (says .stands) (λ i k _ _. refl))
+  end-number = all .all ∙ sym (number-cong is stands was was (s .width) (s .cells) (says .stands) (λ i k _ _. refl))
 
-  the-changes : changes (standsIn words) (reserved (s .width) u) (s .width) (s .cells) ≡ listed s u t
-  the-changes = changes-cong (standsIn words) (reserved (s .width) t) (reserved (s .width) u) (reserved (s .width) u) (s .width) (s .cells) (says .stands) (λ i k _ _. refl)
+  pub end-list : changes (standsIn words) (reserved (s .width) u) (s .width) (s .cells) ≡ listed s u t
+  end-list = changes-cong is stands was was (s .width) (s .cells) (says .stands) (λ i k _ _. refl)
 
-  pub end-answer : pick (ltb (length l) (4 * number)) (ListShort number) (Done number) ≡ answerOf s u l (mend s u)
-  end-answer =
-      ap (λ m. pick (ltb (length l) (4 * m)) (ListShort m) (Done m)) (all .all) ∙ sym (ap (answerOf s u l) (all .mends))
-
-  pub end-table : pick (ltb (length l) (4 * number)) u (follow (s .width) (changes (standsIn words) (reserved (s .width) u) (s .width) (s .cells)) u) ≡ tableAfter s u l (mend s u)
-  end-table =
-      ap₂ (λ m z. pick (ltb (length l) (4 * m)) u z) (all .all) (ap (λ z. follow (s .width) z u) the-changes ∙ mended-follows s u t (all .mends))
-      ∙ sym (ap (tableAfter s u l) (all .mends))
-
-  pub end-list : pick (ltb (length l) (4 * number)) l (sets l 0 (changes (standsIn words) (reserved (s .width) u) (s .width) (s .cells))) ≡ listAfter s u l (mend s u)
-  end-list =
-      ap₂ (λ m z. pick (ltb (length l) (4 * m)) l (sets l 0 z)) (all .all) the-changes ∙ sym (ap (listAfter s u l) (all .mends))
+  pub end-table : follow (s .width) (changes (standsIn words) (reserved (s .width) u) (s .width) (s .cells)) u ≡ overlay t u
+  end-table = ap (λ z. follow (s .width) z u) end-list ∙ mended-follows s u t (all .mends)
 
 -- ---- the call
 

@@ -7,3 +7,4 @@ pub mod Ends
 pub mod Given
 pub mod Meaning
 pub mod Room
+pub mod Written

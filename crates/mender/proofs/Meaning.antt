@@ -1,6 +1,6 @@
 -- What the mender's answers mean, by the theorems on mending. The answer says which way the call went, and each way has one table and one list.
 --     mend-refused       refused: the record's own fault, where it has one
---     done-means         done: record and table are good, every cell stands, the list has room; with what it leaves
+--     done-means         done: record and table are good, every cell stands, the list has room; with what it leaves (done-leaves)
 --     short-means        no room: the cell's shortage; before 13
 --     list-means         13: record and table are good and every cell stands
 --     untouched          any other answer than done leaves table and list as they were
@@ -110,26 +110,28 @@ module _ (s : Site) (u l : List ℕ) where
   mend-refused = passed-on Refused (λ f g e. cc) (faultOf s) _ (no-refusal (netOf s) u l (ltb (length u) (size s)) (mend (netOf s) u))
 
   -- done, and what it leaves
+  pub done-leaves : faultOf s ≡ Fine → size s ≤ length u → (t : List ℕ) → mend (netOf s) u ≡ planned t → tooShort l (numberOf (netOf s) u t) ≡ false
+      → (mendTable s u l ≡ overlay t u) × (mendList s u l ≡ sets l 0 (listed (netOf s) u t))
+  done-leaves fine long t e room = (
+    good-table s u l fine long ∙ ap (tableAfter (netOf s) u l) e ∙ ap (λ (q : Bool). pick q u (overlay t u)) room,
+    good-list s u l fine long ∙ ap (listAfter (netOf s) u l) e ∙ ap (λ (q : Bool). pick q l (sets l 0 (listed (netOf s) u t))) room,
+  )
+
   pub done-means : (n : ℕ) → mendAnswer s u l ≡ Done n → Mended s u l n
   done-means n e =
       let w = way (Done n) e in
       let t = w .2 .0 in
       let h : size s ≤ length u = ltb-false (length u) (size s) (w .1) in
-      let r = w .2 .1 in record {
+      let r = w .2 .1 in
+      let left = done-leaves (w .0) h t (r .0) (r .2) in record {
         fine = w .0;
         long = h;
         stands = t;
         mends = r .0;
         number = r .1;
         room = omega (arith, r .1, ltb-false (length l) (4 * numberOf (netOf s) u t) (r .2));
-        table =
-            good-table s u l (w .0) h
-            ∙ ap (tableAfter (netOf s) u l) (r .0)
-            ∙ ap (λ (q : Bool). pick q u (overlay t u)) (r .2);
-        list =
-            good-list s u l (w .0) h
-            ∙ ap (listAfter (netOf s) u l) (r .0)
-            ∙ ap (λ (q : Bool). pick q l (sets l 0 (listed (netOf s) u t))) (r .2);
+        table = left .0;
+        list = left .1;
       }
 
   -- and where it is

@@ -1,14 +1,10 @@
 -- A list with room for every change: there are at most as many changes as bytes, so that no call is refused for such a list, and each gives the same.
---     enough-room                one for a problem by its numbers
---     never-short, any-room      one for a site
 -- Assumes nothing.
 use mathlib.Core.Path.{_≡_, refl, ap}
-use mathlib.Core.Bool.{false}
 use mathlib.Core.List.{List}
 use Prim.Native.Nat.{ℕ, _*_, _≤_}
 use native.Mathlib.Omega.{arith}
 use borrow.Author.Tests.{le-ltb}
-use lib.Dec.{ltb}
 use lib.ListN.{length, length-replicate}
 use Rattle.theory.specs.Greedy.{reserved, Outcome, planned, noRoom}
 use Rattle.site.specs.Record.{positions, size, faultOf}
@@ -25,11 +21,8 @@ use Rattle.mender.proofs.Meaning.{list-means}
 room-of : (number : ℕ) → length (roomOf number) ≡ 4 * number
 room-of number = length-replicate _ 0
 
-pub enough-room : (cells n number : ℕ) → number ≤ cells * n → ltb (length (roomOf (cells * n))) (4 * number) ≡ false
-enough-room cells n number h = le-ltb (length (roomOf (cells * n))) (4 * number) (omega (arith, room-of (cells * n)))
-
 module _ (s : Site) (u : List ℕ) where
-  room-for : (t : List ℕ) → 4 * numberOf (netOf s) u t ≤ length (roomFor s)
+  pub room-for : (t : List ℕ) → 4 * numberOf (netOf s) u t ≤ length (roomFor s)
   room-for t = omega (arith, room-of (size s), few-changes (reserved (positions s) t) (reserved (positions s) u) (positions s) (s .cells))
 
   -- no call is refused for such a list

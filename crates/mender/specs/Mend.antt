@@ -1,8 +1,8 @@
 -- What the mender answers, and what it leaves in the lent table and in the lent list, for any site, any table and any list.
 use mathlib.Core.Path.{_≡_}
-use mathlib.Core.Bool.{Bool, true}
+use mathlib.Core.Bool.{Bool}
 use mathlib.Core.List.{List}
-use Prim.Native.Nat.{ℕ, _+_, _*_, _≤_}
+use Prim.Native.Nat.{ℕ, _+_, _*_}
 use lib.Dec.{ltb}
 use lib.ListN.{length, replicate}
 use lib.Seq.{sets}
@@ -10,7 +10,7 @@ use Rattle.laws.specs.Choice.{pick}
 use Rattle.laws.specs.Bits.{bitIn}
 use Rattle.theory.specs.Net.{Net, unblocked}
 use Rattle.theory.specs.Greedy.{reserved, Outcome, planned, noRoom}
-use Rattle.site.specs.Record.{size, faultOf, isFine}
+use Rattle.site.specs.Record.{positions, size, faultOf, isFine}
 use Rattle.site.specs.Reach.{netIn, netOf}
 use Rattle.site.specs.declared.Site.{Site}
 use Rattle.mending.specs.Mend.{mend, overlay}
@@ -68,15 +68,7 @@ module _ (s : Net) (u l : List ℕ) where
 abbrev pub roomOf : ℕ → List ℕ
 roomOf number = replicate (4 * number) 0
 
--- the list that a call goes by: the one that is lent, or, where nothing is to be listed, one with room for every change
-abbrev pub goesBy : Bool → ℕ → ℕ → List ℕ → List ℕ
-goesBy only cells n l = pick only (roomOf (cells * n)) l
-
--- the one that is lent then has room for the changes of a row
-abbrev pub Workable : Bool → ℕ → List ℕ → Type 0
-Workable only n l = only ≡ true → 4 * n ≤ length l
-
--- the same for a problem by its numbers: what stands, or the cell that finds no room; and the answer, the table and the list after it
+-- what stands, or the cell that finds no room, for a problem by its numbers
 module _ (cells n : ℕ) (loads clash u : List ℕ) where
   abbrev pub mendBy : Outcome
   mendBy = mend (netBy cells n loads clash) u
@@ -87,15 +79,6 @@ module _ (cells n : ℕ) (loads clash u : List ℕ) where
   -- the words and counts say what stands, where every cell finds room
   abbrev pub SaysBy : List ℕ → List ℕ → Type 0
   SaysBy words counts = (t : List ℕ) → mendBy ≡ planned t → Says cells n t u words counts
-
-  abbrev pub answerBy : List ℕ → MendAnswer
-  answerBy l = answerOf (netBy cells n loads clash) u l mendBy
-
-  abbrev pub tableBy : List ℕ → List ℕ
-  tableBy l = tableAfter (netBy cells n loads clash) u l mendBy
-
-  abbrev pub listBy : List ℕ → List ℕ
-  listBy l = listAfter (netBy cells n loads clash) u l mendBy
 
 -- "Refusals: the record's faults, 4, then 5 .., then 13": a call, by what it comes to once record and table are good
 abbrev pub called : {A : Type 0} → Site → List ℕ → (refused short done : A) → A
@@ -113,3 +96,8 @@ mendList s u l = called s u l l (listAfter (netOf s) u l (mend (netOf s) u))
 -- a list with room for a change at every byte of the site's table
 abbrev pub roomFor : Site → List ℕ
 roomFor s = roomOf (size s)
+
+-- an answer for such a list, and where it is done the words and counts say what stands
+pub record Stands (answer : MendAnswer) (s : Site) (u words counts : List ℕ) : Type 0 where
+  pub answers : answer ≡ mendAnswer s u (roomFor s)
+  pub says : (number : ℕ) → answer ≡ Done number → (t : List ℕ) → mend (netOf s) u ≡ planned t → Says (s .cells) (positions s) t u words counts

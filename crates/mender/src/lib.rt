@@ -7,7 +7,7 @@
 use site::Fault;
 use site::Site;
 ghost use mathlib.Core.Path.{_≡_};
-ghost use mathlib.Core.Bool.{true, false, _&&_, not};
+ghost use mathlib.Core.Bool.{_&&_, not};
 ghost use mathlib.Core.List.{[], _∷_};
 ghost use Prim.Native.Nat.{_+_, _-_, _*_, _^_, _≤_, _<_};
 ghost use lib.Dec.{eqb, ltb};
@@ -19,8 +19,7 @@ ghost use Rattle.laws.specs.Sum.{bit, count};
 ghost use Rattle.theory.specs.Greedy.{sends, reserved};
 ghost use Rattle.mending.specs.Changes.{differ, change, cellChanges, follow};
 ghost use Rattle.mender.specs.Words.{freeAt, joined, oldAt, keptIn, standsIn, cellStands, cellCount, allCount, tableWith, listWith, Below, Zeros, TwoWay, Counted};
-ghost use Rattle.mender.specs.Mend.{ifRoom, goesBy, Workable, stoodBy, SaysBy, answerBy, tableBy, listBy, roomFor, mendAnswer, mendTable, mendList};
-ghost use Rattle.mender.specs.declared.MendAnswer.the-variants.{Done, ListShort};
+ghost use Rattle.mender.specs.Mend.{stoodBy, SaysBy, Stands, roomFor, mendAnswer, mendTable, mendList};
 
 // What the mender answers: done, with the number of changes; 4, the table is short; 5, a cell's number and how many of its fragments found no room; 13, the
 // list is too short for so many changes; or what is wrong with the record.
@@ -295,64 +294,11 @@ fn store_all(
     }
 }
 
-// Whether the list has room for so many changes, and then writes: nothing lent is written before. With `only` nothing is listed, and any number of changes has room.
-fn finish(
-    table: &mut [u8],
-    list: &mut [u16],
-    words: &[u32],
-    counts: &[usize],
-    n: usize,
-    cells: usize,
-    number: usize,
-    only: bool,
-) -> MendAnswer
-    requires { ⌜ (cells ≤ 32) × (n ≤ 2048) × (n ≤ length (now words)) × (cells ≤ length (now counts)) × (cells * n ≤ length (now table)) ⌝ }
-    requires { ⌜ Counted cells n (now words) (now table) (now counts) × (number ≡ allCount cells n (now words) (now table)) × Workable only n (now list) ⌝ }
-    ensures answer { λ r. ⌜ r ≡ ifRoom (goesBy only cells n (now (list .entry))) number (ListShort number) (Done number) ⌝ }
-    ensures table { λ _. ⌜ now (table .exit) ≡ ifRoom (goesBy only cells n (now (list .entry))) number (now (table .entry)) (tableWith cells n (now (words .entry)) (now (table .entry))) ⌝ }
-    ensures list { λ _. ⌜ (only ≡ false → now (list .exit) ≡ ifRoom (now (list .entry)) number (now (list .entry)) (listWith cells n (now (words .entry)) (now (table .entry)) (now (list .entry)))) ⌝ }
-{
-    if only {
-        store_all(table, list, words, counts, n, cells);
-        return MendAnswer::Done(number);
-    }
-    if list.len() / 4 < number {
-        return MendAnswer::ListShort(number);
-    }
-    list_all(table, list, words, counts, n, cells);
-    MendAnswer::Done(number)
-}
-
-// Mends a table that is long enough for a site that is not at fault.
-fn mend_table(
-    table: &mut [u8],
-    list: &mut [u16],
-    n: usize,
-    cells: usize,
-    loads: &[u16; 32],
-    clash: &[u32; 32],
-    only: bool,
-) -> MendAnswer
-    requires { ⌜ (cells ≤ 32) × (n ≤ 2048) × (cells * n ≤ length (now table)) × TwoWay (now clash) × Workable only n (now list) ⌝ }
-    ensures answer { λ r. ⌜ r ≡ answerBy cells n (now (loads .entry)) (now (clash .entry)) (now (table .entry)) (goesBy only cells n (now (list .entry))) ⌝ }
-    ensures table { λ _. ⌜ now (table .exit) ≡ tableBy cells n (now (loads .entry)) (now (clash .entry)) (now (table .entry)) (goesBy only cells n (now (list .entry))) ⌝ }
-    ensures list { λ _. ⌜ (only ≡ false → now (list .exit) ≡ listBy cells n (now (loads .entry)) (now (clash .entry)) (now (table .entry)) (now (list .entry))) ⌝ }
-{
-    let mut words = [0u32; 2048];
-    let mut counts = [0usize; 32];
-    let stood = stand_all(&mut words, &mut counts, table, n, cells, loads, clash);
-    match stood {
-        Stood::Short(cell, short) => MendAnswer::NoRoom(cell, short),
-        Stood::All(number) => finish(table, list, &words, &counts, n, cells, number, only),
-    }
-}
-
-// Mends the table for the site. With `only` nothing is listed: the list is room to work in.
-fn mend_by(site: Site, table: &mut [u8], list: &mut [u16], only: bool) -> MendAnswer
-    requires { ⌜ (only ≡ true → 8192 ≤ length (now list)) ⌝ }
-    ensures answer { λ r. ⌜ r ≡ mendAnswer site (now (table .entry)) (pick only (roomFor site) (now (list .entry))) ⌝ }
-    ensures table { λ _. ⌜ now (table .exit) ≡ mendTable site (now (table .entry)) (pick only (roomFor site) (now (list .entry))) ⌝ }
-    ensures list { λ _. ⌜ (only ≡ false → now (list .exit) ≡ mendList site (now (table .entry)) (now (list .entry))) ⌝ }
+// Every cell's turn, for a site and its table: the answer where the list has room. The words and counts that are lent are 0; where it is done they
+// come back with who stands where, and how many changes each cell has. The table is not written.
+fn stand_site(site: Site, table: &[u8], words: &mut [u32], counts: &mut [usize]) -> MendAnswer
+    requires { ⌜ (2048 ≤ length (now words)) × (32 ≤ length (now counts)) × Zeros 2048 (now words) ⌝ }
+    ensures { λ r. ⌜ Stands r site (now (table .entry)) (now (words .exit)) (now (counts .exit)) ⌝ }
 {
     let fault = site.fault_in();
     let Fault::Fine = fault else {
@@ -365,7 +311,11 @@ fn mend_by(site: Site, table: &mut [u8], list: &mut [u16], only: bool) -> MendAn
     }
     let loads = site.loads;
     let clash = site.clash_rows();
-    mend_table(table, list, n, cells, &loads, &clash, only)
+    let stood = stand_all(words, counts, table, n, cells, &loads, &clash);
+    match stood {
+        Stood::Short(cell, short) => MendAnswer::NoRoom(cell, short),
+        Stood::All(number) => MendAnswer::Done(number),
+    }
 }
 
 // Mends the table for the site, and lists the changes, four numbers each: cell, position, was, is. A refusal leaves table and list as they were: the record's
@@ -375,7 +325,19 @@ pub fn mend(site: Site, table: &mut [u8], changes: &mut [u16]) -> MendAnswer
     ensures table { λ _. ⌜ now (table .exit) ≡ mendTable site (now (table .entry)) (now (changes .entry)) ⌝ }
     ensures changes { λ _. ⌜ now (changes .exit) ≡ mendList site (now (table .entry)) (now (changes .entry)) ⌝ }
 {
-    mend_by(site, table, changes, false)
+    let mut words = [0u32; 2048];
+    let mut counts = [0usize; 32];
+    let answer = stand_site(site, table, &mut words, &mut counts);
+    let MendAnswer::Done(number) = answer else {
+        return answer;
+    };
+    if changes.len() / 4 < number {
+        return MendAnswer::ListShort(number);
+    }
+    let cells = site.cells as usize;
+    let n = (site.slots as usize) * (site.channels as usize);
+    list_all(table, changes, &words, &counts, n, cells);
+    answer
 }
 
 // Mends the table as `mend` does where the list has room for every change, and lists nothing.
@@ -383,6 +345,15 @@ pub fn mend_only(site: Site, table: &mut [u8]) -> MendAnswer
     ensures answer { λ r. ⌜ r ≡ mendAnswer site (now (table .entry)) (roomFor site) ⌝ }
     ensures table { λ _. ⌜ now (table .exit) ≡ mendTable site (now (table .entry)) (roomFor site) ⌝ }
 {
+    let mut words = [0u32; 2048];
+    let mut counts = [0usize; 32];
+    let answer = stand_site(site, table, &mut words, &mut counts);
+    let MendAnswer::Done(number) = answer else {
+        return answer;
+    };
+    let cells = site.cells as usize;
+    let n = (site.slots as usize) * (site.channels as usize);
     let mut row = [0u16; 8192];
-    mend_by(site, table, &mut row, true)
+    store_all(table, &mut row, &words, &counts, n, cells);
+    MendAnswer::Done(number)
 }

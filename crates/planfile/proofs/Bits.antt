@@ -5,7 +5,7 @@ use mathlib.Core.Path.{_≡_, refl, sym, ap, _∙_}
 use mathlib.Core.List.{List, [], _∷_, _++_}
 use mathlib.Core.Bool.{Bool, true, false, not}
 use mathlib.Core.Logic.{⊎-elim}
-use native.Mathlib.Nat.{pow-succ', two-pow-succ, div-div-eq-div-mul, add-zero, zero-add, zero-div}
+use native.Mathlib.Nat.{pow-succ', two-pow-succ, div-div-eq-div-mul, add-zero, zero-add, mul-assoc, zero-div}
 use native.Mathlib.Numerals.{add-one}
 use native.Mathlib.Omega.{arith}
 use lib.ListN.{length, getD, set, List·getD-eq-default}
@@ -71,7 +71,7 @@ bits-ones t (suc c) k x h same =
     rw (f, ← half-shift x i) (same (suc i) (omega arith))) in
     omega arith
 
--- four bytes, and eight as twice four
+-- four bytes
 pub ones-four : (t : List ℕ) (k : ℕ) → ones t k 4 ≡ one (getD t k 0) + 2 * one (getD t (k + 1) 0) + 4 * one (getD t (k + 2) 0) + 8 * one (getD t (k + 3) 0)
 unfolding ones
 ones-four t k =
@@ -80,11 +80,16 @@ ones-four t k =
     let c : k + 3 ≡ suc (suc (suc k)) = omega arith in
     rw (a, b, c) (omega arith)
 
-pub ones-eight : (t : List ℕ) (k : ℕ) → ones t k 8 ≡ ones t k 4 + 16 * ones t (k + 4) 4
+-- a bytes, and then b
+pub ones-both : (t : List ℕ) (a b k : ℕ) → ones t k (a + b) ≡ ones t k a + 2 ^ a * ones t (k + a) b
 unfolding ones
-ones-eight t k =
-    let a : k + 4 ≡ suc (suc (suc (suc k))) = omega arith in
-    rw a (omega arith)
+ones-both t zero b k = rw (zero-add b, add-zero k) (omega arith)
+ones-both t (suc a) b k =
+    let e : suc a + b ≡ suc (a + b) = omega arith in
+    let f : k + suc a ≡ suc k + a = omega arith in
+    let rest = ones t (suc k + a) b in
+    let g : 2 ^ suc a * rest ≡ 2 * (2 ^ a * rest) = ap (λ (n : ℕ). n * rest) (pow-succ' 2 a) ∙ mul-assoc 2 (2 ^ a) rest in
+    rw (e, f) (omega (arith, g, ones-both t a b (suc k)))
 
 -- past the table's end the bits are 0
 pub ones-past : (t : List ℕ) (c k : ℕ) → length t ≤ k → ones t k c ≡ 0

@@ -3,15 +3,17 @@
 use Prim.Native.Nat.{ℕ, zero, suc, _+_, _-_, _*_, _/_, _%_, _^_, _≤_, _<_}
 use mathlib.Core.Path.{_≡_, sym, ap, ap₂, _∙_}
 use mathlib.Core.List.{List, [], _∷_, _++_}
-use native.Mathlib.Nat.{zero-add, add-mul-mod-self-right, mod-eq-of-lt}
+use native.Mathlib.Nat.{zero-add, mul-suc, mul-assoc, mul-left-comm, mul-right-comm, mul-le-mul-left}
+use native.Mathlib.Nat.{div-eq-of-lt, add-mul-div-right, add-mul-mod-self-right, mod-eq-of-lt}
 use native.Mathlib.Omega.{arith}
 use lib.ListN.{length, getD, set, take}
+use lib.Pow.{pow-pos, pow-mono, pow-add}
 use lib.Seq.{sets, ext-getD, getD-take, getD-set-same, getD-set-other, length-take-le, take-suc}
 use borrow.Author.Count.{below-more}
 use Rattle.laws.proofs.Stores.{sets-append}
 use Rattle.planfile.specs.Bits.{one, ones, packedFrom}
 use Rattle.planfile.specs.Block.{Runs, Below, Joined}
-use Rattle.planfile.proofs.Bits.{ones-lt, ones-eight, length-packed, packed-at}
+use Rattle.planfile.proofs.Bits.{ones-lt, ones-both, length-packed, packed-at}
 
 -- a turn of a pass: what holds of the numbers before i, and of the one stored there
 pub more :
@@ -23,33 +25,30 @@ more f v i x h all here =
 
 -- ---- two numbers in a word of two bytes
 
-pub two-joined : (low high : ℕ) → low < 2 → high < 2 → (low + 256 * high + (low + 256 * high) / 128) % 256 ≡ low + 2 * high
-two-joined low high h l =
-    let q : (low + 256 * high) / 128 ≡ 2 * high = omega arith in
-    let s : low + 256 * high + 2 * high ≡ low + 2 * high + high * 256 = omega arith in
-    rw (q, s, add-mul-mod-self-right) (mod-eq-of-lt (omega arith))
-
-pub four-joined : (low high : ℕ) → low < 4 → high < 4 → (low + 256 * high + (low + 256 * high) / 64) % 256 ≡ low + 4 * high
-four-joined low high h l =
-    let q : (low + 256 * high) / 64 ≡ 4 * high = omega arith in
-    let s : low + 256 * high + 4 * high ≡ low + 4 * high + high * 256 = omega arith in
-    rw (q, s, add-mul-mod-self-right) (mod-eq-of-lt (omega arith))
+-- numbers of c bits: the word shifted by 8 - c has the high one where it is due, and nothing else in its low byte
+pub pair-joined :
+    (c low high : ℕ) → c ≤ 4 → low < 2 ^ c → high < 2 ^ c →
+    (low + 256 * high + (low + 256 * high) / 2 ^ (8 - c)) % 256 ≡ low + 2 ^ c * high
+pair-joined c low high few l h =
+    let w = 2 ^ c in
+    let d = 2 ^ (8 - c) in
+    let e : c + (8 - c) ≡ 8 = omega arith in
+    let whole : w * d ≡ 256 = sym (pow-add 2 c (8 - c)) ∙ ap (λ (n : ℕ). 2 ^ n) e in
+    let wide : w ≤ d = pow-mono {i = c} {j = 8 - c} (omega arith) in
+    let top : 256 * high ≡ w * high * d = ap (λ (n : ℕ). n * high) (sym whole) ∙ mul-right-comm w d high in
+    let q : (low + 256 * high) / d ≡ w * high =
+    ap (λ (n : ℕ). (low + n) / d) top
+    ∙ add-mul-div-right low (w * high) (pow-pos (8 - c))
+    ∙ ap (λ (n : ℕ). n + w * high) (div-eq-of-lt (omega arith))
+    ∙ zero-add (w * high) in
+    let s : low + 256 * high + w * high ≡ low + w * high + high * 256 = omega arith in
+    let room : w * suc high ≤ w * d = mul-le-mul-left w (omega arith) in
+    let less : low + w * high < 256 = omega (arith, room, whole, mul-suc w high) in
+    rw (q, s, add-mul-mod-self-right) (mod-eq-of-lt less)
 
 -- ---- numbers of table bytes
 
 module _ (t : List ℕ) where
-  ones-two : (k : ℕ) → ones t k 2 ≡ ones t k 1 + 2 * ones t (k + 1) 1
-  unfolding ones
-  ones-two k =
-      let a : k + 1 ≡ suc k = omega arith in
-      rw a (omega arith)
-
-  ones-fours : (k : ℕ) → ones t k 4 ≡ ones t k 2 + 4 * ones t (k + 2) 2
-  unfolding ones
-  ones-fours k =
-      let a : k + 2 ≡ suc (suc k) = omega arith in
-      rw a (omega arith)
-
   -- the bit of one byte is the number of that byte
   pub one-run : (k i x : ℕ) → x ≡ one (getD t (k + i) 0) → x ≡ ones t (k + 1 * i) 1
   unfolding ones
@@ -61,26 +60,17 @@ module _ (t : List ℕ) where
   pub runs-below : (v : List ℕ) (k c n : ℕ) → Runs t k c n v → Below (2 ^ c) n v
   runs-below v k c n runs i l = rw (runs i l) (ones-lt t c (k + c * i))
 
-  -- numbers of c bytes joined are numbers of d bytes, twice as many
-  join :
-      (u v : List ℕ) (k c d w m n : ℕ) → 2 * n ≤ m → ((q : ℕ) → ones t q d ≡ ones t q c + w * ones t (q + c) c) →
-      ((i : ℕ) → k + c * (2 * i) ≡ k + d * i) → ((i : ℕ) → k + c * (2 * i + 1) ≡ k + d * i + c) →
-      Runs t k c m u → Joined w n u v → Runs t k d n v
-  join u v k c d w m n h split left right runs joined i l =
+  -- joined, they are numbers of twice as many bytes
+  pub join : (u v : List ℕ) (k c n : ℕ) → Runs t k c (2 * n) u → Joined (2 ^ c) n u v → Runs t k (2 * c) n v
+  join u v k c n runs joined i l =
+      let left : k + c * (2 * i) ≡ k + 2 * c * i = ap (λ (m : ℕ). k + m) (mul-left-comm c 2 i ∙ sym (mul-assoc 2 c i)) in
+      let right : k + c * (2 * i + 1) ≡ k + 2 * c * i + c = omega (arith, left, mul-suc c (2 * i)) in
+      let twice : 2 * c ≡ c + c = omega arith in
       joined i l
-      ∙ ap₂ (λ (x y : ℕ). x + w * y)
-      (runs (2 * i) (omega arith) ∙ ap (λ (q : ℕ). ones t q c) (left i))
-      (runs (2 * i + 1) (omega arith) ∙ ap (λ (q : ℕ). ones t q c) (right i))
-      ∙ sym (split (k + d * i))
-
-  pub join-bits : (u v : List ℕ) (k : ℕ) → Runs t k 1 256 u → Joined 2 128 u v → Runs t k 2 128 v
-  join-bits u v k = join u v k 1 2 2 256 128 (omega arith) ones-two (λ i. omega arith) (λ i. omega arith)
-
-  pub join-twos : (u v : List ℕ) (k : ℕ) → Runs t k 2 128 u → Joined 4 64 u v → Runs t k 4 64 v
-  join-twos u v k = join u v k 2 4 4 128 64 (omega arith) ones-fours (λ i. omega arith) (λ i. omega arith)
-
-  pub join-fours : (u v : List ℕ) (k : ℕ) → Runs t k 4 64 u → Joined 16 32 u v → Runs t k 8 32 v
-  join-fours u v k = join u v k 4 8 16 64 32 (omega arith) (ones-eight t) (λ i. omega arith) (λ i. omega arith)
+      ∙ ap₂ (λ (x y : ℕ). x + 2 ^ c * y)
+      (runs (2 * i) (omega arith) ∙ ap (λ (q : ℕ). ones t q c) left)
+      (runs (2 * i + 1) (omega arith) ∙ ap (λ (q : ℕ). ones t q c) right)
+      ∙ sym (ap (ones t (k + 2 * c * i)) twice ∙ ones-both t c c (k + 2 * c * i))
 
   -- numbers of eight bytes are the file's
   pub runs-packed : (v : List ℕ) (k n : ℕ) → n ≤ length v → Runs t k 8 n v → take n v ≡ packedFrom t k n

@@ -1,4 +1,5 @@
-// The plan file, read and written: a head, and one bit for each cell and position. A file byte holds the bits of eight table bytes. The reader goes by file byte, the writer by blocks of 32.
+// The plan file, read and written: a head, and one bit for each cell and position. A file byte holds the bits of eight table bytes.
+// The reader goes by file byte, the writer by blocks of 32.
 use records::AFTER_HEAD;
 use records::Length;
 use records::Opened;
@@ -13,7 +14,7 @@ use site::Fault;
 use site::Site;
 ghost use mathlib.Core.Path.{_≡_};
 ghost use mathlib.Core.List.{[], _∷_};
-ghost use Prim.Native.Nat.{_+_, _-_, _*_, _≤_, _<_};
+ghost use Prim.Native.Nat.{_+_, _-_, _*_, _^_, _≤_, _<_};
 ghost use lib.ListN.{length, take};
 ghost use lib.Seq.{sets};
 ghost use Rattle.site.specs.Record.{entries};
@@ -168,58 +169,24 @@ fn take_bits(bits: &mut [u8], table: &[u8], k: usize)
     }
 }
 
-// Two bits as one number. Through a word of two bytes, since the compiler reads a run of those at once.
-fn joined_bits(low: u8, high: u8) -> u8
-    requires { ⌜ (low < 2) × (high < 2) ⌝ }
-    ensures { λ r. ⌜ r ≡ low + 2 * high ⌝ }
+// Two numbers of c bits as one of twice as many. Through a word of two bytes, since the compiler reads a run of those at once.
+fn joined(low: u8, high: u8, c: usize) -> u8
+    requires { ⌜ (c ≤ 4) × (low < 2 ^ c) × (high < 2 ^ c) ⌝ }
+    ensures { λ r. ⌜ r ≡ low + 2 ^ c * high ⌝ }
 {
     let x = low as u16 + 256 * (high as u16);
-    ((x + x / 128) % 256) as u8
+    ((x + (x >> (8 - c))) % 256) as u8
 }
 
-// 256 bits as 128 numbers of two bits.
-fn take_twos(twos: &mut [u8], bits: &[u8])
-    requires { ⌜ (Below 2 256 (now bits)) × (256 ≤ length (now bits)) × (128 ≤ length (now twos)) ⌝ }
-    ensures { λ _. ⌜ Joined 2 128 (now (bits .entry)) (now (twos .exit)) ⌝ }
+// 2 n numbers of c bits as n of twice as many, each of two neighbours.
+fn join_pairs(out: &mut [u8], pairs: &[u8], n: usize, c: usize)
+    requires { ⌜ (c ≤ 4) × Below (2 ^ c) (2 * n) (now pairs) × (2 * n ≤ length (now pairs)) × (n ≤ length (now out)) ⌝ }
+    ensures { λ _. ⌜ Joined (2 ^ c) n (now (pairs .entry)) (now (out .exit)) ⌝ }
 {
     let mut i: usize = 0;
-    while i < 128 {
-        let x = joined_bits(bits[2 * i], bits[2 * i + 1]);
-        twos[i] = x;
-        i += 1;
-    }
-}
-
-// Two numbers of two bits as one, through a word of two bytes again.
-fn joined_twos(low: u8, high: u8) -> u8
-    requires { ⌜ (low < 4) × (high < 4) ⌝ }
-    ensures { λ r. ⌜ r ≡ low + 4 * high ⌝ }
-{
-    let x = low as u16 + 256 * (high as u16);
-    ((x + x / 64) % 256) as u8
-}
-
-// 128 numbers of two bits as 64 of four bits.
-fn take_fours(fours: &mut [u8], twos: &[u8])
-    requires { ⌜ (Below 4 128 (now twos)) × (128 ≤ length (now twos)) × (64 ≤ length (now fours)) ⌝ }
-    ensures { λ _. ⌜ Joined 4 64 (now (twos .entry)) (now (fours .exit)) ⌝ }
-{
-    let mut i: usize = 0;
-    while i < 64 {
-        let x = joined_twos(twos[2 * i], twos[2 * i + 1]);
-        fours[i] = x;
-        i += 1;
-    }
-}
-
-// 64 numbers of four bits as 32 bytes.
-fn take_bytes(bytes: &mut [u8], fours: &[u8])
-    requires { ⌜ (Below 16 64 (now fours)) × (64 ≤ length (now fours)) × (32 ≤ length (now bytes)) ⌝ }
-    ensures { λ _. ⌜ Joined 16 32 (now (fours .entry)) (now (bytes .exit)) ⌝ }
-{
-    let mut i: usize = 0;
-    while i < 32 {
-        bytes[i] = fours[2 * i] + 16 * fours[2 * i + 1];
+    while i < n {
+        let x = joined(pairs[2 * i], pairs[2 * i + 1], c);
+        out[i] = x;
         i += 1;
     }
 }
@@ -244,11 +211,11 @@ fn put_block(out: &mut [u8], at: usize, table: &[u8], j: usize)
     let mut bits = [0u8; 256];
     take_bits(&mut bits, table, 8 * j);
     let mut twos = [0u8; 128];
-    take_twos(&mut twos, &bits);
+    join_pairs(&mut twos, &bits, 128, 1);
     let mut fours = [0u8; 64];
-    take_fours(&mut fours, &twos);
+    join_pairs(&mut fours, &twos, 64, 2);
     let mut bytes = [0u8; 32];
-    take_bytes(&mut bytes, &fours);
+    join_pairs(&mut bytes, &fours, 32, 4);
     put_bytes(out, at + j, &bytes);
 }
 

@@ -35,11 +35,16 @@ use Rattle.mender.specs.Given.{mendGiven}
 use Rattle.mender.specs.declared.MendAnswer.{MendAnswer}
 use Rattle.mender.specs.declared.MendAnswer.the-variants as mend
 use Rattle.speech.specs.Speech.{spoken}
+use Rattle.refusals.specs.Lines.{heads}
 use Rattle.refusals.specs.Words.{refusedLine}
 use Rattle.refusals.specs.declared.Place.{Place}
 use Rattle.refusals.specs.declared.Place.the-variants as place
-use Rattle.verdicts.specs.Words.{validLine, clashForthLine, clashBackLine, clashBothLine, clashLine, plannedLine, unchangedLine, mendedLine}
-use Rattle.verdicts.specs.Words.{reachNamed, clashWords, faultWords, checkWords, planWords, changesWords, mendWords}
+use Rattle.refusals.specs.Sentences.{sentence}
+use Rattle.refusals.specs.declared.Sentence.{Sentence}
+use Rattle.refusals.specs.declared.Sentence.the-variants.{Refusal}
+use Rattle.verdicts.specs.Lines.{lines, unchangedRow, mendedRow}
+use Rattle.verdicts.specs.Words.{line, reachNamed, waySentence, clashSentence, changesSentence, faultWords, checkWords, planWords, mendWords}
+use Rattle.verdicts.specs.Words.{validLine, plannedLine, unchangedLine, mendedLine}
 use Rattle.promises.specs.Numbers.{done}
 use Rattle.promises.specs.Demands.{Accepted, LongEnough}
 use Rattle.promises.proofs.Numbers.{check-number}
@@ -60,7 +65,7 @@ apart : (l m : List ℕ) → l ≡ m → refusing l ≡ true → refusing m ≡ 
 apart l m e p q = true≢false (sym p ∙ ap refusing e ∙ q)
 
 refused-r : (n : ℕ) (p : Place) → refusing (refusedLine n p) ≡ true
-unfolding refusedLine spoken
+unfolding heads refusedLine spoken
 refused-r n place.Nowhere = refl
 refused-r n (place.Byte k) = refl
 refused-r n (place.PlanByte k) = refl
@@ -74,29 +79,29 @@ fault-r Size = refused-r 1 place.Nowhere
 fault-r (Load k) = refused-r 2 (place.Cell k)
 fault-r (Reach k) = refused-r 3 (place.Cell k)
 
-chosen-r : (t : Bool) (x y : List ℕ) → refusing x ≡ true → refusing y ≡ true → refusing (pick t x y) ≡ true
+chosen-r : (t : Bool) (x y : Sentence) → refusing (sentence lines x) ≡ true → refusing (sentence lines y) ≡ true → refusing (sentence lines (pick t x y)) ≡ true
 chosen-r true x y p q = p
 chosen-r false x y p q = q
 
-way-r : (forth back : Bool) (a c slot channel : ℕ) → refusing (clashLine forth back a c slot channel) ≡ true
-unfolding spoken
+way-r : (forth back : Bool) (a c slot channel : ℕ) → refusing (sentence lines (waySentence forth back a c slot channel)) ≡ true
+unfolding lines spoken
 way-r true true a c slot channel = refl
 way-r true false a c slot channel = refl
 way-r false true a c slot channel = refl
 way-r false false a c slot channel = refused-r 6 place.Nowhere
 
-clash-r : (s : Site) (p a c : ℕ) → refusing (clashWords s p a c) ≡ true
-unfolding clashWords
+clash-r : (s : Site) (p a c : ℕ) → refusing (checkWords s (check.Clash p a c)) ≡ true
+unfolding clashSentence
 clash-r s p a c =
     let slot = p / s .channels + 1 in
     let channel = p % s .channels + 1 in
-    chosen-r (ltb 0 (s .channels) && ltb p 65536) (clashLine (reachNamed s a c) (reachNamed s c a) a c slot channel) (refusedLine 6 place.Nowhere)
+    chosen-r (ltb 0 (s .channels) && ltb p 65536) (waySentence (reachNamed s a c) (reachNamed s c a) a c slot channel) (Refusal 6 place.Nowhere)
     (way-r (reachNamed s a c) (reachNamed s c a) a c slot channel) (refused-r 6 place.Nowhere)
 
 -- ---- from the words back to the answer
 
 valid-only : (s : Site) (a : CheckAnswer) → checkWords s a ≡ validLine → a ≡ check.Valid
-unfolding spoken
+unfolding lines spoken
 valid-only s check.Valid e = refl
 valid-only s check.TableShort e = absurd (apart _ _ e (refused-r 4 place.Nowhere) refl)
 valid-only s (check.Clash p a c) e = absurd (apart _ _ e (clash-r s p a c) refl)
@@ -104,20 +109,21 @@ valid-only s (check.Count i n) e = absurd (apart _ _ e refl refl)
 valid-only s (check.Refused f) e = absurd (apart _ _ e (fault-r f) refl)
 
 planned-only : (s : Site) (a : PlanAnswer) (i t f : ℕ) → planWords s a ≡ plannedLine i t f → a ≡ plan.Done
-unfolding spoken
+unfolding lines spoken
 planned-only s plan.Done i t f e = refl
 planned-only s plan.TableShort i t f e = absurd (apart _ _ e (refused-r 4 place.Nowhere) refl)
 planned-only s (plan.NoRoom c n) i t f e = absurd (apart _ _ e refl refl)
 planned-only s (plan.Refused g) i t f e = absurd (apart _ _ e (fault-r g) refl)
 
 -- of the words of a number of changes, those of none are apart by their first letter
-none-changed : (n : ℕ) (b : Bool) → eqb n 0 ≡ b → pick b unchangedLine (mendedLine n) ≡ unchangedLine → n ≡ 0
-unfolding spoken
+none-changed : (n : ℕ) (b : Bool) → eqb n 0 ≡ b
+    → sentence lines (pick b (line unchangedRow 0 0 0 0) (line mendedRow n 0 0 0)) ≡ unchangedLine → n ≡ 0
+unfolding lines spoken
 none-changed n true p e = eqb-true n 0 p
 none-changed n false p e = let z : _≡_ {A = ℕ} 109 118 = ap begins e in absurd (omega arith)
 
 unchanged-only : (a : MendAnswer) → mendWords a ≡ unchangedLine → a ≡ mend.Done 0
-unfolding spoken changesWords
+unfolding lines spoken changesSentence
 unchanged-only (mend.Done n) e = ap mend.Done (none-changed n (eqb n 0) refl e)
 unchanged-only mend.TableShort e = absurd (apart _ _ e (refused-r 4 place.Nowhere) refl)
 unchanged-only (mend.NoRoom c n) e = absurd (apart _ _ e refl refl)
@@ -125,7 +131,7 @@ unchanged-only (mend.ListShort n) e = absurd (apart _ _ e (refused-r 13 place.No
 unchanged-only (mend.Refused f) e = absurd (apart _ _ e (fault-r f) refl)
 
 mended-only : (a : MendAnswer) (k : ℕ) → mendWords a ≡ mendedLine k → (n : ℕ) × (a ≡ mend.Done n)
-unfolding spoken
+unfolding lines spoken
 mended-only (mend.Done n) k e = (n, refl)
 mended-only mend.TableShort k e = absurd (apart _ _ e (refused-r 4 place.Nowhere) refl)
 mended-only (mend.NoRoom c n) k e = absurd (apart _ _ e refl refl)

@@ -3,6 +3,7 @@ use mathlib.Core.Path.{_≡_, refl}
 use mathlib.Core.List.{[], _∷_}
 use Rattle.text.specs.Decimal.{digitsOf, decimal}
 use Rattle.speech.specs.Speech.{bytes, spoken}
+use Rattle.refusals.specs.Lines.{meanings, heads}
 use Rattle.refusals.specs.Words.{meaning, refusedLine}
 use Rattle.refusals.specs.declared.Place.the-variants.{Nowhere, Byte, PlanByte, Line, Cell, Flow}
 
@@ -14,7 +15,7 @@ records-said :
     ∷ bytes "refused 2, flow 7: a load or a flow is for a cell that the site does not have\n"
     ∷ bytes "refused 3, cell 4: the reach has a cell that reaches itself, or a cell that the site does not have\n"
     ∷ bytes "refused 4: the table is too short\n" ∷ []
-unfolding meaning refusedLine spoken decimal digitsOf
+unfolding meanings heads meaning refusedLine spoken decimal digitsOf
 records-said = refl
 
 -- of a site file and of a plan file
@@ -28,7 +29,7 @@ files-said :
     ∷ bytes "refused 12, byte 28 of the plan file: the file goes on after its last record\n"
     ∷ bytes "refused 13: the lent output is too short\n"
     ∷ bytes "refused 14, byte 10 of the plan file: a bit past the last position of the last cell is set\n" ∷ []
-unfolding meaning refusedLine spoken decimal digitsOf
+unfolding meanings heads meaning refusedLine spoken decimal digitsOf
 files-said = refl
 
 -- of flows and of sheets
@@ -39,5 +40,5 @@ flows-said :
     ∷ bytes "refused 17, line 2: the sheet is malformed: a line is not as the format asks, or is missing, or is one too many\n"
     ∷ bytes "refused 18: more than 16 flows ask to be admitted\n"
     ∷ bytes "refused 19: the site is not chained when all its cells count, the spare ones too\n" ∷ []
-unfolding meaning refusedLine spoken decimal digitsOf
+unfolding meanings heads meaning refusedLine spoken decimal digitsOf
 flows-said = refl

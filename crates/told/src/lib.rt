@@ -61,12 +61,12 @@ pub struct PlanReadC {
 }
 
 // A number and its three values; 0 stands for a value that the document does not name.
-fn give(number: u64, a: u64, b: u64, c: u64) -> Answer
+fn give(number: u64, a: usize, b: usize, c: usize) -> Answer
     ensures { λ r. ⌜ r ≡ numbered number a b c ⌝ }
 {
     Answer {
         number,
-        value: [a, b, c],
+        value: [a as u64, b as u64, c as u64],
     }
 }
 
@@ -77,8 +77,8 @@ pub fn fault_answer(said: Fault) -> Answer
     match said {
         Fault::Fine => give(0, 0, 0, 0),
         Fault::Size => give(1, 0, 0, 0),
-        Fault::Load(cell) => give(2, cell as u64, 0, 0),
-        Fault::Reach(row) => give(3, row as u64, 0, 0),
+        Fault::Load(cell) => give(2, cell, 0, 0),
+        Fault::Reach(row) => give(3, row, 0, 0),
     }
 }
 
@@ -97,7 +97,7 @@ pub fn load_answer(said: LoadAnswer) -> Answer
 {
     match said {
         LoadAnswer::Holds => give(0, 0, 0, 0),
-        LoadAnswer::Over(cell, excess) => give(0, cell as u64, excess as u64, 0),
+        LoadAnswer::Over(cell, excess) => give(0, cell, excess, 0),
         LoadAnswer::Refused(f) => fault_answer(f),
     }
 }
@@ -107,7 +107,7 @@ pub fn chain_answer(said: ChainAnswer) -> Answer
 {
     match said {
         ChainAnswer::Chained => give(0, 0, 0, 0),
-        ChainAnswer::Broken(a, b, c) => give(0, a as u64, b as u64, c as u64),
+        ChainAnswer::Broken(a, b, c) => give(0, a, b, c),
         ChainAnswer::Refused(f) => fault_answer(f),
     }
 }
@@ -116,8 +116,8 @@ pub fn least_answer(said: LeastAnswer) -> Answer
     ensures { λ r. ⌜ r ≡ told (leastGiven said) ⌝ }
 {
     match said {
-        LeastAnswer::Least(n) => give(0, n as u64, 0, 0),
-        LeastAnswer::Enough(n) => give(0, n as u64, 1, 0),
+        LeastAnswer::Least(n) => give(0, n, 0, 0),
+        LeastAnswer::Enough(n) => give(0, n, 1, 0),
         LeastAnswer::Refused(f) => fault_answer(f),
     }
 }
@@ -126,7 +126,7 @@ pub fn heaviest_answer(said: HeaviestAnswer) -> Answer
     ensures { λ r. ⌜ r ≡ told (heaviestGiven said) ⌝ }
 {
     match said {
-        HeaviestAnswer::Done(load, cells) => give(0, load as u64, cells as u64, 0),
+        HeaviestAnswer::Done(load, cells) => give(0, load, cells as usize, 0),
         HeaviestAnswer::Refused(f) => fault_answer(f),
     }
 }
@@ -137,7 +137,7 @@ pub fn plan_answer(said: PlanAnswer) -> Answer
     match said {
         PlanAnswer::Done => give(0, 0, 0, 0),
         PlanAnswer::TableShort => give(4, 0, 0, 0),
-        PlanAnswer::NoRoom(cell, short) => give(5, cell as u64, short as u64, 0),
+        PlanAnswer::NoRoom(cell, short) => give(5, cell, short, 0),
         PlanAnswer::Refused(f) => fault_answer(f),
     }
 }
@@ -148,8 +148,8 @@ pub fn check_answer(said: CheckAnswer) -> Answer
     match said {
         CheckAnswer::Valid => give(0, 0, 0, 0),
         CheckAnswer::TableShort => give(4, 0, 0, 0),
-        CheckAnswer::Clash(position, a, c) => give(6, position as u64, a as u64, c as u64),
-        CheckAnswer::Count(cell, count) => give(7, cell as u64, count as u64, 0),
+        CheckAnswer::Clash(position, a, c) => give(6, position, a, c),
+        CheckAnswer::Count(cell, count) => give(7, cell, count, 0),
         CheckAnswer::Refused(f) => fault_answer(f),
     }
 }
@@ -168,10 +168,10 @@ pub fn mend_answer(said: MendAnswer) -> Answer
     ensures { λ r. ⌜ r ≡ told (mendGiven said) ⌝ }
 {
     match said {
-        MendAnswer::Done(many) => give(0, many as u64, 0, 0),
+        MendAnswer::Done(many) => give(0, many, 0, 0),
         MendAnswer::TableShort => give(4, 0, 0, 0),
-        MendAnswer::NoRoom(cell, short) => give(5, cell as u64, short as u64, 0),
-        MendAnswer::ListShort(many) => give(13, many as u64, 0, 0),
+        MendAnswer::NoRoom(cell, short) => give(5, cell, short, 0),
+        MendAnswer::ListShort(many) => give(13, many, 0, 0),
         MendAnswer::Refused(f) => fault_answer(f),
     }
 }
@@ -182,9 +182,9 @@ pub fn share_answer(said: ShareAnswer) -> Answer
     match said {
         ShareAnswer::Done(share, queue, delay) => give(
             0,
-            share.0 as u64,
-            queue.0 as u64,
-            delay.0 as u64,
+            share.0 as usize,
+            queue.0 as usize,
+            delay.0 as usize,
         ),
         ShareAnswer::OutOfRange => give(1, 0, 0, 0),
         ShareAnswer::BadFlow => give(15, 0, 0, 0),
@@ -197,7 +197,7 @@ pub fn read_answer(said: ReadAnswer) -> Answer
 {
     match said {
         ReadAnswer::Done => give(0, 0, 0, 0),
-        ReadAnswer::Refused(number, at) => give(number as u64, at as u64, 0, 0),
+        ReadAnswer::Refused(number, at) => give(number as u64, at, 0, 0),
     }
 }
 
@@ -205,8 +205,8 @@ pub fn site_written(said: SiteWritten) -> Answer
     ensures { λ r. ⌜ r ≡ told (siteWrittenGiven said) ⌝ }
 {
     match said {
-        SiteWritten::Done(n) => give(0, n as u64, 0, 0),
-        SiteWritten::OutShort(n) => give(13, n as u64, 0, 0),
+        SiteWritten::Done(n) => give(0, n, 0, 0),
+        SiteWritten::OutShort(n) => give(13, n, 0, 0),
         SiteWritten::Refused(f) => fault_answer(f),
     }
 }
@@ -215,9 +215,9 @@ pub fn plan_written(said: PlanWritten) -> Answer
     ensures { λ r. ⌜ r ≡ told (planWrittenGiven said) ⌝ }
 {
     match said {
-        PlanWritten::Done(n) => give(0, n as u64, 0, 0),
+        PlanWritten::Done(n) => give(0, n, 0, 0),
         PlanWritten::TableShort => give(4, 0, 0, 0),
-        PlanWritten::OutShort(n) => give(13, n as u64, 0, 0),
+        PlanWritten::OutShort(n) => give(13, n, 0, 0),
         PlanWritten::Refused(f) => fault_answer(f),
     }
 }
@@ -227,7 +227,7 @@ pub fn sheet_answer(said: SheetAnswer) -> Answer
 {
     match said {
         SheetAnswer::Done => give(0, 0, 0, 0),
-        SheetAnswer::BadLine(line) => give(17, line as u64, 0, 0),
+        SheetAnswer::BadLine(line) => give(17, line, 0, 0),
         SheetAnswer::Refused(f) => fault_answer(f),
     }
 }
@@ -236,8 +236,8 @@ pub fn sheet_written(said: SheetWritten) -> Answer
     ensures { λ r. ⌜ r ≡ told (sheetWrittenGiven said) ⌝ }
 {
     match said {
-        SheetWritten::Done(n) => give(0, n as u64, 0, 0),
-        SheetWritten::OutShort(n) => give(13, n as u64, 0, 0),
+        SheetWritten::Done(n) => give(0, n, 0, 0),
+        SheetWritten::OutShort(n) => give(13, n, 0, 0),
         SheetWritten::Refused(f) => fault_answer(f),
     }
 }
@@ -246,12 +246,12 @@ pub fn admit_answer(said: AdmitAnswer) -> Answer
     ensures { λ r. ⌜ r ≡ told (admitGiven said) ⌝ }
 {
     match said {
-        AdmitAnswer::Admitted(set) => give(0, set as u64, 0, 0),
+        AdmitAnswer::Admitted(set) => give(0, set as usize, 0, 0),
         AdmitAnswer::TooMany => give(18, 0, 0, 0),
         AdmitAnswer::NotChained => give(19, 0, 0, 0),
-        AdmitAnswer::BadCell(flow) => give(2, flow as u64, 0, 0),
-        AdmitAnswer::BadFlow(flow) => give(15, flow as u64, 0, 0),
-        AdmitAnswer::BigShare(flow) => give(16, flow as u64, 0, 0),
+        AdmitAnswer::BadCell(flow) => give(2, flow, 0, 0),
+        AdmitAnswer::BadFlow(flow) => give(15, flow, 0, 0),
+        AdmitAnswer::BigShare(flow) => give(16, flow, 0, 0),
         AdmitAnswer::Refused(f) => fault_answer(f),
     }
 }

@@ -26,7 +26,9 @@ use Rattle.checker.specs.Check.{checkAnswer}
 use Rattle.checker.specs.declared.CheckAnswer.{CheckAnswer}
 use Rattle.checker.specs.declared.CheckAnswer.the-variants.{Clash, Refused}
 use Rattle.checker.proofs.Meaning.{clash-means}
-use Rattle.verdicts.specs.Words.{clashLine, reachNamed, clashWords, checkWords}
+use Rattle.refusals.specs.Sentences.{sentence}
+use Rattle.verdicts.specs.Lines.{lines}
+use Rattle.verdicts.specs.Words.{waySentence, reachNamed, clashSentence, checkWords}
 use Rattle.verdicts.specs.Means.{WaySaid, BothSend}
 
 -- a clash is answered of a record without a fault
@@ -38,7 +40,7 @@ accepted (Reach k) o p a c e = let z : _≡_ {A = ℕ} 0 1 = cc in absurd (omega
 
 -- the sentence for the ways that the record has
 way : (s : Site) (a c slot channel : ℕ) (forth back : Bool) → reaches (s .reach) (a - 1) (c - 1) ≡ forth → reaches (s .reach) (c - 1) (a - 1) ≡ back
-    → (forth || back) ≡ true → WaySaid s a c slot channel (clashLine forth back a c slot channel)
+    → (forth || back) ≡ true → WaySaid s a c slot channel (sentence lines (waySentence forth back a c slot channel))
 unfolding reaches
 way s a c slot channel true true p q h = inr (inr (eqb-true _ _ p, eqb-true _ _ q, refl))
 way s a c slot channel true false p q h = inl (eqb-true _ _ p, eqb-false _ _ q, refl)
@@ -74,7 +76,7 @@ module _ (s : Site) (t : List ℕ) (p a c : ℕ) (e : checkAnswer s t ≡ Clash 
   width = shown .4 .within
 
   pub clash-said : WaySaid s a c (p / s .channels + 1) (p % s .channels + 1) (checkWords s (Clash p a c))
-  unfolding clashWords reachNamed
+  unfolding clashSentence reachNamed
   clash-said =
       let z = fine-sized s fine in
       let i = inside in

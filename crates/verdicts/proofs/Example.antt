@@ -22,9 +22,12 @@ use Rattle.records.specs.declared.ReadAnswer.the-variants as read
 use Rattle.sheet.specs.declared.SheetAnswer.the-variants as sheet
 use Rattle.text.specs.Decimal.{digitsOf, decimal}
 use Rattle.speech.specs.Speech.{bytes, spoken}
+use Rattle.refusals.specs.Lines.{meanings, heads}
 use Rattle.refusals.specs.Words.{meaning, refusedLine}
-use Rattle.verdicts.specs.Words.{loadOf, reachNamed, clashWords, changesWords, checkWords, planWords, mendWords, badFlowWords, shareWords}
-use Rattle.verdicts.specs.Words.{faultWords, readWords, planReadWords, sheetWords, otherPlanLine}
+use Rattle.verdicts.specs.Lines.{lines}
+use Rattle.verdicts.specs.Words.{loadOf, reachNamed, clashSentence, changesSentence, badFlowRow}
+use Rattle.verdicts.specs.Words.{checkWords, planWords, mendWords, shareWords, faultWords, readWords, sheetWords, otherPlanLine}
+use Rattle.verdicts.specs.declared.File.the-variants.{SiteFile, PlanFile}
 
 -- P1 and P2: cell 2 reaches cells 1 and 3
 abbrev P1 : Site
@@ -68,7 +71,8 @@ checked :
     ∷ bytes "refused 4: the table is too short\n"
     ∷ bytes "refused 1: the size is out of range: a site has 1 to 32 cells, 1 to 128 slots and 1 to 16 channels\n" ∷ []
 unfolding firstOf sum any secondAt clashesAt firstAt lowestClash wrongIn lowestWrong tableVerdict
-    upTo sizeOk rowBad extraLoad badRow faultOf reaches clashIn verdictOf checkAnswer loadOf reachNamed clashWords meaning refusedLine spoken decimal digitsOf
+    upTo sizeOk rowBad extraLoad badRow faultOf reaches clashIn verdictOf checkAnswer loadOf reachNamed clashSentence
+    lines meanings heads meaning refusedLine spoken decimal digitsOf
 checked = refl
 
 -- ---- plan: P1, and P2, which is full
@@ -76,7 +80,8 @@ planned :
     planWords P1 (planAnswer P1 (replicate 18 0)) ∷ planWords P2 (planAnswer P2 (replicate 18 0)) ∷ []
     ≡ bytes "planned: 3 cells, 3 slots, 2 channels\n"
     ∷ bytes "refused 5, cell 2: no room for 1 of its fragments; duggfrask why says what that means\n" ∷ []
-unfolding firstOf sum any part forbid marked fill unmet run upTo sizeOk rowBad extraLoad badRow faultOf reaches clashIn planAnswer spoken decimal digitsOf
+unfolding firstOf sum any part forbid marked fill unmet run upTo sizeOk rowBad extraLoad badRow faultOf reaches clashIn planAnswer lines
+    spoken decimal digitsOf
 planned = refl
 
 -- ---- mend: a valid table; one change; what is kept leaves no room, on P3, which the planner plans, and on P2, which it does not; a list that is too short
@@ -92,7 +97,7 @@ mended :
     ∷ bytes "refused 5, cell 2: keeping these reservations leaves no room for 1 of its fragments; a fresh plan may do\n"
     ∷ bytes "refused 13: the lent output is too short\n" ∷ []
 unfolding firstOf sum any part forbid marked fill unmet run upTo sizeOk rowBad extraLoad badRow faultOf reaches clashIn
-    stand mendAnswer planAnswer changesWords meaning refusedLine spoken decimal digitsOf
+    stand mendAnswer planAnswer changesSentence lines meanings heads meaning refusedLine spoken decimal digitsOf
 mended = refl
 
 -- ---- share: once and twice; a superframe of 0 slots; of a 15 the first number that is out of range; a share that is too big
@@ -108,13 +113,14 @@ shared :
     ∷ bytes "refused 15: the period is not 1 to 65,535\n"
     ∷ bytes "refused 15: the repeats are not 1 to 4\n"
     ∷ bytes "refused 16: the flow needs a share above 65,535 fragments in a superframe, its repeats counted\n" ∷ []
-unfolding roundedUp upTo shareOf badFlowWords meaning refusedLine spoken decimal digitsOf
+unfolding roundedUp upTo shareOf badFlowRow lines meanings heads meaning refusedLine spoken decimal digitsOf
 shared = refl
 
 -- ---- files and sheets: the site file and the plan file are told apart, a line and a cell too; and a plan of another size
 read-said :
-    readWords (read.Refused 8 20) ∷ planReadWords (read.Refused 14 10) ∷ sheetWords (sheet.BadLine 2) ∷ sheetWords (sheet.Refused (fault.Reach 2))
-    ∷ faultWords (fault.Load 5) ∷ readWords read.Done ∷ planReadWords read.Done ∷ sheetWords sheet.Done ∷ otherPlanLine 5 8 1 ∷ []
+    readWords SiteFile (read.Refused 8 20) ∷ readWords PlanFile (read.Refused 14 10)
+    ∷ sheetWords (sheet.BadLine 2) ∷ sheetWords (sheet.Refused (fault.Reach 2)) ∷ faultWords (fault.Load 5)
+    ∷ readWords SiteFile read.Done ∷ readWords PlanFile read.Done ∷ sheetWords sheet.Done ∷ otherPlanLine 5 8 1 ∷ []
     ≡ bytes "refused 8, byte 20 of the site file: the file ends too early: inside a record, or before one that has to be there\n"
     ∷ bytes "refused 14, byte 10 of the plan file: a bit past the last position of the last cell is set\n"
     ∷ bytes "refused 17, line 2: the sheet is malformed: a line is not as the format asks, or is missing, or is one too many\n"
@@ -122,5 +128,5 @@ read-said :
     ∷ bytes "refused 2, cell 5: a load or a flow is for a cell that the site does not have\n"
     ∷ [] ∷ [] ∷ []
     ∷ bytes "refused: the plan is for 5 cells, 8 slots and 1 channel, and the site is of another size\n" ∷ []
-unfolding meaning refusedLine spoken decimal digitsOf
+unfolding lines meanings heads meaning refusedLine spoken decimal digitsOf
 read-said = refl

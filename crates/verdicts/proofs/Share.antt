@@ -13,7 +13,10 @@ use Rattle.shares.specs.Share.{shareOf}
 use Rattle.shares.specs.Means.{ShareMeans}
 use Rattle.shares.specs.declared.ShareAnswer.the-variants.{OutOfRange, BadFlow}
 use Rattle.shares.proofs.Means.{share-means}
-use Rattle.verdicts.specs.Words.{badBurstLine, badPeriodLine, badRepeatsLine, badFlowWords}
+use Rattle.phrases.specs.Phrases.{phrase}
+use Rattle.phrases.specs.declared.Phrase.the-variants.{Row}
+use Rattle.verdicts.specs.Lines.{lines, badBurstRow, badPeriodRow, badRepeatsRow}
+use Rattle.verdicts.specs.Words.{badFlowRow, shareWords, badBurstLine, badPeriodLine, badRepeatsLine}
 
 -- the words w name one of the three, and it is out of range
 abbrev pub NamesWrong : (c p k : ℕ) → List ℕ → Type 0
@@ -30,11 +33,11 @@ module _ (t c p k : ℕ) where
   outside most x e i = true≢false (sym (up-to-is most x i) ∙ e)
 
   by : (u v : Bool) → upTo 65535 c ≡ u → upTo 65535 p ≡ v → ShareMeans t c p k BadFlow
-      → NamesWrong c p k (pick u (pick v badRepeatsLine badPeriodLine) badBurstLine)
+      → NamesWrong c p k (phrase lines (Row (pick u (pick v badRepeatsRow badPeriodRow) badBurstRow) 0 0 0 0))
   by false v e h m = inl (refl, outside 65535 c e)
   by true false e h m = inr (inl (refl, outside 65535 p h))
   by true true e h m = inr (inr (refl, λ i. m .1 (up-to _ _ e, (up-to _ _ h, i))))
 
-  pub flow-wrong : shareOf t c p k ≡ BadFlow → NamesWrong c p k (badFlowWords c p)
-  unfolding badFlowWords
+  pub flow-wrong : shareOf t c p k ≡ BadFlow → NamesWrong c p k (shareWords c p BadFlow)
+  unfolding badFlowRow
   flow-wrong e = by (upTo 65535 c) (upTo 65535 p) refl refl (rw e at (share-means t c p k))

@@ -1,3 +1,4 @@
 -- The definitions of crate `verdicts`, module by module.
+pub mod Lines
 pub mod Words
 pub mod Means

@@ -19,6 +19,7 @@ use Rattle.site.specs.declared.Fault.the-variants.{Fine}
 use Rattle.words.specs.Clashes.{secondIn, clashesIn, firstIn}
 use Rattle.checker.specs.Check.{verdictOf}
 use Rattle.checker.specs.declared.CheckAnswer.the-variants.{Valid, Clash, Count}
+use Rattle.checker.proofs.Judged.{judged-by}
 use Rattle.wordtable.specs.Words.{sendsAt}
 use Rattle.wordtable.specs.Tally.{clashing, Counted, miscounted}
 use Rattle.wordtable.specs.Check.{checkWordsAnswer}
@@ -86,4 +87,4 @@ module _ (cells n : ℕ) (loads rows words : List ℕ) where
 pub words-judged : (s : Site) (w : List ℕ) → faultOf s ≡ Fine → positions s ≤ length w
     → verdictOf (tableVerdict (netOf s) (sendsAt w)) ≡ checkWordsAnswer s w
 unfolding checkWordsAnswer
-words-judged s w e h = rw (e, le-ltb (length w) (positions s) h)
+words-judged s w = judged-by s (sendsAt w) (length w) (positions s)

@@ -185,6 +185,25 @@ pub fn check_words(site: Site, words: &[u32]) -> CheckAnswer
     judge(words, n, &clash, loads, cells)
 }
 
+// What a change of form answers, by what is lent: refuses a site at fault, then a table or words that are too short.
+fn answer_for(site: Site, table: &[u8], words: &[u32]) -> FormAnswer
+    ensures { λ r. ⌜ r ≡ formAnswer site (now (table .entry)) (now (words .entry)) ⌝ }
+{
+    let fault = site.fault_in();
+    let Fault::Fine = fault else {
+        return FormAnswer::Refused(fault);
+    };
+    let cells = site.cells as usize;
+    let n = (site.slots as usize) * (site.channels as usize);
+    if table.len() < cells * n {
+        return FormAnswer::TableShort;
+    }
+    if words.len() < n {
+        return FormAnswer::TableShort;
+    }
+    FormAnswer::Done
+}
+
 // Gathers the words of a table of n positions in the first n places: they are cleared, and then each cell's row is joined to them.
 fn gather(words: &mut [u32], table: &[u8], n: usize, cells: usize)
     requires { ⌜ (cells ≤ 32) × (n ≤ length (now words)) × (cells * n ≤ length (now table)) ⌝ }
@@ -201,20 +220,14 @@ pub fn to_words(site: Site, table: &[u8], words: &mut [u32]) -> FormAnswer
     ensures answer { λ r. ⌜ r ≡ formAnswer site (now (table .entry)) (now (words .entry)) ⌝ }
     ensures words { λ _. ⌜ now (words .exit) ≡ toWords site (now (table .entry)) (now (words .entry)) ⌝ }
 {
-    let fault = site.fault_in();
-    let Fault::Fine = fault else {
-        return FormAnswer::Refused(fault);
+    let answer = answer_for(site, table, words);
+    let FormAnswer::Done = answer else {
+        return answer;
     };
     let cells = site.cells as usize;
     let n = (site.slots as usize) * (site.channels as usize);
-    if table.len() < cells * n {
-        return FormAnswer::TableShort;
-    }
-    if words.len() < n {
-        return FormAnswer::TableShort;
-    }
     gather(words, table, n, cells);
-    FormAnswer::Done
+    answer
 }
 
 // 1 where a word has cell i, else 0.
@@ -252,18 +265,12 @@ pub fn to_bytes(site: Site, words: &[u32], table: &mut [u8]) -> FormAnswer
     ensures answer { λ r. ⌜ r ≡ formAnswer site (now (table .entry)) (now (words .entry)) ⌝ }
     ensures table { λ _. ⌜ now (table .exit) ≡ toBytes site (now (words .entry)) (now (table .entry)) ⌝ }
 {
-    let fault = site.fault_in();
-    let Fault::Fine = fault else {
-        return FormAnswer::Refused(fault);
+    let answer = answer_for(site, table, words);
+    let FormAnswer::Done = answer else {
+        return answer;
     };
     let cells = site.cells as usize;
     let n = (site.slots as usize) * (site.channels as usize);
-    if table.len() < cells * n {
-        return FormAnswer::TableShort;
-    }
-    if words.len() < n {
-        return FormAnswer::TableShort;
-    }
     scatter(table, words, n, cells);
-    FormAnswer::Done
+    answer
 }

@@ -1,45 +1,35 @@
--- `checker::check` meets its contract: a case for each way out. Assumes nothing.
-use borrow.Author.Tests.{lt-ltb}
-use Rattle.theory.specs.Net.{unblocked}
+-- `checker::check` meets its contract: each way out is one of the ways of a check. Assumes nothing.
+use mathlib.Core.Path.{_≡_, sym, _∙_}
+use native.Mathlib.Omega.{arith}
+use lib.ListN.{length}
 use Rattle.theory.specs.Greedy.{reserved}
-use Rattle.theory.specs.Verdict.{tableVerdict}
-use Rattle.site.specs.Record.{positions, faultOf}
-use Rattle.site.specs.Reach.{netIn}
+use Rattle.site.specs.Record.{positions, size, faultOf}
 use Rattle.site.specs.declared.Fault.the-variants.{Fine}
 use Rattle.site.proofs.Faults.{not-fine, fine-sized, Sized, few-positions, few-bytes}
-use Rattle.checker.specs.Check.{verdictOf, checkAnswer}
-use Rattle.checker.proofs.Judged.{check-judged}
-use mathlib.Core.Path.{_≡_, sym, ap, _∙_}
-use native.Mathlib.Omega.{arith}
+use Rattle.checker.specs.Check.{checkAnswer}
+use Rattle.checker.proofs.Judged.{refused-by, short-by, rows-by}
 use borrow.Author.Needs.{needs}
 use Rattle.checker.proofs.check.Statement.{statement}
 use Rattle.checker.proofs.check.Tie as tie
 
 -- past the match the site has no fault, so its sizes are in range
-fine : (c : tie.After-enum-told) → faultOf (c .before .before .before .before .args .site) ≡ Fine
-fine c = sym (c .before .before .fault-in .ensures) ∙ c .enum-told .given .1
+module _ (c : tie.After-enum-told) where
+  abbrev start : tie.Start
+  start = c .before .before .before .before
 
-sizes : (c : tie.After-enum-told) → Sized (c .before .before .before .before .args .site)
-sizes c = fine-sized _ (fine c)
+  fine : faultOf (start .args .site) ≡ Fine
+  fine = sym (c .before .before .fault-in .ensures) ∙ c .enum-told .given .1
 
-fault-in-requires : tie.Need-fault-in-requires
-fault-in-requires c κs = search needs
-
-enum-told : tie.Need-enum-told
-enum-told c = search needs
+  sizes : Sized (start .args .site)
+  sizes = fine-sized _ fine
 
 returns : tie.Need-returns
 unfolding checkAnswer
-returns c = simp (sym (c .before .fault-in .ensures), not-fine (c .before .fault-in .result) (c .match .keys2))
-
-cast-cells : tie.Need-cast-cells
-cast-cells c = search needs
-
-cast-n : tie.Need-cast-n
-cast-n c = search needs
-
-cast-n-2 : tie.Need-cast-n-2
-cast-n-2 c = search needs
+returns c =
+    let a = c .before .before .before .args in
+    let call = c .before .fault-in in
+    refused-by (a .site) (reserved (positions (a .site)) (a .table .now)) (length (a .table .now)) (size (a .site))
+    (call .result) (call .ensures) (not-fine (call .result) (c .match .keys2))
 
 mul-n : tie.Need-mul-n
 mul-n c = omega (arith, few-positions (sizes (c .before .before .before)))
@@ -49,10 +39,10 @@ mul-if1 c = omega (arith, few-bytes (sizes (c .before .before .before)))
 
 returns-2 : tie.Need-returns-2
 unfolding checkAnswer
-returns-2 c = simp (fine (c .before .before .before .before), lt-ltb _ _ (c .if1 .taken))
-
-clash-rows-requires : tie.Need-clash-rows-requires
-clash-rows-requires c κs = search needs
+returns-2 c =
+    let told = c .before .before .before .before in
+    let a = start told .args in
+    short-by (a .site) (reserved (positions (a .site)) (a .table .now)) (length (a .table .now)) (size (a .site)) (fine told) (c .if1 .taken)
 
 judge-requires : tie.Need-judge-requires
 judge-requires c κs =
@@ -61,29 +51,29 @@ judge-requires c κs =
     (z .cells-most, few-positions z, e .if1 .left)
 
 returns-3 : tie.Need-returns-3
+unfolding checkAnswer
 returns-3 c =
     let e = c .before .before .before .before in
-    let a = e .before .before .before .before .before .before .before .before .args in
-    let s = a .site in
-    let ok : faultOf s ≡ Fine = fine (e .before .before .before .before) in
+    let told = e .before .before .before .before in
+    let a = start told .args in
+    let rows = c .before .before .before .clash-rows in
     c .judge .ensures
-    ∙ ap (λ clash. verdictOf (tableVerdict (netIn (s .cells) (positions s) (s .loads) clash unblocked) (reserved (positions s) (a .table .now))))
-    (c .before .before .before .clash-rows .ensures .1 ok)
-    ∙ check-judged s (a .table .now) ok (e .if1 .left)
+    ∙ rows-by (a .site) (reserved (positions (a .site)) (a .table .now)) (length (a .table .now)) (size (a .site))
+    (fine told) (e .if1 .left) (rows .result) (rows .ensures .1 (fine told))
 
 pub check-spec : {M : Type 1} → statement M
 check-spec =
     tie.close
     (tie.spec
-    fault-in-requires
-    enum-told
+    (λ c κs. search needs)
+    (λ c. search needs)
     returns
-    cast-cells
-    cast-n
-    cast-n-2
+    (λ c. search needs)
+    (λ c. search needs)
+    (λ c. search needs)
     mul-n
     mul-if1
     returns-2
-    clash-rows-requires
+    (λ c κs. search needs)
     judge-requires
     returns-3)

@@ -6,17 +6,8 @@ use borrow.Author.Needs.{needs}
 use Rattle.flowwords.proofs.share_at.Statement.{statement}
 use Rattle.flowwords.proofs.share_at.Tie as tie
 
-share-in-requires : tie.Need-share-in-requires
-share-in-requires c κs = search needs
-
-enum-known-a : tie.Need-enum-known-a
-enum-known-a c = search needs
-
 returns : tie.Need-returns
 returns c = sym (ap amount (sym (c .before .share-in .ensures)) ∙ no-amount (c .before .share-in .result) (c .match .keys2))
-
-cast-result : tie.Need-cast-result
-cast-result c = search needs
 
 returns-2 : tie.Need-returns-2
 returns-2 c = sym (ap amount (sym (c .before .before .before .before .share-in .ensures) ∙ c .before .before .a .given .1))
@@ -25,8 +16,8 @@ pub share-at-spec : {M : Type 1} → statement M
 share-at-spec =
     tie.close
     (tie.spec
-    share-in-requires
-    enum-known-a
+    (λ c κs. search needs)
+    (λ c. search needs)
     returns
-    cast-result
+    (λ c. search needs)
     returns-2)

@@ -5,12 +5,6 @@ use borrow.Author.Needs.{needs}
 use Rattle.flowwords.proofs.value_in.Statement.{statement}
 use Rattle.flowwords.proofs.value_in.Tie as tie
 
-has-requires : tie.Need-has-requires
-has-requires c κs = search needs
-
-cast-result : tie.Need-cast-result
-cast-result c = search needs
-
 returns : tie.Need-returns
 returns c = (rw (sym (c .before .before .has .ensures) ∙ c .before .if1 .taken), omega arith)
 
@@ -18,4 +12,4 @@ returns-2 : tie.Need-returns-2
 returns-2 c = (rw (sym (c .before .has .ensures) ∙ c .if1 .left), omega arith)
 
 pub value-in-spec : {M : Type 1} → statement M
-value-in-spec = tie.close (tie.spec has-requires cast-result returns returns-2)
+value-in-spec = tie.close (tie.spec (λ c κs. search needs) (λ c. search needs) returns returns-2)

@@ -21,24 +21,6 @@ loop-holds : tie.Need-loop-holds Inv-loop μ-loop
 unfolding sum
 loop-holds c = (omega arith, omega arith, refl)
 
-mul-value-in : tie.Need-mul-value-in Inv-loop μ-loop
-mul-value-in c = search needs
-
-array-copy-out-value-in : tie.Need-array-copy-out-value-in Inv-loop μ-loop
-array-copy-out-value-in c = search needs
-
-value-in-requires : tie.Need-value-in-requires Inv-loop μ-loop
-value-in-requires c κs = search needs
-
-add-w : tie.Need-add-w Inv-loop μ-loop
-add-w c = search needs
-
-add-k : tie.Need-add-k Inv-loop μ-loop
-add-k c = search needs
-
-loop-less : tie.Need-loop-less Inv-loop μ-loop
-loop-less c = search needs
-
 loop-again : tie.Need-loop-again Inv-loop μ-loop
 unfolding sum
 loop-again c =
@@ -60,11 +42,11 @@ worth-of-spec =
     Inv-loop
     μ-loop
     loop-holds
-    mul-value-in
-    array-copy-out-value-in
-    value-in-requires
-    add-w
-    add-k
-    loop-less
+    (λ c. search needs)
+    (λ c. search needs)
+    (λ c κs. search needs)
+    (λ c. search needs)
+    (λ c. search needs)
+    (λ c. search needs)
     loop-again
     returns)

@@ -28,29 +28,14 @@ row-line-requires c κs =
     let q = s .pre .0 in
     ((q .3 (omega arith), q .1), ((omega (arith, q .0), omega (arith, rows, row, q .2)), omega (arith, s .pre .1, l .inv .1)))
 
-result-requires : tie.Need-result-requires Inv-loop μ-loop
-result-requires c κs = search needs
-
 same-length : tie.Need-same-length Inv-loop μ-loop
-same-length c = c .before .before .before .before .before .row-line .kept .0 ∙ c .before .before .before .before .before .before .before .before .loop .inv .1
-
-returns : tie.Need-returns Inv-loop μ-loop
-returns c = search needs
-
-add-i : tie.Need-add-i Inv-loop μ-loop
-add-i c = omega arith
-
-loop-less : tie.Need-loop-less Inv-loop μ-loop
-loop-less c = omega arith
+same-length c = let r = c .before .before .before .before .before in r .row-line .kept .0 ∙ r .before .before .before .loop .inv .1
 
 loop-again : tie.Need-loop-again Inv-loop μ-loop
-loop-again c = (omega arith, c .before .before .before .before .before .row-line .kept .0 ∙ c .before .before .before .before .before .before .before .before .loop .inv .1)
+loop-again c = let r = c .before .before .before .before .before in (omega arith, r .row-line .kept .0 ∙ r .before .before .before .loop .inv .1)
 
 same-length-2 : tie.Need-same-length-2 Inv-loop μ-loop
 same-length-2 c = c .before .loop .inv .1
-
-returns-2 : tie.Need-returns-2 Inv-loop μ-loop
-returns-2 c = search needs
 
 pub print-rows-spec : {M : Type 1} → statement M
 print-rows-spec =
@@ -60,11 +45,11 @@ print-rows-spec =
     μ-loop
     loop-holds
     row-line-requires
-    result-requires
+    (λ c κs. search needs)
     same-length
-    returns
-    add-i
-    loop-less
+    (λ c. search needs)
+    (λ c. search needs)
+    (λ c. search needs)
     loop-again
     same-length-2
-    returns-2)
+    (λ c. search needs))

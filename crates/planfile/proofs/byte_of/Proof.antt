@@ -3,7 +3,7 @@ use borrow.Author.Needs.{needs}
 use Prim.Native.Nat.{_<_}
 use native.Mathlib.Omega.{arith}
 use denote.Ref.{now}
-use Rattle.planfile.proofs.Bits.{ones-lt, ones-eight}
+use Rattle.planfile.proofs.Bits.{ones-lt, ones-both}
 use Rattle.planfile.proofs.byte_of.Statement.{statement}
 use Rattle.planfile.proofs.byte_of.Tie as tie
 
@@ -29,7 +29,7 @@ add-result c = omega (arith, small c)
 returns : tie.Need-returns
 returns c =
     let a = c .before .before .before .args in
-    omega (arith, ones-eight (now (a .table)) (a .k), c .before .four-of .ensures, c .four-of2 .ensures)
+    omega (arith, ones-both (now (a .table)) 4 4 (a .k), c .before .four-of .ensures, c .four-of2 .ensures)
 
 pub byte-of-spec : {M : Type 1} → statement M
 byte-of-spec =

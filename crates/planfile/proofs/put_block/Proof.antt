@@ -4,116 +4,94 @@ use Prim.Native.Nat.{_+_, _*_}
 use mathlib.Core.Path.{ap, _∙_}
 use native.Mathlib.Omega.{arith}
 use lib.Seq.{sets}
-use denote.Ref.{now}
 use Rattle.planfile.specs.Block.{Runs}
-use Rattle.planfile.proofs.Block.{runs-below, join-bits, join-twos, join-fours, runs-packed}
+use Rattle.planfile.proofs.Block.{runs-below, join, runs-packed}
 use Rattle.planfile.proofs.put_block.Statement.{statement}
 use Rattle.planfile.proofs.put_block.Tie as tie
 
-mul-take-bits : tie.Need-mul-take-bits
-mul-take-bits c = search needs
+-- the bits, and what the three passes make of them
+module _ (c : tie.After-take-bits) where
+  abbrev bits-start : tie.Start
+  bits-start = c .before .before .before .before
 
-slice-aggregate-take-bits : tie.Need-slice-aggregate-take-bits
-slice-aggregate-take-bits c = search needs
+  bits : Runs (bits-start .args .table .now) (8 * bits-start .args .j) 1 256 (c .take-bits .last .0)
+  bits = c .take-bits .ensures
 
-take-bits-requires : tie.Need-take-bits-requires
-take-bits-requires c κs = search needs
+module _ (c : tie.After-join-pairs) where
+  abbrev twos-start : tie.Start
+  twos-start = bits-start (c .before .before .before .before)
 
-slice-aggregate-take-twos : tie.Need-slice-aggregate-take-twos
-slice-aggregate-take-twos c = search needs
+  twos : Runs (twos-start .args .table .now) (8 * twos-start .args .j) 2 128 (c .join-pairs .last .0)
+  twos =
+      let p = c .before .before .before .before in
+      let a = twos-start .args in
+      join (a .table .now) (p .take-bits .last .0) (c .join-pairs .last .0) (8 * a .j) 1 128 (bits p) (c .join-pairs .ensures)
 
-slice-aggregate-take-twos-2 : tie.Need-slice-aggregate-take-twos-2
-slice-aggregate-take-twos-2 c = search needs
+module _ (c : tie.After-join-pairs2) where
+  abbrev fours-start : tie.Start
+  fours-start = twos-start (c .before .before .before .before)
 
-bits : (c : tie.After-take-bits) → let a = c .before .before .before .before .args in Runs (now (a .table)) (8 * a .j) 1 256 (c .take-bits .last .0)
-bits c = c .take-bits .ensures
+  fours : Runs (fours-start .args .table .now) (8 * fours-start .args .j) 4 64 (c .join-pairs2 .last .0)
+  fours =
+      let p = c .before .before .before .before in
+      let a = fours-start .args in
+      join (a .table .now) (p .join-pairs .last .0) (c .join-pairs2 .last .0) (8 * a .j) 2 64 (twos p) (c .join-pairs2 .ensures)
 
-take-twos-requires : tie.Need-take-twos-requires
-take-twos-requires c κs =
+module _ (c : tie.After-join-pairs3) where
+  abbrev bytes-start : tie.Start
+  bytes-start = fours-start (c .before .before .before .before)
+
+  bytes : Runs (bytes-start .args .table .now) (8 * bytes-start .args .j) 8 32 (c .join-pairs3 .last .0)
+  bytes =
+      let p = c .before .before .before .before in
+      let a = bytes-start .args in
+      join (a .table .now) (p .join-pairs2 .last .0) (c .join-pairs3 .last .0) (8 * a .j) 4 32 (fours p) (c .join-pairs3 .ensures)
+
+join-pairs-requires : tie.Need-join-pairs-requires
+join-pairs-requires c κs =
     let p = c .before .before .before in
-    let a = p .before .before .before .before .args in
-    (runs-below (now (a .table)) (p .take-bits .last .0) (8 * a .j) 1 256 (bits p), omega (arith, p .take-bits .kept .0), omega arith)
+    let a = bits-start p .args in
+    (omega arith, runs-below (a .table .now) (p .take-bits .last .0) (8 * a .j) 1 256 (bits p), omega (arith, p .take-bits .kept .0), omega arith)
 
-slice-aggregate-take-fours : tie.Need-slice-aggregate-take-fours
-slice-aggregate-take-fours c = search needs
-
-slice-aggregate-take-fours-2 : tie.Need-slice-aggregate-take-fours-2
-slice-aggregate-take-fours-2 c = search needs
-
-twos : (c : tie.After-take-twos) → let a = c .before .before .before .before .before .before .before .before .args in Runs (now (a .table)) (8 * a .j) 2 128 (c .take-twos .last .0)
-twos c =
-    let a = c .before .before .before .before .before .before .before .before .args in
-    let p = c .before .before .before .before in
-    join-bits (now (a .table)) (p .take-bits .last .0) (c .take-twos .last .0) (8 * a .j) (bits p) (c .take-twos .ensures)
-
-take-fours-requires : tie.Need-take-fours-requires
-take-fours-requires c κs =
+join-pairs-requires-2 : tie.Need-join-pairs-requires-2
+join-pairs-requires-2 c κs =
     let p = c .before .before .before in
-    let a = p .before .before .before .before .before .before .before .before .args in
-    (runs-below (now (a .table)) (p .take-twos .last .0) (8 * a .j) 2 128 (twos p), omega (arith, p .take-twos .kept .0), omega arith)
+    let a = twos-start p .args in
+    (omega arith, runs-below (a .table .now) (p .join-pairs .last .0) (8 * a .j) 2 128 (twos p), omega (arith, p .join-pairs .kept .0), omega arith)
 
-slice-aggregate-take-bytes : tie.Need-slice-aggregate-take-bytes
-slice-aggregate-take-bytes c = search needs
-
-slice-aggregate-take-bytes-2 : tie.Need-slice-aggregate-take-bytes-2
-slice-aggregate-take-bytes-2 c = search needs
-
-fours : (c : tie.After-take-fours) → let a = c .before .before .before .before .before .before .before .before .before .before .before .before .args in Runs (now (a .table)) (8 * a .j) 4 64 (c .take-fours .last .0)
-fours c =
-    let a = c .before .before .before .before .before .before .before .before .before .before .before .before .args in
-    let p = c .before .before .before .before in
-    join-twos (now (a .table)) (p .take-twos .last .0) (c .take-fours .last .0) (8 * a .j) (twos p) (c .take-fours .ensures)
-
-take-bytes-requires : tie.Need-take-bytes-requires
-take-bytes-requires c κs =
+join-pairs-requires-3 : tie.Need-join-pairs-requires-3
+join-pairs-requires-3 c κs =
     let p = c .before .before .before in
-    let a = p .before .before .before .before .before .before .before .before .before .before .before .before .args in
-    (runs-below (now (a .table)) (p .take-fours .last .0) (8 * a .j) 4 64 (fours p), omega (arith, p .take-fours .kept .0), omega arith)
-
-slice-aggregate-put-bytes : tie.Need-slice-aggregate-put-bytes
-slice-aggregate-put-bytes c = search needs
-
-add-put-bytes : tie.Need-add-put-bytes
-add-put-bytes c = search needs
-
-put-bytes-requires : tie.Need-put-bytes-requires
-put-bytes-requires c κs = search needs
-
-same-length : tie.Need-same-length
-same-length c = search needs
-
-bytes : (c : tie.After-take-bytes) → let a = c .before .before .before .before .before .before .before .before .before .before .before .before .before .before .before .before .args in Runs (now (a .table)) (8 * a .j) 8 32 (c .take-bytes .last .0)
-bytes c =
-    let a = c .before .before .before .before .before .before .before .before .before .before .before .before .before .before .before .before .args in
-    let p = c .before .before .before .before in
-    join-fours (now (a .table)) (p .take-fours .last .0) (c .take-bytes .last .0) (8 * a .j) (fours p) (c .take-bytes .ensures)
+    let a = fours-start p .args in
+    (omega arith, runs-below (a .table .now) (p .join-pairs2 .last .0) (8 * a .j) 4 64 (fours p), omega (arith, p .join-pairs2 .kept .0), omega arith)
 
 returns : tie.Need-returns
 returns c =
     let p = c .before .before in
     let b = p .before .before .before .before in
-    let a = b .before .before .before .before .before .before .before .before .before .before .before .before .before .before .before .before .args in
+    let a = bytes-start b .args in
     p .put-bytes .ensures
-    ∙ ap (sets (now (a .out)) (a .at + a .j)) (runs-packed (now (a .table)) (b .take-bytes .last .0) (8 * a .j) 32 (omega (arith, b .take-bytes .kept .0)) (bytes b))
+    ∙ ap (sets (a .out .now) (a .at + a .j))
+    (runs-packed (a .table .now) (b .join-pairs3 .last .0) (8 * a .j) 32 (omega (arith, b .join-pairs3 .kept .0)) (bytes b))
 
 pub put-block-spec : {M : Type 1} → statement M
 put-block-spec =
     tie.close
     (tie.spec
-    slice-aggregate-take-bits
-    mul-take-bits
-    take-bits-requires
-    slice-aggregate-take-twos
-    slice-aggregate-take-twos-2
-    take-twos-requires
-    slice-aggregate-take-fours
-    slice-aggregate-take-fours-2
-    take-fours-requires
-    slice-aggregate-take-bytes
-    slice-aggregate-take-bytes-2
-    take-bytes-requires
-    add-put-bytes
-    slice-aggregate-put-bytes
-    put-bytes-requires
-    same-length
+    (λ c. search needs)
+    (λ c. search needs)
+    (λ c κs. search needs)
+    (λ c. search needs)
+    (λ c. search needs)
+    join-pairs-requires
+    (λ c. search needs)
+    (λ c. search needs)
+    join-pairs-requires-2
+    (λ c. search needs)
+    (λ c. search needs)
+    join-pairs-requires-3
+    (λ c. search needs)
+    (λ c. search needs)
+    (λ c κs. search needs)
+    (λ c. search needs)
     returns)

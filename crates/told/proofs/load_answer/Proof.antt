@@ -1,48 +1,11 @@
--- `told::load_answer` meets its contract: each arm gives the number and the values of its case. Assumes nothing.
-use borrow.Author.Needs.{needs}
-use Rattle.told.specs.Told.{told}
+-- `told::load_answer` meets its contract: one step for each arm. Assumes nothing.
+use Rattle.judges.specs.Given.{loadGiven}
+use Rattle.told.proofs.Tells.{tells, passes}
 use Rattle.told.proofs.load_answer.Statement.{statement}
 use Rattle.told.proofs.load_answer.Tie as tie
-
-enum-told : tie.Need-enum-told
-enum-told c = search needs
-
-give-requires : tie.Need-give-requires
-give-requires c κs = search needs
-
-enum-known-said : tie.Need-enum-known-said
-enum-known-said c = search needs
-
-give-requires-2 : tie.Need-give-requires-2
-give-requires-2 c κs = search needs
-
-enum-known-said-2 : tie.Need-enum-known-said-2
-enum-known-said-2 c = search needs
-
-fault-answer-requires : tie.Need-fault-answer-requires
-fault-answer-requires c κs = search needs
-
-returns : tie.Need-returns
-unfolding told
-returns c = rw (c .before .enum-told .given .1) (c .give .ensures)
-
-returns-2 : tie.Need-returns-2
-unfolding told
-returns-2 c = rw (c .before .before .said .given .1) (c .give2 .ensures)
-
-returns-3 : tie.Need-returns-3
-returns-3 c = rw (c .before .before .said2 .given .1) (c .fault-answer .ensures)
 
 pub load-answer-spec : {M : Type 1} → statement M
 load-answer-spec =
     tie.close
-    (tie.spec
-    enum-told
-    give-requires
-    enum-known-said
-    give-requires-2
-    enum-known-said-2
-    fault-answer-requires
-    returns
-    returns-2
-    returns-3)
+    (tie.spec (λ c. search) (λ c κs. tt) (λ c. search) (λ c κs. tt) (λ c. search) (λ c κs. tt)
+    (λ c. search (tells loadGiven)) (λ c. search (tells loadGiven)) (λ c. search (passes loadGiven)))

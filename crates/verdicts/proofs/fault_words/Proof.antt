@@ -1,74 +1,10 @@
--- `verdicts::fault_words` meets its contract: each arm puts the words of its case. Assumes nothing.
-use mathlib.Core.Path.{refl, sym}
-use native.Mathlib.Nat.{add-zero}
-use native.Mathlib.Omega.{arith}
+-- `verdicts::fault_words` meets its contract: what is put is the sentence of the answer. Assumes nothing.
 use borrow.Author.Needs.{needs}
 use Rattle.verdicts.proofs.fault_words.Statement.{statement}
 use Rattle.verdicts.proofs.fault_words.Tie as tie
 
-enum-told : tie.Need-enum-told
-enum-told c = search needs
-
-enum-told-2 : tie.Need-enum-told-2
-enum-told-2 c = search needs
-
-refused-requires : tie.Need-refused-requires
-refused-requires c κs = search needs
-
-enum-known-reply : tie.Need-enum-known-reply
-enum-known-reply c = search needs
-
-refused-requires-2 : tie.Need-refused-requires-2
-refused-requires-2 c κs = search needs
-
-enum-known-reply-2 : tie.Need-enum-known-reply-2
-enum-known-reply-2 c = search needs
-
-refused-requires-3 : tie.Need-refused-requires-3
-refused-requires-3 c κs = search needs
-
 returns : tie.Need-returns
-returns c = rw (c .enum-told .given .1) (refl, (sym (add-zero _), omega arith))
-
-same-length : tie.Need-same-length
-same-length c = search needs
-
-returns-2 : tie.Need-returns-2
-returns-2 c =
-    let e = c .before .before .refused .ensures in
-    rw (c .before .before .before .before .enum-told2 .given .1) (e .0, (e .1 .0, omega (arith, e .1 .1)))
-
-same-length-2 : tie.Need-same-length-2
-same-length-2 c = search needs
-
-returns-3 : tie.Need-returns-3
-returns-3 c =
-    let e = c .before .before .refused2 .ensures in
-    rw (c .before .before .before .before .before .reply .given .1) (e .0, (e .1 .0, omega (arith, e .1 .1)))
-
-same-length-3 : tie.Need-same-length-3
-same-length-3 c = search needs
-
-returns-4 : tie.Need-returns-4
-returns-4 c =
-    let e = c .before .before .refused3 .ensures in
-    rw (c .before .before .before .before .before .reply2 .given .1) (e .0, (e .1 .0, omega (arith, e .1 .1)))
+returns c = let p = c .before .before in rw (p .before .fault-sentence .ensures) at (p .put .ensures)
 
 pub fault-words-spec : {M : Type 1} → statement M
-fault-words-spec =
-    tie.close
-    (tie.spec
-    enum-told
-    enum-told-2
-    refused-requires
-    enum-known-reply
-    refused-requires-2
-    enum-known-reply-2
-    refused-requires-3
-    returns
-    same-length
-    returns-2
-    same-length-2
-    returns-3
-    same-length-3
-    returns-4)
+fault-words-spec = tie.close (tie.spec (λ c κs. search needs) (λ c κs. search needs) (λ c. search needs) returns)

@@ -1,100 +1,10 @@
--- `verdicts::mend_words` meets its contract: each arm puts the words of its case. Assumes nothing.
-use native.Mathlib.Omega.{arith}
+-- `verdicts::mend_words` meets its contract: what is put is the sentence of the answer. Assumes nothing.
 use borrow.Author.Needs.{needs}
 use Rattle.verdicts.proofs.mend_words.Statement.{statement}
 use Rattle.verdicts.proofs.mend_words.Tie as tie
 
-enum-known-reply : tie.Need-enum-known-reply
-enum-known-reply c = search needs
-
-changes-words-requires : tie.Need-changes-words-requires
-changes-words-requires c κs = search needs
-
-enum-told : tie.Need-enum-told
-enum-told c = search needs
-
-refused-requires : tie.Need-refused-requires
-refused-requires c κs = search needs
-
-enum-known-reply-2 : tie.Need-enum-known-reply-2
-enum-known-reply-2 c = search needs
-
-kept-no-room-line-requires : tie.Need-kept-no-room-line-requires
-kept-no-room-line-requires c κs = search needs
-
-enum-told-2 : tie.Need-enum-told-2
-enum-told-2 c = search needs
-
-refused-requires-2 : tie.Need-refused-requires-2
-refused-requires-2 c κs = search needs
-
-enum-known-reply-3 : tie.Need-enum-known-reply-3
-enum-known-reply-3 c = search needs
-
-fault-words-requires : tie.Need-fault-words-requires
-fault-words-requires c κs = search needs
-
-same-length : tie.Need-same-length
-same-length c = search needs
-
 returns : tie.Need-returns
-returns c =
-    let e = c .before .before .changes-words .ensures in
-    rw (c .before .before .before .before .before .reply .given .1) (e .0, (e .1 .0, omega (arith, e .1 .1)))
-
-same-length-2 : tie.Need-same-length-2
-same-length-2 c = search needs
-
-returns-2 : tie.Need-returns-2
-returns-2 c =
-    let e = c .before .before .refused .ensures in
-    rw (c .before .before .before .before .enum-told .given .1) (e .0, (e .1 .0, omega (arith, e .1 .1)))
-
-same-length-3 : tie.Need-same-length-3
-same-length-3 c = search needs
-
-returns-3 : tie.Need-returns-3
-returns-3 c =
-    let e = c .before .before .kept-no-room-line .ensures in
-    rw (c .before .before .before .before .before .reply2 .given .1) (e .0, (e .1 .0, omega (arith, e .1 .1)))
-
-same-length-4 : tie.Need-same-length-4
-same-length-4 c = search needs
-
-returns-4 : tie.Need-returns-4
-returns-4 c =
-    let e = c .before .before .refused2 .ensures in
-    rw (c .before .before .before .before .enum-told2 .given .1) (e .0, (e .1 .0, omega (arith, e .1 .1)))
-
-same-length-5 : tie.Need-same-length-5
-same-length-5 c = search needs
-
-returns-5 : tie.Need-returns-5
-returns-5 c =
-    let e = c .before .before .fault-words .ensures in
-    rw (c .before .before .before .before .before .reply3 .given .1) (e .0, (e .1 .0, omega (arith, e .1 .1)))
+returns c = let p = c .before .before in rw (p .before .mend-sentence .ensures) at (p .put .ensures)
 
 pub mend-words-spec : {M : Type 1} → statement M
-mend-words-spec =
-    tie.close
-    (tie.spec
-    enum-known-reply
-    changes-words-requires
-    enum-told
-    refused-requires
-    enum-known-reply-2
-    kept-no-room-line-requires
-    enum-told-2
-    refused-requires-2
-    enum-known-reply-3
-    fault-words-requires
-    same-length
-    returns
-    same-length-2
-    returns-2
-    same-length-3
-    returns-3
-    same-length-4
-    returns-4
-    same-length-5
-    returns-5)
+mend-words-spec = tie.close (tie.spec (λ c κs. search needs) (λ c κs. search needs) (λ c. search needs) returns)

@@ -1,0 +1,19 @@
+-- `inputs::asked_phrase` meets its contract: an arm for each file. Assumes nothing.
+use borrow.Author.Needs.{needs}
+use Rattle.inputs.proofs.asked_phrase.Statement.{statement}
+use Rattle.inputs.proofs.asked_phrase.Tie as tie
+
+pub asked-phrase-spec : {M : Type 1} → statement M
+asked-phrase-spec =
+    tie.close
+    (tie.spec
+    (λ c. search needs)
+    (λ c. search needs)
+    (λ c. search needs)
+    (λ c. search needs)
+    (λ c. search needs)
+    (λ c. cc)
+    (λ c. cc)
+    (λ c. cc)
+    (λ c. cc)
+    (λ c. cc))

@@ -1,0 +1,19 @@
+-- `inputs::found_phrase` meets its contract: an arm for each file. Assumes nothing.
+use borrow.Author.Needs.{needs}
+use Rattle.inputs.proofs.found_phrase.Statement.{statement}
+use Rattle.inputs.proofs.found_phrase.Tie as tie
+
+pub found-phrase-spec : {M : Type 1} → statement M
+found-phrase-spec =
+    tie.close
+    (tie.spec
+    (λ c. search needs)
+    (λ c. search needs)
+    (λ c. search needs)
+    (λ c. search needs)
+    (λ c. search needs)
+    (λ c. cc)
+    (λ c. cc)
+    (λ c. cc)
+    (λ c. cc)
+    (λ c. cc))

@@ -1,0 +1,121 @@
+-- How the two calls end, once every cell has had its turn. Done: the words and counts give the table and the list that are left, for any list with room.
+-- Not done: the answer is the same for any list, and nothing is written. Assumes nothing.
+use mathlib.Core.Path.{_≡_, refl, sym, ap, _∙_}
+use mathlib.Core.Bool.{Bool, true, false, false≢true}
+use mathlib.Core.List.{List, [], _∷_}
+use mathlib.Core.Logic.{⊎-elim}
+use Prim.Native.Nat.{ℕ, _*_, _≤_, _<_}
+use native.Mathlib.Omega.{arith}
+use borrow.Author.Tests.{le-ltb}
+use lib.Dec.{ltb}
+use lib.ListN.{length}
+use lib.Seq.{sets}
+use types.Run.{OneOf}
+use denote.Enum.Declared.{tagOf}
+use Rattle.laws.specs.Choice.{pick}
+use Rattle.theory.specs.Greedy.{Outcome, planned, noRoom}
+use Rattle.site.specs.Record.{positions, size, faultOf, isFine}
+use Rattle.site.specs.Reach.{netOf}
+use Rattle.site.specs.declared.Site.{Site}
+use Rattle.site.specs.declared.Fault.{Fault}
+use Rattle.site.specs.declared.Fault.the-variants.{Fine, Size, Load, Reach}
+use Rattle.site.proofs.Faults.{fine-sized, Sized}
+use Rattle.mending.specs.Mend.{mend, overlay}
+use Rattle.mender.specs.Mend.{numberOf, listed, answerOf, mendAnswer, mendTable, mendList, roomFor, Stands}
+use Rattle.mender.specs.Words.{allCount, tableWith, listWith, Counted, Says}
+use Rattle.mender.specs.declared.MendAnswer.{MendAnswer}
+use Rattle.mender.specs.declared.MendAnswer.the-variants.{Done, TableShort, NoRoom, ListShort, Refused}
+use Rattle.mender.proofs.MendAnswer.{the-type}
+use Rattle.mender.proofs.Ends.{Whole, end-counted, end-number, end-table, end-list}
+use Rattle.mender.proofs.Meaning.{Mended, done-means, done-leaves, means-done, means-short, untouched}
+use Rattle.mender.proofs.Room.{room-for}
+
+-- whether a call is done
+abbrev pub isDone : MendAnswer → Bool
+isDone (Done n) = true
+isDone TableShort = false
+isDone (NoRoom c k) = false
+isDone (ListShort k) = false
+isDone (Refused f) = false
+
+-- ---- done
+
+module _ {a : MendAnswer} {s : Site} {u words counts : List ℕ} (st : Stands a s u words counts) {number : ℕ} (e : a ≡ Done number) where
+  pub mended : Mended s u (roomFor s) number
+  mended = done-means s u (roomFor s) number (sym (st .answers) ∙ e)
+
+  pub sizes : Sized s
+  sizes = fine-sized s (mended .fine)
+
+  abbrev whole : Whole (netOf s) u number
+  whole = record { table = mended .stands; mends = mended .mends; all = mended .number }
+
+  says : Says (s .cells) (positions s) (mended .stands) u words counts
+  says = st .says number e (mended .stands) (mended .mends)
+
+  pub counted : Counted (s .cells) (positions s) words u counts
+  counted = end-counted (netOf s) u words counts number whole says
+
+  pub number-is : number ≡ allCount (s .cells) (positions s) words u
+  number-is = end-number (netOf s) u words counts number whole says
+
+  -- a list with room
+  module _ (l : List ℕ) (room : 4 * number ≤ length l) where
+    pub answer-done : Done number ≡ mendAnswer s u l
+    answer-done =
+        ap Done (mended .number) ∙ sym (means-done s u l (mended .fine) (mended .long) (mended .stands) (mended .mends) (omega (arith, mended .number)))
+
+    left : (mendTable s u l ≡ overlay (mended .stands) u) × (mendList s u l ≡ sets l 0 (listed (netOf s) u (mended .stands)))
+    left =
+        done-leaves s u l (mended .fine) (mended .long) (mended .stands) (mended .mends)
+        (le-ltb (length l) (4 * numberOf (netOf s) u (mended .stands)) (omega (arith, mended .number)))
+
+    pub table-done : tableWith (s .cells) (positions s) words u ≡ mendTable s u l
+    table-done = end-table (netOf s) u words counts number whole says ∙ sym (left .0)
+
+    pub list-done : listWith (s .cells) (positions s) words u l ≡ mendList s u l
+    list-done = ap (sets l 0) (end-list (netOf s) u words counts number whole says) ∙ sym (left .1)
+
+  -- a list without
+  module _ (l : List ℕ) (over : length l < 4 * number) where
+    pub answer-short : ListShort number ≡ mendAnswer s u l
+    answer-short =
+        ap ListShort (mended .number) ∙ sym (means-short s u l (mended .fine) (mended .long) (mended .stands) (mended .mends) (omega (arith, mended .number)))
+
+    pub short-left : (u ≡ mendTable s u l) × (l ≡ mendList s u l)
+    short-left = let k = untouched s u l (λ n h. false≢true (ap isDone (answer-short ∙ h))) in (sym (k .0), sym (k .1))
+
+-- ---- not done
+
+not-done : (a : MendAnswer) → OneOf (1 ∷ 2 ∷ 3 ∷ 4 ∷ []) (tagOf the-type a) → (n : ℕ) → a ≡ Done n → ⊥
+not-done (Done m) h n e = ⊎-elim (λ e. omega arith) (⊎-elim (λ e. omega arith) (⊎-elim (λ e. omega arith) (λ e. omega arith))) h
+not-done TableShort h n e = false≢true (ap isDone e)
+not-done (NoRoom c k) h n e = false≢true (ap isDone e)
+not-done (ListShort k) h n e = false≢true (ap isDone e)
+not-done (Refused f) h n e = false≢true (ap isDone e)
+
+module _ (s : Site) (u : List ℕ) where
+  -- a call by the record's fault, whether the table is short, and what mending comes to
+  abbrev answerBy : List ℕ → Fault → Bool → Outcome → MendAnswer
+  answerBy l f b o = pick (isFine f) (pick b TableShort (answerOf (netOf s) u l o)) (Refused f)
+
+  same-by : (l : List ℕ) (f : Fault) (b : Bool) (o : Outcome) → ((n : ℕ) → answerBy (roomFor s) f b o ≡ Done n → ⊥)
+      → answerBy (roomFor s) f b o ≡ answerBy l f b o
+  same-by l Fine true o h = refl
+  same-by l Fine false (planned t) h =
+      let number = numberOf (netOf s) u t in
+      absurd (h number (ap (λ (q : Bool). pick q (ListShort number) (Done number)) (le-ltb (length (roomFor s)) (4 * number) (room-for s u t))))
+  same-by l Fine false (noRoom c k) h = refl
+  same-by l Size b o h = refl
+  same-by l (Load k) b o h = refl
+  same-by l (Reach k) b o h = refl
+
+module _ {a : MendAnswer} {s : Site} {u words counts : List ℕ} (st : Stands a s u words counts) (h : OneOf (1 ∷ 2 ∷ 3 ∷ 4 ∷ []) (tagOf the-type a))
+    (l : List ℕ) where
+  pub answer-other : a ≡ mendAnswer s u l
+  unfolding mendAnswer
+  answer-other =
+      st .answers ∙ same-by s u l (faultOf s) (ltb (length u) (size s)) (mend (netOf s) u) (λ n e. not-done a h n (st .answers ∙ e))
+
+  pub other-left : (u ≡ mendTable s u l) × (l ≡ mendList s u l)
+  other-left = let k = untouched s u l (λ n e. not-done a h n (answer-other ∙ e)) in (sym (k .0), sym (k .1))

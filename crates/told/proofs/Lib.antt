@@ -1,0 +1,2 @@
+-- The proofs of crate `told`, module by module.
+pub mod Tells
