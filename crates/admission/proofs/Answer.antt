@@ -13,7 +13,7 @@ use Rattle.site.specs.declared.Fault.{Fault}
 use Rattle.site.specs.declared.Fault.the-variants.{Fine}
 use Rattle.bestset.specs.Best.{best}
 use Rattle.flowlist.specs.declared.Flow.{Flow}
-use Rattle.admission.specs.Admit.{refusedIn, firstBadIn, flowsIn, isChained, answerIn}
+use Rattle.admission.specs.Admit.{refusedIn, firstBadIn, flowsAsked, isChained, answerIn}
 use Rattle.admission.specs.declared.AdmitAnswer.the-variants.{Admitted, TooMany, NotChained, Refused}
 
 module _ (s : Site) (f : ℕ → Flow) (n : ℕ) where
@@ -29,12 +29,13 @@ module _ (s : Site) (f : ℕ → Flow) (n : ℕ) where
   unfolding answerIn
   broken-answer e h q = rw (e, le-ltb 16 n h, q)
 
-  pub bad-answer : faultOf s ≡ Fine → n ≤ 16 → isChained (chainVerdict (netOf s) everyone) ≡ true → (bad : ℕ) → bad ≡ firstBadIn (s .cells) (s .slots) f n → bad < n
+  pub bad-answer : faultOf s ≡ Fine → n ≤ 16 → isChained (chainVerdict (netOf s) everyone) ≡ true → (bad : ℕ) → bad ≡ firstBadIn (s .cells) (s .slots) f n
+      → bad < n
       → answerIn s f n ≡ refusedIn (s .cells) (s .slots) (f bad) (bad + 1)
   unfolding answerIn
   bad-answer e h q bad b l = rw (e, le-ltb 16 n h, q, ← b, lt-ltb bad n l)
 
   pub set-answer : faultOf s ≡ Fine → n ≤ 16 → isChained (chainVerdict (netOf s) everyone) ≡ true → n ≤ firstBadIn (s .cells) (s .slots) f n
-      → answerIn s f n ≡ Admitted (best (netOf s) (flowsIn (s .slots) f n))
+      → answerIn s f n ≡ Admitted (best (netOf s) (flowsAsked (s .slots) f n))
   unfolding answerIn
   set-answer e h q l = rw (e, le-ltb 16 n h, q, le-ltb (firstBadIn (s .cells) (s .slots) f n) n l)

@@ -1,5 +1,5 @@
--- Where no flow is refused, the three arrays state the flows of the list: each flow is in a cell of the site, and past the flows stand zeros. So the search over the arrays is
--- the one over the list (`same-best`).
+-- Where no flow is refused, the three arrays state the flows of the list: each flow is in a cell of the site, and past the flows stand zeros.
+-- So the search over the arrays is the one over the list (`same-best`).
 -- Assumes nothing.
 use Prim.Native.Nat.{ℕ, _-_, _≤_, _<_, zero-le}
 use mathlib.Core.Bool.{true, false}
@@ -29,7 +29,7 @@ use Rattle.bestset.specs.Code.{Stands}
 use Rattle.bestset.specs.Code as arrays
 use Rattle.bestset.proofs.Alike.{best-flows}
 use Rattle.flowlist.specs.declared.Flow.{Flow}
-use Rattle.admission.specs.Admit.{shareIn, amount, badIn, firstBadIn, flowsIn, isChained}
+use Rattle.admission.specs.Admit.{shareIn, amount, badIn, firstBadIn, flowsAsked, isChained}
 use Rattle.admission.proofs.Asking.{good-cell}
 use Rattle.admission.proofs.Chain.{chain-class}
 
@@ -43,7 +43,8 @@ at g n l few e k h = ap (λ (t : List ℕ). getD t k 0) e ∙ sets-at g n zeros 
 past : (g : ℕ → ℕ) (n : ℕ) (l : List ℕ) → l ≡ sets zeros 0 (listOf g n) → (k : ℕ) → n ≤ k → k < 16 → getD l k 0 ≡ 0
 past g n l e k h m = ap (λ (t : List ℕ). getD t k 0) e ∙ sets-beyond g n zeros k h ∙ getD-replicate {A = ℕ} 16 k 0 0 m
 
-module _ (s : Site) (fine : faultOf s ≡ Fine) (f : ℕ → Flow) (n : ℕ) (few : n ≤ 16) (bad : ℕ) (e : bad ≡ firstBadIn (s .cells) (s .slots) f n) (all : n ≤ bad) where
+module _ (s : Site) (fine : faultOf s ≡ Fine) (f : ℕ → Flow) (n : ℕ) (few : n ≤ 16) (bad : ℕ) (e : bad ≡ firstBadIn (s .cells) (s .slots) f n)
+    (all : n ≤ bad) where
   -- no flow is refused
   pub all-good : bad ≡ n
   unfolding firstBadIn
@@ -71,11 +72,14 @@ module _ (s : Site) (fine : faultOf s ≡ Fine) (f : ℕ → Flow) (n : ℕ) (fe
     pub stands : (rows : List ℕ) → bitIn rows ≡ clashOf s → isChained (chainVerdict (netOf s) everyone) ≡ true → Stands (netOf s) (positions s) rows own
     stands rows relation chain = record { room-is = sym (net-open s); clash-is = relation; inside = inside; class = chain-class (netOf s) chain }
 
-    pub same-best : (shares values : List ℕ) → shares ≡ sets zeros 0 (listOf (λ k. amount (shareIn (s .slots) (f k))) bad) → values ≡ sets zeros 0 (listOf (λ k. f k .value) bad)
-        → best (netOf s) (arrays.flowsIn own shares values n) ≡ best (netOf s) (flowsIn (s .slots) f n)
+    pub same-best : (shares values : List ℕ) → shares ≡ sets zeros 0 (listOf (λ k. amount (shareIn (s .slots) (f k))) bad)
+        → values ≡ sets zeros 0 (listOf (λ k. f k .value) bad)
+        → best (netOf s) (arrays.flowsIn own shares values n) ≡ best (netOf s) (flowsAsked (s .slots) f n)
     same-best shares values shared valued =
         let shared-n : shares ≡ sets zeros 0 (listOf (λ k. amount (shareIn (s .slots) (f k))) n)
         = shared ∙ ap (λ (m : ℕ). sets zeros 0 (listOf (λ k. amount (shareIn (s .slots) (f k))) m)) all-good in
         let valued-n : values ≡ sets zeros 0 (listOf (λ k. f k .value) n) = valued ∙ ap (λ (m : ℕ). sets zeros 0 (listOf (λ k. f k .value) m)) all-good in
-        best-flows (netOf s) n (λ k. getD own k 0) (λ k. f k .cell - 1) (λ k. getD shares k 0) (λ k. amount (shareIn (s .slots) (f k))) (λ k. getD values k 0) (λ k. f k .value)
-        (at (λ k. f k .cell - 1) n own few owned-n) (at (λ k. amount (shareIn (s .slots) (f k))) n shares few shared-n) (at (λ k. f k .value) n values few valued-n)
+        best-flows (netOf s) n (λ k. getD own k 0) (λ k. f k .cell - 1) (λ k. getD shares k 0) (λ k. amount (shareIn (s .slots) (f k))) (λ k. getD values k 0)
+        (λ k. f k .value)
+        (at (λ k. f k .cell - 1) n own few owned-n) (at (λ k. amount (shareIn (s .slots) (f k))) n shares few shared-n)
+        (at (λ k. f k .value) n values few valued-n)

@@ -17,7 +17,7 @@ use Rattle.shares.specs.declared.Slots.{Slots}
 use Rattle.shares.proofs.ShareAnswer.{the-type}
 use Rattle.shares.proofs.Repeating.{done-means}
 use Rattle.flowlist.specs.declared.Flow.{Flow}
-use Rattle.admission.specs.Admit.{shareIn, amount, isShare, badIn, shareRefused, askedIn}
+use Rattle.admission.specs.Admit.{shareIn, amount, isShare, badIn, shareRefused, askedBy}
 
 -- the arms that take every answer but one
 pub no-share : (a : ShareAnswer) → OneOf (1 ∷ 2 ∷ 3 ∷ []) (tagOf the-type a) → isShare a ≡ false
@@ -55,13 +55,13 @@ module _ (cells slots : ℕ) (f : Flow) where
       split false b h = sym h
 
   -- what the search takes of a flow says whether the flow is refused, and where it is not, its cell and its share
-  pub asked-bad : askedIn cells slots f .bad ≡ badIn cells slots f
+  pub asked-bad : askedBy cells slots f .bad ≡ badIn cells slots f
   asked-bad = ⊎-elim (λ e. rw e) (λ e. rw e) (cases (badIn cells slots f))
 
-  pub asked-cell : badIn cells slots f ≡ false → askedIn cells slots f .cell ≡ f .cell - 1
+  pub asked-cell : badIn cells slots f ≡ false → askedBy cells slots f .cell ≡ f .cell - 1
   asked-cell e = rw e
 
-  pub asked-share : badIn cells slots f ≡ false → askedIn cells slots f .share ≡ amount (shareIn slots f)
+  pub asked-share : badIn cells slots f ≡ false → askedBy cells slots f .share ≡ amount (shareIn slots f)
   asked-share e = rw e
 
 -- "share above 65,535" is refused

@@ -1,4 +1,5 @@
--- The desk's examples, through the call: the request's three flows, the paper's nine, and the bad input that each refusal is for. Each answer is computed from the definition.
+-- The desk's examples, through the call: the request's three flows, the paper's nine, and the bad input that each refusal is for.
+-- Each answer is computed from the definition.
 -- Assumes nothing.
 use Prim.Native.Nat.{ℕ}
 use mathlib.Core.List.{List, [], _∷_, _++_}
@@ -31,9 +32,10 @@ bare = siteOf 2 2 1 (rows (2 ∷ 2 ∷ 0 ∷ 0 ∷ 0 ∷ [])) (rows (0 ∷ 0 ∷
 abbrev three : List Flow
 three = flow 1 1 2 1 1 ∷ flow 2 2 2 1 1 ∷ flow 1 2 2 1 5 ∷ []
 
--- "the set {2,3} worth 6"
+-- the set {2,3} worth 6
 pub desk : admitAnswer bare three ≡ Admitted 6
-unfolding answerIn faultOf sizeOk upTo extraLoad badRow rowBad firstOf chainVerdict firstBreak breakOf breaks gap clashIn reaches firstBadIn badIn refusedIn shareOf roundedUp best bestOf allowed sum overloaded lowestOver loadVerdict
+unfolding answerIn faultOf sizeOk upTo extraLoad badRow rowBad firstOf chainVerdict firstBreak breakOf breaks gap clashIn reaches firstBadIn badIn refusedIn
+    shareOf roundedUp best bestOf allowed sum overloaded lowestOver loadVerdict
 desk = refl
 
 -- repeats that decide: two flows of burst 1 each 2 slots in cell 1, the first sent twice. Its share is 2 and the other's 1, which are 3 where N is 2;
@@ -46,18 +48,20 @@ unfolding answerIn faultOf sizeOk upTo extraLoad badRow rowBad firstOf chainVerd
     firstBadIn badIn refusedIn shareOf roundedUp best bestOf allowed sum overloaded lowestOver loadVerdict
 repeats-decide = (refl, refl)
 
--- T=3, F=2, "cells 1-2-3 in a row each clashing with the next"
+-- T=3, F=2, cells 1-2-3 in a row each clashing with the next
 abbrev row : Site
 row = siteOf 3 3 2 (rows (0 ∷ 0 ∷ 0 ∷ 0 ∷ 0 ∷ [])) (rows (2 ∷ 4 ∷ 0 ∷ 0 ∷ 0 ∷ []))
 
--- "nine flows with (cell, period, burst, value) 1,10,1,8; 1,4,3,39; 1,7,3,38; 2,10,1,50; 2,6,5,29; 2,7,6,41; 3,5,3,3; 3,11,4,20; 3,9,6,30"
+-- nine flows with (cell, period, burst, value) 1,10,1,8; 1,4,3,39; 1,7,3,38; 2,10,1,50; 2,6,5,29; 2,7,6,41; 3,5,3,3; 3,11,4,20; 3,9,6,30
 abbrev nine : List Flow
 nine =
-    flow 1 1 10 1 8 ∷ flow 1 3 4 1 39 ∷ flow 1 3 7 1 38 ∷ flow 2 1 10 1 50 ∷ flow 2 5 6 1 29 ∷ flow 2 6 7 1 41 ∷ flow 3 3 5 1 3 ∷ flow 3 4 11 1 20 ∷ flow 3 6 9 1 30 ∷ []
+    flow 1 1 10 1 8 ∷ flow 1 3 4 1 39 ∷ flow 1 3 7 1 38 ∷ flow 2 1 10 1 50 ∷ flow 2 5 6 1 29 ∷ flow 2 6 7 1 41 ∷ flow 3 3 5 1 3 ∷ flow 3 4 11 1 20
+    ∷ flow 3 6 9 1 30 ∷ []
 
--- "the set {2,3,4,8,9}, worth 177"
+-- the set {2,3,4,8,9}, worth 177
 pub table-two : admitAnswer row nine ≡ Admitted 398
-unfolding answerIn faultOf sizeOk upTo extraLoad badRow rowBad firstOf chainVerdict firstBreak breakOf breaks gap clashIn reaches firstBadIn badIn refusedIn shareOf roundedUp best bestOf allowed sum overloaded lowestOver loadVerdict
+unfolding answerIn faultOf sizeOk upTo extraLoad badRow rowBad firstOf chainVerdict firstBreak breakOf breaks gap clashIn reaches firstBadIn badIn refusedIn
+    shareOf roundedUp best bestOf allowed sum overloaded lowestOver loadVerdict
 table-two = refl
 
 -- no flows; all values 0; a cell outside the site; repeats of 5; a share too big; a spare cell that breaks the chain
@@ -65,8 +69,10 @@ abbrev spare : Site
 spare = siteOf 3 3 2 (rows (1 ∷ 0 ∷ 1 ∷ 0 ∷ 0 ∷ [])) (rows (4 ∷ 0 ∷ 0 ∷ 0 ∷ 0 ∷ []))
 
 pub bad-input :
-    (admitAnswer row [] ≡ Admitted 0) × (admitAnswer row (flow 1 1 1 1 0 ∷ flow 2 1 1 1 0 ∷ []) ≡ Admitted 0) × (admitAnswer row (flow 1 1 1 1 9 ∷ flow 4 1 1 1 9 ∷ []) ≡ BadCell 2)
+    (admitAnswer row [] ≡ Admitted 0) × (admitAnswer row (flow 1 1 1 1 0 ∷ flow 2 1 1 1 0 ∷ []) ≡ Admitted 0)
+    × (admitAnswer row (flow 1 1 1 1 9 ∷ flow 4 1 1 1 9 ∷ []) ≡ BadCell 2)
     × (admitAnswer row (flow 1 1 1 5 9 ∷ []) ≡ BadFlow 1) × (admitAnswer row (flow 1 1 1 1 9 ∷ flow 1 1 1 1 9 ∷ flow 2 65535 1 1 9 ∷ []) ≡ BigShare 3)
     × (admitAnswer spare (flow 1 1 1 1 9 ∷ []) ≡ NotChained) × (admitAnswer spare (replicate 17 (flow 1 1 1 1 9)) ≡ TooMany)
-unfolding answerIn faultOf sizeOk upTo extraLoad badRow rowBad firstOf chainVerdict firstBreak breakOf breaks gap clashIn reaches firstBadIn badIn refusedIn shareOf roundedUp best bestOf allowed sum overloaded lowestOver loadVerdict
+unfolding answerIn faultOf sizeOk upTo extraLoad badRow rowBad firstOf chainVerdict firstBreak breakOf breaks gap clashIn reaches firstBadIn badIn refusedIn
+    shareOf roundedUp best bestOf allowed sum overloaded lowestOver loadVerdict
 bad-input = (refl, refl, refl, refl, refl, refl, refl)

@@ -1,5 +1,5 @@
--- The numbers and values tell the answers apart among those that refuse the record, and among those that do not: a flow's 2 has the number and the place of a record's 2, so
--- that a caller in C asks for the record's fault to know which it is. `Refused Fine` looks like no fault, and no call answers it.
+-- The numbers and values tell the answers apart among those that refuse the record, and among those that do not: a flow's 2 has the number and the place of a
+-- record's 2, so that a caller in C asks for the record's fault to know which it is. `Refused Fine` looks like no fault, and no call answers it.
 -- Assumes nothing.
 use Prim.Native.Nat.{ℕ, _+_}
 use mathlib.Core.Bool.{Bool, true, false≢true}
@@ -24,7 +24,7 @@ use Rattle.shares.specs.declared.ShareAnswer.the-variants as share
 use Rattle.bestset.specs.Best.{best}
 use Rattle.flowlist.specs.List.{flowAt}
 use Rattle.flowlist.specs.declared.Flow.{Flow}
-use Rattle.admission.specs.Admit.{shareIn, shareRefused, refusedIn, firstBadIn, flowsIn, isChained, answerIn, admitAnswer}
+use Rattle.admission.specs.Admit.{shareIn, shareRefused, refusedIn, firstBadIn, flowsAsked, isChained, answerIn, admitAnswer}
 use Rattle.admission.specs.Given.{admitGiven, admitProper, ofRecord}
 use Rattle.admission.specs.declared.AdmitAnswer.{AdmitAnswer}
 use Rattle.admission.specs.declared.AdmitAnswer.the-variants.{Admitted, TooMany, NotChained, BadCell, BadFlow, BigShare, Refused}
@@ -36,7 +36,8 @@ readBack whole g =
     (pick (eqb (g .number) 0) (Admitted (getD (g .values) 0 0))
     (pick (eqb (g .number) 18) TooMany
     (pick (eqb (g .number) 19) NotChained
-    (pick (eqb (g .number) 2) (BadCell (getD (g .values) 0 0)) (pick (eqb (g .number) 15) (BadFlow (getD (g .values) 0 0)) (BigShare (getD (g .values) 0 0)))))))
+    (pick (eqb (g .number) 2) (BadCell (getD (g .values) 0 0)) (pick (eqb (g .number) 15) (BadFlow (getD (g .values) 0 0))
+    (BigShare (getD (g .values) 0 0)))))))
 
 read-refusal : (f : Fault) → admitProper (Refused f) ≡ true → readBack true (admitGiven (Refused f)) ≡ Refused f
 read-refusal Fine h = absurd (false≢true h)
@@ -93,7 +94,8 @@ admit-proper s fs =
     proper-call admitProper Refused (λ g. refl) (faultOf s) _
     (proper-either admitProper (ltb 16 n) TooMany _ refl
     (proper-either admitProper (isChained (chainVerdict (netOf s) everyone)) _ NotChained
-    (proper-either admitProper (ltb bad n) (refusedIn (s .cells) (s .slots) (flowAt fs bad) (bad + 1)) (Admitted (best (netOf s) (flowsIn (s .slots) (flowAt fs) n)))
+    (proper-either admitProper (ltb bad n) (refusedIn (s .cells) (s .slots) (flowAt fs bad) (bad + 1))
+    (Admitted (best (netOf s) (flowsAsked (s .slots) (flowAt fs) n)))
     (refused-proper (s .cells) (s .slots) (flowAt fs bad) (bad + 1)) refl) refl))
 
 -- the numbers and the values, in their order, of an answer of each kind

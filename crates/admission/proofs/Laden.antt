@@ -1,4 +1,5 @@
--- The site that a set of flows makes is accepted, and states the problem that the definition tests: no flow is in a cell beyond I, so that no load stands there.
+-- The site that a set of flows makes is accepted, and states the problem that the definition tests:
+-- no flow is in a cell beyond I, so that no load stands there.
 -- Assumes nothing.
 use Prim.Native.Nat.{ℕ, _+_, _-_, _≤_, _<_}
 use mathlib.Core.Bool.{Bool, true, false, _&&_}

@@ -9,3 +9,4 @@ pub mod OneFlow
 pub mod Meaning
 pub mod Laden
 pub mod Desk
+pub mod Lent

@@ -10,7 +10,7 @@ use lib.Dec.{ltb}
 use lib.ListN.{getD, length}
 use Rattle.laws.proofs.Choice.{cases}
 use Rattle.site.specs.declared.Site.{Site}
-use Rattle.flowlist.specs.List.{none, flowAt, gathered, few}
+use Rattle.flowlist.specs.List.{zeroFlow, flowAt, gathered, few}
 use Rattle.flowlist.specs.declared.Flow.{Flow}
 use Rattle.flowlist.proofs.Laws.{gathered-all}
 use Rattle.admission.specs.Admit.{answerIn, admitAnswer}
@@ -19,7 +19,7 @@ too-many : (s : Site) (f g : ℕ → Flow) (n : ℕ) → ltb 16 n ≡ true → a
 unfolding answerIn
 too-many s f g n e = rw e refl
 
-pub list-answer : (s : Site) (fs : List Flow) → answerIn s (λ k. getD (gathered fs (few (length fs)) .list) k none) (length fs) ≡ admitAnswer s fs
+pub list-answer : (s : Site) (fs : List Flow) → answerIn s (λ k. getD (gathered fs (few (length fs)) .list) k zeroFlow) (length fs) ≡ admitAnswer s fs
 list-answer s fs =
-    ⊎-elim (λ e. too-many s (λ k. getD (gathered fs (few (length fs)) .list) k none) (flowAt fs) (length fs) e)
+    ⊎-elim (λ e. too-many s (λ k. getD (gathered fs (few (length fs)) .list) k zeroFlow) (flowAt fs) (length fs) e)
     (λ e. ap (λ (f : ℕ → Flow). answerIn s f (length fs)) (fun-ext (gathered-all fs (ltb-false 16 (length fs) e)))) (cases (ltb 16 (length fs)))

@@ -1,4 +1,5 @@
--- Which flows a site admits: the record's faults; "18 over 16 flows, 19 site not chained, then per flow 2, 15, 16 with the flow's number"; then the best set of the flows.
+-- Which flows a site admits: the record's faults; "18 over 16 flows, 19 site not chained, then per flow 2, 15, 16 with the flow's number";
+-- then the best set of the flows.
 -- Flows are counted from 0 here, by their place, and numbered from 1 in answers.
 use Prim.Native.Nat.{ℕ, _+_, _-_}
 use mathlib.Core.Bool.{Bool, true, false, not, _&&_}
@@ -57,8 +58,8 @@ unfoldable pub refusedIn : ℕ → ℕ → Flow → ℕ → AdmitAnswer
 refusedIn cells slots f number = pick (upTo cells (f .cell)) (shareRefused number (shareIn slots f)) (BadCell number)
 
 -- what the search takes of a flow: the place of its cell, and its share
-abbrev pub askedIn : ℕ → ℕ → Flow → Asked
-askedIn cells slots f =
+abbrev pub askedBy : ℕ → ℕ → Flow → Asked
+askedBy cells slots f =
     pick (badIn cells slots f) (record { bad = true; cell = 0; share = 0 })
     (record { bad = false; cell = f .cell - 1; share = amount (shareIn slots f) })
 
@@ -69,8 +70,8 @@ unfoldable pub firstBadIn : ℕ → ℕ → (ℕ → Flow) → ℕ → ℕ
 firstBadIn cells slots f n = first (λ k. badIn cells slots (f k)) 0 n
 
 -- the flows as the search takes them
-abbrev pub flowsIn : ℕ → (ℕ → Flow) → ℕ → Flows
-flowsIn slots f n = record { count = n; cell = λ k. f k .cell - 1; share = λ k. amount (shareIn slots (f k)); value = λ k. f k .value }
+abbrev pub flowsAsked : ℕ → (ℕ → Flow) → ℕ → Flows
+flowsAsked slots f n = record { count = n; cell = λ k. f k .cell - 1; share = λ k. amount (shareIn slots (f k)); value = λ k. f k .value }
 
 abbrev pub isChained : ChainVerdict → Bool
 isChained chained = true
@@ -78,7 +79,7 @@ isChained (broken a b c) = false
 
 -- the first flow that is refused, or else the best set
 abbrev pub settledAt : Site → (ℕ → Flow) → ℕ → ℕ → AdmitAnswer
-settledAt s f n bad = pick (ltb bad n) (refusedIn (s .cells) (s .slots) (f bad) (bad + 1)) (Admitted (best (netOf s) (flowsIn (s .slots) f n)))
+settledAt s f n bad = pick (ltb bad n) (refusedIn (s .cells) (s .slots) (f bad) (bad + 1)) (Admitted (best (netOf s) (flowsAsked (s .slots) f n)))
 
 -- "record faults first, then 18 over 16 flows, 19 site not chained", where "all cells count as loaded for the chain rule"
 unfoldable pub answerIn : Site → (ℕ → Flow) → ℕ → AdmitAnswer
@@ -103,7 +104,7 @@ abbrev pub firstBad : Site → List Flow → ℕ
 firstBad s fs = firstBadIn (s .cells) (s .slots) (flowAt fs) (length fs)
 
 abbrev pub flowsOf : Site → List Flow → Flows
-flowsOf s fs = flowsIn (s .slots) (flowAt fs) (length fs)
+flowsOf s fs = flowsAsked (s .slots) (flowAt fs) (length fs)
 
 -- "Answer the set of greatest total value whose shares, summed by cell, pass the load test"
 abbrev pub admitted : Site → List Flow → ℕ

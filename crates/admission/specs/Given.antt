@@ -1,4 +1,5 @@
--- "Numbers given back": for each case of an admission's answer, its number and the values that come with it. A flow's refusal carries the flow's number, a record's its own value.
+-- "Numbers given back": for each case of an admission's answer, its number and the values that come with it.
+-- A flow's refusal carries the flow's number, a record's its own value.
 -- A flow's 2 looks as the record's 2 does: a C caller asks the record's own call for faults to know which it is.
 use mathlib.Core.Bool.{Bool, true, false, not}
 use mathlib.Core.List.{[], _∷_}

@@ -1,4 +1,5 @@
--- The site that a set of flows makes: the cells, slots, channels and reach of a site, and for loads the shares of the set, summed by cell. "The site's own loads are set aside."
+-- The site that a set of flows makes: the cells, slots, channels and reach of a site, and for loads the shares of the set, summed by cell.
+-- "The site's own loads are set aside."
 use Prim.Native.Nat.{ℕ}
 use mathlib.Core.Bool.{_&&_}
 use mathlib.Core.List.{List, [], _∷_}

@@ -1,5 +1,5 @@
-// Which of at most 16 flows a site admits: the best set of them whose shares, summed by cell, pass the load test. The lent list is taken apart by `flowlist`; all else works on
-// numbers and small arrays.
+// Which of at most 16 flows a site admits: the best set of them whose shares, summed by cell, pass the load test.
+// The lent list is taken apart by `flowlist`; all else works on numbers and small arrays.
 ghost use mathlib.Core.Path.{_≡_};
 ghost use Prim.Native.Nat.{_-_, _≤_};
 ghost use lib.ListN.{getD, replicate};
@@ -9,8 +9,8 @@ ghost use Rattle.laws.specs.Part.{listOf};
 ghost use Rattle.theory.specs.Net.{everyone};
 ghost use Rattle.theory.specs.Verdict.{chainVerdict};
 ghost use Rattle.chainwords.specs.Chain.{chainIn};
-ghost use Rattle.flowlist.specs.List.{none};
-ghost use Rattle.admission.specs.Admit.{shareIn, amount, refusedIn, askedIn, firstBadIn, isChained, answerIn, admitAnswer};
+ghost use Rattle.flowlist.specs.List.{zeroFlow};
+ghost use Rattle.admission.specs.Admit.{shareIn, amount, refusedIn, askedBy, firstBadIn, isChained, answerIn, admitAnswer};
 use chainwords::first_break;
 use flowlist::Flow;
 use flowlist::FlowList;
@@ -64,7 +64,7 @@ pub fn share_in(slots: u16, f: Flow) -> ShareAnswer
 
 // One flow.
 fn ask(cells: u16, slots: u16, f: Flow) -> Asked
-    ensures { λ r. ⌜ r ≡ askedIn cells slots f ⌝ }
+    ensures { λ r. ⌜ r ≡ askedBy cells slots f ⌝ }
 {
     if !within(f.cell as usize, cells as usize) {
         return Asked {
@@ -91,10 +91,10 @@ fn ask(cells: u16, slots: u16, f: Flow) -> Asked
 // The flows of a list, one by one.
 fn ask_all(cells: u16, slots: u16, l: FlowList, count: usize) -> AskedAll
     requires { ⌜ count ≤ 16 ⌝ }
-    ensures bad { λ r. ⌜ r .bad ≡ firstBadIn cells slots (λ k. getD (l .list) k none) count ⌝ }
-    ensures cells { λ r. ⌜ r .cells ≡ sets (replicate 16 0) 0 (listOf (λ k. getD (l .list) k none .cell - 1) (r .bad)) ⌝ }
-    ensures shares { λ r. ⌜ r .shares ≡ sets (replicate 16 0) 0 (listOf (λ k. amount (shareIn slots (getD (l .list) k none))) (r .bad)) ⌝ }
-    ensures values { λ r. ⌜ r .values ≡ sets (replicate 16 0) 0 (listOf (λ k. getD (l .list) k none .value) (r .bad)) ⌝ }
+    ensures bad { λ r. ⌜ r .bad ≡ firstBadIn cells slots (λ k. getD (l .list) k zeroFlow) count ⌝ }
+    ensures cells { λ r. ⌜ r .cells ≡ sets (replicate 16 0) 0 (listOf (λ k. getD (l .list) k zeroFlow .cell - 1) (r .bad)) ⌝ }
+    ensures shares { λ r. ⌜ r .shares ≡ sets (replicate 16 0) 0 (listOf (λ k. amount (shareIn slots (getD (l .list) k zeroFlow))) (r .bad)) ⌝ }
+    ensures values { λ r. ⌜ r .values ≡ sets (replicate 16 0) 0 (listOf (λ k. getD (l .list) k zeroFlow .value) (r .bad)) ⌝ }
 {
     let list = l.list;
     let mut own = [0u16; 16];
@@ -149,7 +149,7 @@ fn chained(clash: &[u32; 32], cells: usize) -> bool
 
 // The answer for a list of so many flows, of which the first 16 are here: for callers that have the flows by value.
 pub fn decide(site: Site, l: FlowList, count: usize) -> AdmitAnswer
-    ensures { λ r. ⌜ r ≡ answerIn site (λ k. getD (l .list) k none) count ⌝ }
+    ensures { λ r. ⌜ r ≡ answerIn site (λ k. getD (l .list) k zeroFlow) count ⌝ }
 {
     let f = site.fault_in();
     let Fault::Fine = f else {

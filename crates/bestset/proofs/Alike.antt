@@ -1,4 +1,5 @@
--- The best set depends on the first flows alone, so many as there are: two lists that agree on these have the same loads in every cell and the same worths, set by set.
+-- The best set depends on the first flows alone, so many as there are:
+-- two lists that agree on these have the same loads in every cell and the same worths, set by set.
 -- Assumes nothing.
 use Prim.Native.Nat.{ℕ, _^_, _<_}
 use mathlib.Core.Path.{_≡_, ap, ap₂, fun-ext}
@@ -38,5 +39,6 @@ module _ (s : Net) (n : ℕ) (cell cell' share share' value value' : ℕ → ℕ
   pub best-flows : best s one ≡ best s other
   unfolding best
   best-flows =
-      best-alike (allowed s one) (allowed s other) (worth one) (worth other) (2 ^ n) 0 0 (λ y _. same-allowed y) (λ y _. total-eq value value' n y same-value) (omega arith)
+      best-alike (allowed s one) (allowed s other) (worth one) (worth other) (2 ^ n) 0 0 (λ y _. same-allowed y) (λ y _. total-eq value value' n y same-value)
+      (omega arith)
       (omega (arith, pow-pos n))

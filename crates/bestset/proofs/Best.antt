@@ -99,13 +99,15 @@ module _ (ok : ℕ → Bool) (w : ℕ → ℕ) where
       rw same (best-cut m (suc x) b (λ y l. let e : suc x + y ≡ x + suc y = omega arith in rw e (h (suc y) (omega arith))))
 
 -- the same verdicts and worths give the same best set
-pub best-alike : (ok ok' : ℕ → Bool) (w w' : ℕ → ℕ) (m x b : ℕ) → ((y : ℕ) → y < x + m → ok y ≡ ok' y) → ((y : ℕ) → y < x + m → w y ≡ w' y) → b ≤ x - 1 → 0 < x + m
+pub best-alike : (ok ok' : ℕ → Bool) (w w' : ℕ → ℕ) (m x b : ℕ) → ((y : ℕ) → y < x + m → ok y ≡ ok' y) → ((y : ℕ) → y < x + m → w y ≡ w' y) → b ≤ x - 1
+    → 0 < x + m
     → bestOf ok w m x b ≡ bestOf ok' w' m x b
 unfolding bestOf
 best-alike ok ok' w w' zero x b h g l p = refl
 best-alike ok ok' w w' (suc m) x b h g l p =
     let e : better ok w x b ≡ better ok' w' x b = rw (h x (omega arith), g x (omega arith), g b (omega arith)) refl in
-    rw e (best-alike ok ok' w w' m (suc x) (better ok' w' x b) (λ y q. h y (omega arith)) (λ y q. g y (omega arith)) (near (ok' x && ltb (w' b) (w' x))) (omega arith))
+    rw e (best-alike ok ok' w w' m (suc x) (better ok' w' x b) (λ y q. h y (omega arith)) (λ y q. g y (omega arith)) (near (ok' x && ltb (w' b) (w' x)))
+    (omega arith))
   where
     near : (t : Bool) → pick t x b ≤ suc x - 1
     near true = omega arith
@@ -134,9 +136,15 @@ empty-allowed s f = allowed-means s f 0 .1
 pub best-is : (s : Net) (f : Flows) → Best s f (best s f)
 unfolding best
 best-is s f =
-    let start : Leads (allowed s f) (worth f) 0 0 = record { before = omega arith; good = empty-allowed s f; most = λ y l. absurd (omega arith); least = λ y l. absurd (omega arith) } in
+    let start : Leads (allowed s f) (worth f) 0 0 = record {
+      before = omega arith;
+      good = empty-allowed s f;
+      most = λ y l. absurd (omega arith);
+      least = λ y l. absurd (omega arith);
+    } in
     let z : 0 + 2 ^ f .count ≡ 2 ^ f .count = omega arith in
-    let l : Leads (allowed s f) (worth f) (2 ^ f .count) (bestOf (allowed s f) (worth f) (2 ^ f .count) 0 0) = rw z at (best-leads (allowed s f) (worth f) (2 ^ f .count) 0 0 start) in record {
+    let l : Leads (allowed s f) (worth f) (2 ^ f .count) (bestOf (allowed s f) (worth f) (2 ^ f .count) 0 0) =
+    rw z at (best-leads (allowed s f) (worth f) (2 ^ f .count) 0 0 start) in record {
       inside = omega (arith, l .before, pow-pos (f .count));
       passed = allowed-means s f _ .0 (l .good);
       most = λ y h p. l .most y h (allowed-means s f y .1 p);

@@ -1,4 +1,5 @@
--- What the answer means for plans: the admitted set is planned by the greedy planner, whatever the clashes; and in the class no set that any valid table carries is worth more.
+-- What the answer means for plans: the admitted set is planned by the greedy planner, whatever the clashes;
+-- and in the class no set that any valid table carries is worth more.
 -- Assumes nothing.
 use Prim.Native.Nat.{ℕ, _^_, _≤_, _<_}
 use Rattle.theory.specs.Net.{Net, Reserved, Valid, everyone, loaded, Class}

@@ -1,5 +1,6 @@
--- The load test of a set of flows, flow by flow: a cell's demand is the sum of what the flows of the set add to it (`demand-flat`). In the class a test of the loaded cells
--- alone and one of all cells say the same (`allowed-everyone`), so that the cells that flows are in may be tested, loaded or not (`allowed-flat`).
+-- The load test of a set of flows, flow by flow: a cell's demand is the sum of what the flows of the set add to it (`demand-flat`).
+-- In the class a test of the loaded cells alone and one of all cells say the same (`allowed-everyone`), so that the cells that flows are in may be tested,
+-- loaded or not (`allowed-flat`).
 -- Assumes nothing.
 use mathlib.Core.Path.{_≡_, refl, sym, ap, _∙_}
 use mathlib.Core.Bool.{Bool, true, false, _&&_, _||_}
@@ -15,7 +16,7 @@ use Rattle.laws.proofs.Sums.{sum-eq, sum-add, sum-none, sum-swap, sum-single, s
 use Rattle.theory.specs.Net.{Net, everyone, loaded, Class, LoadTest, room, lower}
 use Rattle.theory.proofs.Exact.{covers-everyone, covers-loaded, test-plans, class-exact}
 use Rattle.bestset.specs.Best.{Flows, total, loadIn, laden, allowed}
-use Rattle.bestset.specs.Code.{weight}
+use Rattle.bestset.specs.Code.{weightAt}
 use Rattle.bestset.proofs.Best.{allowed-means}
 
 gated-sum : (b : Bool) (g : ℕ → ℕ) (n : ℕ) → pick b (sum g n) 0 ≡ sum (λ k. pick b (g k) 0) n
@@ -62,11 +63,11 @@ module _ (s : Net) (f : Flows) (x i : ℕ) where
       ∙ sum-swap (λ j k. pick (s .clash j i) (brings j k) 0) i (f .count)
       ∙ sum-eq (λ k. sum (λ j. pick (s .clash j i) (brings j k) 0) i) below (f .count) (λ k _. by-flow k)
 
-  pub demand-flat : loadIn f x i + lower (laden s f x) i ≡ total (weight s f i) (f .count) x
+  pub demand-flat : loadIn f x i + lower (laden s f x) i ≡ total (weightAt s f i) (f .count) x
   demand-flat =
       ap (λ (n : ℕ). loadIn f x i + n) lower-flat
       ∙ sym (sum-add (brings i) below (f .count))
-      ∙ sum-eq (λ k. brings i k + below k) (λ k. pick (bitAt x k) (weight s f i k) 0) (f .count)
+      ∙ sum-eq (λ k. brings i k + below k) (λ k. pick (bitAt x k) (weightAt s f i k) 0) (f .count)
       (λ k _.
       join (bitAt x k) (eqb (f .cell k) i) (ltb (f .cell k) i) (s .clash (f .cell k) i) (f .share k)
       (λ e. let q : f .cell k ≡ i = eqb-true (f .cell k) i e in le-ltb (f .cell k) i (omega arith)))
@@ -89,7 +90,7 @@ module _ (s : Net) (f : Flows) (class : Class s everyone) (x : ℕ) where
 
   -- and exactly where no cell that a flow is in is over
   pub allowed-flat : f .count ≤ 16 → ((k : ℕ) → k < 16 → f .cell k < s .cells)
-      → allowed s f x ≡ true ↔ ((j : ℕ) → j < 16 → total (weight s f (f .cell j)) (f .count) x ≤ room s)
+      → allowed s f x ≡ true ↔ ((j : ℕ) → j < 16 → total (weightAt s f (f .cell j)) (f .count) x ≤ room s)
   allowed-flat few inside = (
     λ e j l. omega (arith, demand-flat s f x (f .cell j), allowed-everyone .0 e (f .cell j) (inside j l) refl),
     λ h. allowed-means s f x .1

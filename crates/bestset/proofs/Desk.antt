@@ -22,7 +22,7 @@ bare = record { cells = 2; width = 2; load = λ _. 0; clash = λ _ _. false; usa
 abbrev three : Flows
 three = record { count = 3; cell = λ k. getD (0 ∷ 1 ∷ 0 ∷ []) k 0; share = λ k. getD (1 ∷ 2 ∷ 2 ∷ []) k 0; value = λ k. getD (1 ∷ 1 ∷ 5 ∷ []) k 0 }
 
--- "the set {2,3} worth 6": numbers 2 and 4
+-- the set {2,3} worth 6: numbers 2 and 4
 pub desk : (best bare three ≡ 6) × (worth three 6 ≡ 6)
 unfolding best bestOf allowed sum firstOf overloaded lowestOver loadVerdict
 desk = (refl, refl)
@@ -32,11 +32,12 @@ pub recurrence-stops : (recurrence bare three ≡ 4) × (worth three 4 ≡ 5)
 unfolding keptBelow kept greatest sum
 recurrence-stops = (refl, refl)
 
--- 000's Table I and II: T=3, F=2, "cells 1-2-3 in a row each clashing with the next"
+-- 000's Table I and II: T=3, F=2, cells 1-2-3 in a row each clashing with the next
 abbrev row : Net
 row = record { cells = 3; width = 6; load = λ _. 0; clash = λ a c. eqb (a + 1) c; usable = unblocked }
 
--- the nine flows (cell, period, burst, value) 1,10,1,8; 1,4,3,39; 1,7,3,38; 2,10,1,50; 2,6,5,29; 2,7,6,41; 3,5,3,3; 3,11,4,20; 3,9,6,30, by their shares in a superframe of 3 slots
+-- the nine flows (cell, period, burst, value) 1,10,1,8; 1,4,3,39; 1,7,3,38; 2,10,1,50; 2,6,5,29; 2,7,6,41; 3,5,3,3; 3,11,4,20;
+-- 3,9,6,30, by their shares in a superframe of 3 slots
 abbrev nine : Flows
 nine = record {
   count = 9;
@@ -45,12 +46,12 @@ nine = record {
   value = λ k. getD (8 ∷ 39 ∷ 38 ∷ 50 ∷ 29 ∷ 41 ∷ 3 ∷ 20 ∷ 30 ∷ []) k 0;
 }
 
--- "the set {2,3,4,8,9}, worth 177": 2 + 4 + 8 + 128 + 256
+-- the set {2,3,4,8,9}, worth 177: 2 + 4 + 8 + 128 + 256
 pub table-two : (best row nine ≡ 398) × (worth nine 398 ≡ 177)
 unfolding best bestOf allowed sum firstOf overloaded lowestOver loadVerdict
 table-two = (refl, refl)
 
--- Table II's line "Opt", which is this recurrence: the same set, 177. So the recurrence is the paper's where the paper says what it finds, and stops at 5 where
+-- Table II's line Opt, which is this recurrence: the same set, 177. So the recurrence is the paper's where the paper says what it finds, and stops at 5 where
 -- the request says so
 pub table-two-recurrence : recurrence row nine ≡ 398
 unfolding keptBelow kept greatest sum

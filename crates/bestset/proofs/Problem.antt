@@ -1,5 +1,5 @@
--- The arrays stand for the problem: where they state one in the class, the search over the arrays is the plain search of the definition over the problem, since a set fits in the
--- cells that flows are in exactly where it passes the load test.
+-- The arrays stand for the problem: where they state one in the class, the search over the arrays is the plain search of the definition over the problem,
+-- since a set fits in the cells that flows are in exactly where it passes the load test.
 -- Assumes nothing.
 use mathlib.Core.Path.{_≡_, refl, ap}
 use mathlib.Core.Bool.{Bool, true, not}
@@ -15,7 +15,7 @@ use Rattle.laws.proofs.Any.{any-none, none-any}
 use Rattle.laws.proofs.Choice.{alike}
 use Rattle.theory.specs.Net.{Net}
 use Rattle.bestset.specs.Best.{Flows, total, worth, allowed, best}
-use Rattle.bestset.specs.Code.{flowsIn, weighed, weight, demandIn, fitsIn, bestIn, Stands}
+use Rattle.bestset.specs.Code.{flowsIn, weighed, weightAt, demandIn, fitsIn, bestIn, Stands}
 use Rattle.bestset.proofs.Best.{best-alike}
 use Rattle.bestset.proofs.Demand.{allowed-flat}
 
@@ -31,7 +31,7 @@ module _ (room' : ℕ) (rows cell share value : List ℕ) (n : ℕ) where
     abbrev flows : Flows
     flows = flowsIn cell share value n
 
-    demand-same : (x j : ℕ) → demandIn rows cell share n x j ≡ total (weight s flows (getD cell j 0)) n x
+    demand-same : (x j : ℕ) → demandIn rows cell share n x j ≡ total (weightAt s flows (getD cell j 0)) n x
     demand-same x j = ap (λ (c : ℕ → ℕ → Bool). total (λ k. weighed c (getD cell k 0) (getD share k 0) (getD cell j 0)) n x) (stands .clash-is)
 
     verdicts : (x : ℕ) → fitsIn room' rows cell share n x ≡ allowed s flows x

@@ -27,8 +27,10 @@ pub in-low : (a k y j : ℕ) → j < k → bitAt (a * 2 ^ k + y) j ≡ bitAt y j
 in-low a k y j h =
     let m : ℕ = k - j - 1 in
     let e : k ≡ suc m + j = omega arith in
-    let q : a * 2 ^ k ≡ a * 2 ^ suc m * 2 ^ j = ap (λ (n : ℕ). a * 2 ^ n) e ∙ ap (λ (n : ℕ). a * n) (pow-add 2 (suc m) j) ∙ sym (mul-assoc a (2 ^ suc m) (2 ^ j)) in
-    ap (λ (n : ℕ). eqb n 1) (ap (λ (n : ℕ). (n + y) / 2 ^ j % 2) q ∙ ap (λ (n : ℕ). n % 2) (mul-add-div-right (pow-pos j) (a * 2 ^ suc m) y) ∙ block-odd a m (y / 2 ^ j))
+    let q : a * 2 ^ k ≡ a * 2 ^ suc m * 2 ^ j = ap (λ (n : ℕ). a * 2 ^ n) e ∙ ap (λ (n : ℕ). a * n) (pow-add 2 (suc m) j)
+    ∙ sym (mul-assoc a (2 ^ suc m) (2 ^ j)) in
+    ap (λ (n : ℕ). eqb n 1) (ap (λ (n : ℕ). (n + y) / 2 ^ j % 2) q ∙ ap (λ (n : ℕ). n % 2) (mul-add-div-right (pow-pos j) (a * 2 ^ suc m) y)
+    ∙ block-odd a m (y / 2 ^ j))
 
 pub in-high : (a k y j : ℕ) → y < 2 ^ k → bitAt (a * 2 ^ k + y) (k + j) ≡ bitAt a j
 in-high a k y j h = ap (λ (n : ℕ). eqb n 1) (ap (λ (n : ℕ). n % 2) (sym (shr-shr (a * 2 ^ k + y) k j) ∙ ap (λ (n : ℕ). n / 2 ^ j) (high a k h)))
@@ -61,7 +63,8 @@ total-split f k n a y h =
       arith,
       sum-split (λ j. pick (bitAt (a * 2 ^ k + y) j) (f j) 0) k n,
       sum-eq (λ j. pick (bitAt (a * 2 ^ k + y) j) (f j) 0) (λ j. pick (bitAt y j) (f j) 0) k (λ j l. ap (λ b. pick b (f j) 0) (in-low a k y j l)),
-      sum-eq (λ j. pick (bitAt (a * 2 ^ k + y) (k + j)) (f (k + j)) 0) (λ j. pick (bitAt a j) (f (k + j)) 0) n (λ j _. ap (λ b. pick b (f (k + j)) 0) (in-high a k y j h)),
+      sum-eq (λ j. pick (bitAt (a * 2 ^ k + y) (k + j)) (f (k + j)) 0) (λ j. pick (bitAt a j) (f (k + j)) 0) n
+          (λ j _. ap (λ b. pick b (f (k + j)) 0) (in-high a k y j h)),
     )
 
 -- a set of flows from k on

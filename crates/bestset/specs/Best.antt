@@ -29,7 +29,7 @@ bestOf ok worth (suc m) x b = bestOf ok worth m (suc x) (better ok worth x b)
 unfoldable pub best : Net → Flows → ℕ
 best s f = bestOf (allowed s f) (worth f) (2 ^ f .count) 0 0
 
--- "the set of greatest total value whose shares, summed by cell, pass the load test ..; among equals, the set with the smallest number"
+-- "the set of greatest total value whose shares, summed by cell, pass the load test .. among equals, the set with the smallest number"
 pub record Best (s : Net) (f : Flows) (x : ℕ) : Type 0 where
   pub inside : x < 2 ^ f .count
   pub passed : LoadTest (laden s f x) (loaded (laden s f x))

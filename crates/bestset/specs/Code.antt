@@ -24,12 +24,16 @@ abbrev pub weighed : (ℕ → ℕ → Bool) → ℕ → ℕ → ℕ → ℕ
 weighed clash c share i = pick (counts clash c i) share 0
 
 -- what flow k adds to the demand of cell i
-abbrev pub weight : Net → Flows → ℕ → ℕ → ℕ
-weight s f i k = weighed (s .clash) (f .cell k) (f .share k) i
+abbrev pub weightAt : Net → Flows → ℕ → ℕ → ℕ
+weightAt s f i k = weighed (s .clash) (f .cell k) (f .share k) i
 
--- the same for the flows of the arrays, by the place in a table that has 16 numbers to a flow: what flow m / 16 adds in the cell of flow m % 16
+-- the same for the flows of the arrays: what flow k adds in the cell of flow j
+abbrev pub addedIn : List ℕ → List ℕ → List ℕ → ℕ → ℕ → ℕ
+addedIn rows cell share k j = weighed (bitIn rows) (getD cell k 0) (getD share k 0) (getD cell j 0)
+
+-- and by the place in a table that has 16 numbers to a flow
 abbrev pub weighedAt : List ℕ → List ℕ → List ℕ → ℕ → ℕ
-weighedAt rows cell share m = weighed (bitIn rows) (getD cell (m / 16) 0) (getD share (m / 16) 0) (getD cell (m % 16) 0)
+weighedAt rows cell share m = addedIn rows cell share (m / 16) (m % 16)
 
 -- what flow k adds in the cell of flow j, read from that table
 abbrev pub entry : List ℕ → ℕ → ℕ → ℕ
@@ -45,7 +49,7 @@ roomFor weights room x = not (any (λ j. ltb room (total (entry weights j) 16 x)
 
 -- what the flows of x add to the demand in the cell of flow j
 abbrev pub demandIn : List ℕ → List ℕ → List ℕ → ℕ → ℕ → ℕ → ℕ
-demandIn rows cell share n x j = total (λ k. weighed (bitIn rows) (getD cell k 0) (getD share k 0) (getD cell j 0)) n x
+demandIn rows cell share n x j = total (λ k. addedIn rows cell share k j) n x
 
 -- whether a set of the first n flows fits the room, in the cell of each of 16 flows
 unfoldable pub fitsIn : ℕ → List ℕ → List ℕ → List ℕ → ℕ → ℕ → Bool
@@ -55,8 +59,8 @@ fitsIn room rows cell share n x = not (any (λ j. ltb room (demandIn rows cell s
 unfoldable pub bestIn : ℕ → List ℕ → List ℕ → List ℕ → List ℕ → ℕ → ℕ
 bestIn room rows cell share value n = bestOf (fitsIn room rows cell share n) (worth (flowsIn cell share value n)) (2 ^ n) 0 0
 
--- The arrays state this problem: its room, its clashes, and cells that are its own. And the problem is in the class, so that a cell that is not loaded is over only where a
--- loaded one is.
+-- The arrays state this problem: its room, its clashes, and cells that are its own. And the problem is in the class, so that a cell that is not loaded is over
+-- only where a loaded one is.
 pub record Stands (s : Net) (room' : ℕ) (rows cell : List ℕ) : Type 0 where
   pub room-is : room' ≡ room s
   pub clash-is : bitIn rows ≡ s .clash

@@ -1,4 +1,5 @@
--- Flows, and sets of them. A set of flows is a number: flow k, counted from 0, is in it when its bit of weight 2 ^ k is 1. Stated over any problem, whose own loads are set aside.
+-- Flows, and sets of them. A set of flows is a number: flow k, counted from 0, is in it when its bit of weight 2 ^ k is 1.
+-- Stated over any problem, whose own loads are set aside.
 -- Cells are counted from 0.
 use Prim.Native.Nat.{ℕ}
 use lib.Dec.{eqb}

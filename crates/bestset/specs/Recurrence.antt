@@ -1,5 +1,5 @@
--- The recurrence of 000, (18) to (21), which is not best in general: of the sets with one reward it keeps a single one, and a later flow may go with another. Nothing but the desk's
--- example asks for it. A set is a number, and the empty set, whose size is infinite there, is 0.
+-- The recurrence of 000, (18) to (21), which is not best in general: of the sets with one reward it keeps a single one, and a later flow may go with another.
+-- Nothing but the desk's example asks for it. A set is a number, and the empty set, whose size is infinite there, is 0.
 use Prim.Native.Nat.{ℕ, zero, suc, _+_, _-_, _^_}
 use mathlib.Core.Bool.{Bool, not, _&&_, _||_}
 use lib.Dec.{ltb, leb, eqb}

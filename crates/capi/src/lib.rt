@@ -28,15 +28,14 @@ ghost use Rattle.mender.specs.Mend.{mendAnswer, mendTable, mendList};
 ghost use Rattle.mender.specs.Given.{mendGiven};
 ghost use Rattle.shares.specs.Share.{shareOf, defaultRepeats};
 ghost use Rattle.shares.specs.Given.{shareGiven};
+ghost use Rattle.records.specs.Given.{writtenGiven};
 ghost use Rattle.sitefile.specs.Read.{readSite};
 ghost use Rattle.sitefile.specs.Write.{siteWritten, siteOut};
-ghost use Rattle.sitefile.specs.Given.{siteWrittenGiven};
 ghost use Rattle.planfile.specs.Read.{readPlan, planTableRead};
 ghost use Rattle.planfile.specs.Write.{planWritten, planOut};
 ghost use Rattle.planfile.specs.Given.{planWrittenGiven};
 ghost use Rattle.sheet.specs.Read.{readSheet};
 ghost use Rattle.sheet.specs.Write.{sheetWritten, sheetOut};
-ghost use Rattle.sheet.specs.Given.{sheetWrittenGiven};
 ghost use Rattle.admission.specs.Admit.{admitAnswer};
 ghost use Rattle.admission.specs.Given.{admitGiven};
 ghost use Rattle.told.specs.Told.{told, toldEdited, toldSiteRead, toldPlanRead, toldSheetRead};
@@ -192,10 +191,10 @@ pub extern "C" fn dugg_read_site(bytes: &[u8]) -> EditedSite
 
 #[no_mangle]
 pub extern "C" fn dugg_write_site(site: Site, out: &mut [u8]) -> Answer
-    ensures { λ r. ⌜ r ≡ told (siteWrittenGiven (siteWritten site (now (out .entry)))) ⌝ }
+    ensures { λ r. ⌜ r ≡ told (writtenGiven (siteWritten site (now (out .entry)))) ⌝ }
     ensures { λ _. ⌜ now (out .exit) ≡ siteOut site (now (out .entry)) ⌝ }
 {
-    told::site_written(sitefile::write_site(site, out))
+    told::written_answer(sitefile::write_site(site, out))
 }
 
 #[no_mangle]
@@ -223,10 +222,10 @@ pub extern "C" fn dugg_read_sheet(bytes: &[u8], slots: u16, channels: u16) -> Ed
 
 #[no_mangle]
 pub extern "C" fn dugg_write_sheet(site: Site, out: &mut [u8]) -> Answer
-    ensures { λ r. ⌜ r ≡ told (sheetWrittenGiven (sheetWritten site (now (out .entry)))) ⌝ }
+    ensures { λ r. ⌜ r ≡ told (writtenGiven (sheetWritten site (now (out .entry)))) ⌝ }
     ensures { λ _. ⌜ now (out .exit) ≡ sheetOut site (now (out .entry)) ⌝ }
 {
-    told::sheet_written(sheet::write_sheet(site, out))
+    told::written_answer(sheet::write_sheet(site, out))
 }
 
 #[no_mangle]

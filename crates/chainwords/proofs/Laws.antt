@@ -1,5 +1,6 @@
--- The two searches in a row find what the definition's nested ones do: below the first cell b that does not clash with a, no pair breaks, since every gap is empty; past it,
--- each cell that clashes with a breaks, with the gap at b. And two ways to say who counts, that agree on the cells, find the same.
+-- The two searches in a row find what the definition's nested ones do: below the first cell b that does not clash with a, no pair breaks,
+-- since every gap is empty; past it, each cell that clashes with a breaks, with the gap at b.
+-- And two ways to say who counts, that agree on the cells, find the same.
 -- Assumes nothing.
 use Prim.Native.Nat.{ℕ, _+_, _≤_, _<_, zero-le}
 use mathlib.Core.Bool.{Bool, true, false, not, _&&_, and-true, and-false}

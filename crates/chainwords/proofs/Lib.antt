@@ -1,2 +1,3 @@
 -- The laws of crate `chainwords`.
 pub mod Laws
+pub mod Rows

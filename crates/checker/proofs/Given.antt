@@ -68,5 +68,6 @@ checks position a c cell n row = Valid ∷ TableShort ∷ Clash position a c ∷
 
 pub check-numbers : (position a c cell n row : ℕ)
     → (map (λ (a : CheckAnswer). checkGiven a .number) (checks position a c cell n row) ≡ 0 ∷ 4 ∷ 6 ∷ 7 ∷ 1 ∷ 2 ∷ 3 ∷ [])
-    × (map (λ (a : CheckAnswer). checkGiven a .values) (checks position a c cell n row) ≡ [] ∷ [] ∷ (position ∷ a ∷ c ∷ []) ∷ (cell ∷ n ∷ []) ∷ [] ∷ (cell ∷ []) ∷ (row ∷ []) ∷ [])
+    × (map (λ (a : CheckAnswer). checkGiven a .values) (checks position a c cell n row)
+    ≡ [] ∷ [] ∷ (position ∷ a ∷ c ∷ []) ∷ (cell ∷ n ∷ []) ∷ [] ∷ (cell ∷ []) ∷ (row ∷ []) ∷ [])
 check-numbers position a c cell n row = (refl, refl)

@@ -73,7 +73,12 @@ module _ (cells n : ℕ) (loads rows t : List ℕ) where
     is-clash {word} {a} {c} h w f g =
         let at : a < cells = first-inside cells n rows t p w lowest h f in
         let e : clash p a c ≡ tableVerdict whole (reserved n t) =
-        rw (sym (lowest ∙ same-clash), lt-ltb p n h, sym (is-first cells n rows t p w f ∙ same-first p), sym (is-second cells n rows t p w at g ∙ same-second p a)) in
+        rw (
+          sym (lowest ∙ same-clash),
+          lt-ltb p n h,
+          sym (is-first cells n rows t p w f ∙ same-first p),
+          sym (is-second cells n rows t p w at g ∙ same-second p a),
+        ) in
         ap verdictOf e
 
     module _ (none : n ≤ p) {i : ℕ} (low : i ≡ lowestWrong (loadNet cells n loads) (reserved n t)) where

@@ -14,8 +14,8 @@ use Rattle.site.specs.declared.Site.{Site}
 use Rattle.checker.specs.declared.CheckAnswer.{CheckAnswer}
 use Rattle.checker.specs.declared.CheckAnswer.the-variants.{Valid, TableShort, Clash, Count, Refused}
 
--- "6 clash in a table: lowest position; there the pair with the lowest first cell, then second"
--- "7 wrong number of reservations: lowest cell, its count"
+-- 6, "clash in a table": "lowest position; there the pair with the lowest first cell, then second"
+-- 7, "wrong number of reservations": "lowest cell, its count"
 unfoldable pub verdictOf : TableVerdict → CheckAnswer
 verdictOf valid = Valid
 verdictOf (clash k a c) = Clash k (a + 1) (c + 1)
@@ -26,6 +26,6 @@ abbrev pub checkedBy : Site → (lent due : ℕ) → Reserved → CheckAnswer
 checkedBy s lent due res =
     pick (isFine (faultOf s)) (pick (ltb lent due) TableShort (verdictOf (tableVerdict (netOf s) res))) (Refused (faultOf s))
 
--- "4 lent table shorter than IN"
+-- 4, "lent table shorter than IN"
 unfoldable pub checkAnswer : Site → List ℕ → CheckAnswer
 checkAnswer s t = checkedBy s (length t) (size s) (reserved (positions s) t)

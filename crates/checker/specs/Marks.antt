@@ -6,9 +6,9 @@ use Prim.Native.Nat.{ℕ, _+_, _<_}
 use lib.Dec.{ltb, eqb}
 use lib.ListN.{getD}
 use Rattle.laws.specs.Bits.{bitIn}
-use Rattle.laws.specs.Search.{first}
 use Rattle.theory.specs.Net.{Net, Reserved, unblocked}
-use Rattle.theory.specs.Verdict.{clashesAt, firstAt}
+use Rattle.theory.specs.Greedy.{reserved}
+use Rattle.theory.specs.Verdict.{firstAt}
 use Rattle.site.specs.Reach.{netIn}
 
 -- the problem as far as clashes go: no load is looked at
@@ -23,11 +23,14 @@ loadNet cells n loads = netIn cells n loads (λ a c. false) unblocked
 abbrev pub clashing : Net → Reserved → ℕ → Bool
 clashing s res k = ltb (firstAt s res k) (s .cells)
 
--- the first m numbers are 0
-abbrev pub Zeros : ℕ → List ℕ → Type 0
-Zeros m l = (k : ℕ) → k < m → getD l k 0 ≡ 0
+-- the positions with a clash, by the numbers that the searches have: a table with a row of n bytes for each cell, and the clash rows
+abbrev pub clashingIn : (cells n : ℕ) → (clash table : List ℕ) → ℕ → Bool
+clashingIn cells n clash table = clashing (clashNet cells n clash) (reserved n table)
 
--- of m positions from `from` on, mark k is not 0 exactly where some cell from a on clashes at position from + k with a cell above it
-abbrev pub Marks : Net → Reserved → ℕ → ℕ → ℕ → List ℕ → Type 0
-Marks s res from m a marks =
-    (k : ℕ) → k < m → not (eqb (getD marks k 0) 0) ≡ ltb (first (clashesAt s res (from + k)) a (s .cells)) (s .cells)
+-- mark k is set: it is not 0
+abbrev pub markSet : List ℕ → ℕ → Bool
+markSet marks k = not (eqb (getD marks k 0) 0)
+
+-- the first m marks say which positions pass a test, from position `from` on: mark k is set exactly where position from + k passes
+abbrev pub Marks : (test : ℕ → Bool) → (from m : ℕ) → List ℕ → Type 0
+Marks test from m marks = (k : ℕ) → k < m → markSet marks k ≡ test (from + k)

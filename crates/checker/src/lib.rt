@@ -5,10 +5,8 @@
 // neighbouring places without a branch, and the search for a clash ends at the first 64 positions that have one. Pairs of cells are looked at at one position,
 // the one that the answer names. Nothing of the table is copied; the local room is two words for each of 64 positions.
 ghost use mathlib.Core.Path.{_≡_};
-ghost use mathlib.Core.Bool.{not};
 ghost use Prim.Native.Nat.{_+_, _*_, _≤_, _<_};
-ghost use lib.Dec.{eqb};
-ghost use lib.ListN.{length, getD};
+ghost use lib.ListN.{length};
 ghost use Rattle.laws.specs.Bits.{bitIn};
 ghost use Rattle.laws.specs.Search.{first};
 ghost use Rattle.laws.specs.Sum.{bit, count};
@@ -16,8 +14,9 @@ ghost use Rattle.theory.specs.Net.{unblocked};
 ghost use Rattle.theory.specs.Greedy.{sends, reserved, held};
 ghost use Rattle.theory.specs.Verdict.{lowestClash, lowestWrong, tableVerdict};
 ghost use Rattle.site.specs.Reach.{netIn};
-ghost use Rattle.checker.specs.Marks.{clashNet, loadNet, clashing, Zeros, Marks};
+ghost use Rattle.checker.specs.Marks.{clashNet, loadNet, clashingIn, markSet, Marks};
 ghost use Rattle.checker.specs.Check.{verdictOf, checkAnswer};
+ghost use Rattle.laws.specs.Part.{Zeros};
 use site::Fault;
 use site::Site;
 
@@ -45,7 +44,7 @@ fn mark_clashes(
 )
     requires { ⌜ (cells ≤ 32) × (m ≤ length (now words)) × (m ≤ length (now marks)) × (from + m ≤ n) × (cells * n ≤ length (now table)) ⌝ }
     requires { ⌜ Zeros m (now words) × Zeros m (now marks) ⌝ }
-    ensures { λ _. ⌜ Marks (clashNet cells n (now (clash .entry))) (reserved n (now (table .entry))) from m 0 (now (marks .exit)) ⌝ }
+    ensures { λ _. ⌜ Marks (clashingIn cells n (now (clash .entry)) (now (table .entry))) from m (now (marks .exit)) ⌝ }
 {
     let mut a = cells;
     while 0 < a {
@@ -57,7 +56,7 @@ fn mark_clashes(
 // The lowest of the first n positions that is marked; n where there is none.
 fn lowest_marked(marks: &[u32], n: usize) -> usize
     requires { ⌜ n ≤ length (now marks) ⌝ }
-    ensures { λ r. ⌜ r ≡ first (λ k. not (eqb (getD (now (marks .entry)) k 0) 0)) 0 n ⌝ }
+    ensures { λ r. ⌜ r ≡ first (markSet (now (marks .entry))) 0 n ⌝ }
 {
     let mut p = 0;
     while p < n {
@@ -72,7 +71,7 @@ fn lowest_marked(marks: &[u32], n: usize) -> usize
 // The lowest of m positions, from `from` on, that has a clash, counted from `from`; m where there is none.
 fn clash_in(table: &[u8], n: usize, from: usize, m: usize, clash: &[u32; 32], cells: usize) -> usize
     requires { ⌜ (cells ≤ 32) × (m ≤ 64) × (from + m ≤ n) × (cells * n ≤ length (now table)) ⌝ }
-    ensures { λ r. ⌜ r ≡ first (λ k. clashing (clashNet cells n (now (clash .entry))) (reserved n (now (table .entry))) (from + k)) 0 m ⌝ }
+    ensures { λ r. ⌜ r ≡ first (λ k. clashingIn cells n (now (clash .entry)) (now (table .entry)) (from + k)) 0 m ⌝ }
 {
     let mut words = [0u32; 64];
     let mut marks = [0u32; 64];

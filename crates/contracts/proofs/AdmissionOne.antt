@@ -1,12 +1,12 @@
--- For any arguments one answer and one content of what is lent meet the contract, and no other, in crate `admission`: by its equalities alone. Made by tools/surface from the source.
--- Assumes nothing.
+-- For any arguments one answer and one content of what is lent meet the contract, and no other, in crate `admission`: by its equalities alone.
+-- Made by tools/surface from the source. Assumes nothing.
 use mathlib.Core.Path.{_≡_, refl}
 use mathlib.Core.List.{List}
 use Prim.Native.Nat.{ℕ}
 use Rattle.admission.specs.Admit.{admitAnswer, answerIn, shareIn}
 use Rattle.admission.specs.declared.AdmitAnswer.{AdmitAnswer}
 use Rattle.contracts.specs.AdmissionSays.{Admit, Decide, ShareIn}
-use Rattle.flowlist.specs.List.{none}
+use Rattle.flowlist.specs.List.{zeroFlow}
 use Rattle.flowlist.specs.declared.Flow.{Flow}
 use Rattle.flowlist.specs.declared.FlowList.{FlowList}
 use Rattle.shares.specs.declared.ShareAnswer.{ShareAnswer}
@@ -28,7 +28,7 @@ pub decide-one : (site : Site) (l : FlowList) (count : ℕ)
     → (r : AdmitAnswer) × (Decide site l count r)
     × ((q : AdmitAnswer) → Decide site l count q → (q ≡ r))
 decide-one site l count = (
-  answerIn site (λ k. getD (l .list) k none) count,
+  answerIn site (λ k. getD (l .list) k zeroFlow) count,
   record { answer = refl },
   λ q says. says .answer,
 )

@@ -1,5 +1,5 @@
--- For any arguments one answer and one content of what is lent meet the contract, and no other, in crate `capi`: by its equalities alone. Made by tools/surface from the source.
--- Assumes nothing.
+-- For any arguments one answer and one content of what is lent meet the contract, and no other, in crate `capi`: by its equalities alone.
+-- Made by tools/surface from the source. Assumes nothing.
 use mathlib.Core.Path.{_≡_, refl}
 use mathlib.Core.List.{List}
 use Prim.Native.Nat.{ℕ}
@@ -7,7 +7,9 @@ use Rattle.admission.specs.Admit.{admitAnswer}
 use Rattle.admission.specs.Given.{admitGiven}
 use Rattle.checker.specs.Check.{checkAnswer}
 use Rattle.checker.specs.Given.{checkGiven}
-use Rattle.contracts.specs.CapiSays.{DuggAdmit, DuggChain, DuggCheck, DuggCheckWords, DuggClash, DuggClearReach, DuggFault, DuggHeaviest, DuggLeast, DuggLoadTest, DuggMend, DuggPlan, DuggPlanWords, DuggReadPlan, DuggReadSheet, DuggReadSite, DuggSetLoad, DuggSetReach, DuggShare, DuggShareRepeated, DuggToBytes, DuggToWords, DuggWritePlan, DuggWriteSheet, DuggWriteSite}
+use Rattle.contracts.specs.CapiSays.{DuggAdmit, DuggChain, DuggCheck, DuggCheckWords, DuggClash, DuggClearReach, DuggFault, DuggHeaviest, DuggLeast}
+use Rattle.contracts.specs.CapiSays.{DuggLoadTest, DuggMend, DuggPlan, DuggPlanWords, DuggReadPlan, DuggReadSheet, DuggReadSite, DuggSetLoad}
+use Rattle.contracts.specs.CapiSays.{DuggSetReach, DuggShare, DuggShareRepeated, DuggToBytes, DuggToWords, DuggWritePlan, DuggWriteSheet, DuggWriteSite}
 use Rattle.flowlist.specs.declared.Flow.{Flow}
 use Rattle.heaviest.specs.Given.{heaviestGiven}
 use Rattle.heaviest.specs.Sets.{heaviestOf}
@@ -20,9 +22,9 @@ use Rattle.planfile.specs.Read.{planTableRead, readPlan}
 use Rattle.planfile.specs.Write.{planOut, planWritten}
 use Rattle.planner.specs.Given.{planGiven}
 use Rattle.planner.specs.Plan.{planAnswer, planTable}
+use Rattle.records.specs.Given.{writtenGiven}
 use Rattle.shares.specs.Given.{shareGiven}
 use Rattle.shares.specs.Share.{defaultRepeats, shareOf}
-use Rattle.sheet.specs.Given.{sheetWrittenGiven}
 use Rattle.sheet.specs.Read.{readSheet}
 use Rattle.sheet.specs.Write.{sheetOut, sheetWritten}
 use Rattle.site.specs.Edit.{clearReachOf, setLoadOf, setReachOf}
@@ -30,7 +32,6 @@ use Rattle.site.specs.Given.{clashGiven, faultGiven}
 use Rattle.site.specs.Reach.{clashAnswer}
 use Rattle.site.specs.Record.{faultOf}
 use Rattle.site.specs.declared.Site.{Site}
-use Rattle.sitefile.specs.Given.{siteWrittenGiven}
 use Rattle.sitefile.specs.Read.{readSite}
 use Rattle.sitefile.specs.Write.{siteOut, siteWritten}
 use Rattle.told.specs.Told.{told, toldEdited, toldPlanRead, toldSheetRead, toldSiteRead}
@@ -243,7 +244,7 @@ pub duggWriteSite-one : (site : Site) (out : List ℕ)
     → (r : Answer) × (out′ : List ℕ) × (DuggWriteSite site out r out′)
     × ((q : Answer) (out″ : List ℕ) → DuggWriteSite site out q out″ → (q ≡ r) × (out″ ≡ out′))
 duggWriteSite-one site out = (
-  told (siteWrittenGiven (siteWritten site out)),
+  told (writtenGiven (siteWritten site out)),
   siteOut site out,
   record { answer = refl; out-after = refl },
   λ q out″ says. (says .answer, says .out-after),
@@ -286,7 +287,7 @@ pub duggWriteSheet-one : (site : Site) (out : List ℕ)
     → (r : Answer) × (out′ : List ℕ) × (DuggWriteSheet site out r out′)
     × ((q : Answer) (out″ : List ℕ) → DuggWriteSheet site out q out″ → (q ≡ r) × (out″ ≡ out′))
 duggWriteSheet-one site out = (
-  told (sheetWrittenGiven (sheetWritten site out)),
+  told (writtenGiven (sheetWritten site out)),
   sheetOut site out,
   record { answer = refl; out-after = refl },
   λ q out″ says. (says .answer, says .out-after),

@@ -1,19 +1,19 @@
--- For any arguments one answer and one content of what is lent meet the contract, and no other, in crate `chainwords`: by its equalities alone. Made by tools/surface from the source.
--- Assumes nothing.
+-- For any arguments one answer and one content of what is lent meet the contract, and no other, in crate `chainwords`: by its equalities alone.
+-- Made by tools/surface from the source. Assumes nothing.
 use mathlib.Core.Path.{_≡_, refl}
 use mathlib.Core.List.{List}
 use Prim.Native.Nat.{ℕ}
-use Rattle.chainwords.specs.Chain.{chainIn}
+use Rattle.chainwords.specs.Chain.{breakIn, chainIn, gapIn}
 use Rattle.contracts.specs.ChainwordsSays.{ChainwordsBreakOf, ChainwordsFirstBreak, ChainwordsGap}
 use Rattle.laws.specs.Bits.{bitAt, bitIn}
-use Rattle.theory.specs.Verdict.{breakOf, firstBreak, gap}
+use Rattle.theory.specs.Verdict.{firstBreak}
 
 -- chainwords::gap
 pub chainwordsGap-one : (row : ℕ) (who : ℕ) (a : ℕ) (c : ℕ)
     → (r : ℕ) × (ChainwordsGap row who a c r)
     × ((q : ℕ) → ChainwordsGap row who a c q → (q ≡ r))
 chainwordsGap-one row who a c = (
-  gap (chainIn c (λ _. bitAt row)) (bitAt who) a c,
+  gapIn row who a c,
   record { answer = refl },
   λ q says. says .answer,
 )
@@ -23,7 +23,7 @@ pub chainwordsBreakOf-one : (row : ℕ) (who : ℕ) (a : ℕ) (cells : ℕ)
     → (r : ℕ) × (ChainwordsBreakOf row who a cells r)
     × ((q : ℕ) → ChainwordsBreakOf row who a cells q → (q ≡ r))
 chainwordsBreakOf-one row who a cells = (
-  breakOf (chainIn cells (λ _. bitAt row)) (bitAt who) a,
+  breakIn row who a cells,
   record { answer = refl },
   λ q says. says .answer,
 )

@@ -1,6 +1,9 @@
 -- Every call of the product has one answer: crate by crate. Made by tools/surface from the source. Assumes nothing.
 use Rattle.contracts.proofs.AdmissionOne.{admit-one, decide-one, shareIn-one}
-use Rattle.contracts.proofs.CapiOne.{duggAdmit-one, duggChain-one, duggCheck-one, duggCheckWords-one, duggClash-one, duggClearReach-one, duggFault-one, duggHeaviest-one, duggLeast-one, duggLoadTest-one, duggMend-one, duggPlan-one, duggPlanWords-one, duggReadPlan-one, duggReadSheet-one, duggReadSite-one, duggSetLoad-one, duggSetReach-one, duggShare-one, duggShareRepeated-one, duggToBytes-one, duggToWords-one, duggWritePlan-one, duggWriteSheet-one, duggWriteSite-one}
+use Rattle.contracts.proofs.CapiOne.{duggAdmit-one, duggChain-one, duggCheck-one, duggCheckWords-one, duggClash-one, duggClearReach-one, duggFault-one}
+use Rattle.contracts.proofs.CapiOne.{duggHeaviest-one, duggLeast-one, duggLoadTest-one, duggMend-one, duggPlan-one, duggPlanWords-one, duggReadPlan-one}
+use Rattle.contracts.proofs.CapiOne.{duggReadSheet-one, duggReadSite-one, duggSetLoad-one, duggSetReach-one, duggShare-one, duggShareRepeated-one}
+use Rattle.contracts.proofs.CapiOne.{duggToBytes-one, duggToWords-one, duggWritePlan-one, duggWriteSheet-one, duggWriteSite-one}
 use Rattle.contracts.proofs.CheckerOne.{check-one}
 use Rattle.contracts.proofs.FlowsheetOne.{readFlows-one}
 use Rattle.contracts.proofs.HeaviestOne.{heaviest-one}
@@ -10,7 +13,8 @@ use Rattle.contracts.proofs.PlanfileOne.{readPlan-one, writePlan-one}
 use Rattle.contracts.proofs.PlannerOne.{plan-one}
 use Rattle.contracts.proofs.SharesOne.{share-one, shareOf-one}
 use Rattle.contracts.proofs.SheetOne.{readSheet-one, writeSheet-one}
-use Rattle.contracts.proofs.SiteOne.{siteClash-one, siteClashRows-one, siteClearReach-one, siteFaultIn-one, siteSetLoad-one, siteSetReach-one, siteZeros-one, sizeOk-one, within-one}
+use Rattle.contracts.proofs.SiteOne.{siteClash-one, siteClashRows-one, siteClearReach-one, siteFaultIn-one, siteSetLoad-one, siteSetReach-one}
+use Rattle.contracts.proofs.SiteOne.{siteZeros-one, sizeOk-one, within-one}
 use Rattle.contracts.proofs.SitefileOne.{readSite-one, writeSite-one}
 use Rattle.contracts.proofs.WordtableOne.{checkWords-one, planWords-one, toBytes-one, toWords-one}
 use Rattle.contracts.specs.Every.{EveryCall}

@@ -1,5 +1,5 @@
--- For any arguments one answer and one content of what is lent meet the contract, and no other, in crate `flowlist`: by its equalities alone. Made by tools/surface from the source.
--- Assumes nothing.
+-- For any arguments one answer and one content of what is lent meet the contract, and no other, in crate `flowlist`: by its equalities alone.
+-- Made by tools/surface from the source. Assumes nothing.
 use mathlib.Core.Path.{_≡_, refl}
 use mathlib.Core.List.{List}
 use Rattle.contracts.specs.FlowlistSays.{FlowlistEmpty, FlowlistGather, FlowlistPush}

@@ -1,10 +1,10 @@
--- For any arguments one answer and one content of what is lent meet the contract, and no other, in crate `mender`: by its equalities alone. Made by tools/surface from the source.
--- Assumes nothing.
+-- For any arguments one answer and one content of what is lent meet the contract, and no other, in crate `mender`: by its equalities alone.
+-- Made by tools/surface from the source. Assumes nothing.
 use mathlib.Core.Path.{_≡_, refl}
 use mathlib.Core.List.{List}
 use Prim.Native.Nat.{ℕ}
 use Rattle.contracts.specs.MenderSays.{Mend, MendOnly}
-use Rattle.mender.specs.Mend.{mendAnswer, mendList, mendTable, roomFor}
+use Rattle.mender.specs.Mend.{listRoom, mendAnswer, mendList, mendTable}
 use Rattle.mender.specs.declared.MendAnswer.{MendAnswer}
 use Rattle.site.specs.declared.Site.{Site}
 
@@ -25,8 +25,8 @@ pub mendOnly-one : (site : Site) (table : List ℕ)
     → (r : MendAnswer) × (table′ : List ℕ) × (MendOnly site table r table′)
     × ((q : MendAnswer) (table″ : List ℕ) → MendOnly site table q table″ → (q ≡ r) × (table″ ≡ table′))
 mendOnly-one site table = (
-  mendAnswer site table (roomFor site),
-  mendTable site table (roomFor site),
+  mendAnswer site table (listRoom site),
+  mendTable site table (listRoom site),
   record { answer = refl; table-after = refl },
   λ q table″ says. (says .answer, says .table-after),
 )

@@ -1,10 +1,11 @@
--- For any arguments one answer and one content of what is lent meet the contract, and no other, in crate `records`: by its equalities alone. Made by tools/surface from the source.
--- Assumes nothing.
+-- For any arguments one answer and one content of what is lent meet the contract, and no other, in crate `records`: by its equalities alone.
+-- Made by tools/surface from the source. Assumes nothing.
 use mathlib.Core.Path.{_≡_, refl}
 use mathlib.Core.List.{List, [], _∷_}
 use Prim.Native.Nat.{ℕ}
-use Rattle.contracts.specs.RecordsSays.{RecordsHeadAnswer, RecordsOpen, RecordsOpenedAnswer, RecordsPutHead, RecordsPutStart, RecordsPutTwo, RecordsPutWord, RecordsWord}
-use Rattle.records.specs.Bytes.{le16, words}
+use Rattle.contracts.specs.RecordsSays.{RecordsHeadAnswer, RecordsOpen, RecordsOpenedAnswer, RecordsPutHead, RecordsPutStart, RecordsPutTwo}
+use Rattle.contracts.specs.RecordsSays.{RecordsPutTwoBytes, RecordsTwoBytes}
+use Rattle.records.specs.Bytes.{le16, twoBytesEach}
 use Rattle.records.specs.Head.{headAnswer, headRecord}
 use Rattle.records.specs.Opener.{openAnswer, openAt}
 use Rattle.records.specs.declared.Length.{Length}
@@ -12,11 +13,11 @@ use Rattle.records.specs.declared.Opened.{Opened}
 use Rattle.records.specs.declared.ReadAnswer.{ReadAnswer}
 use lib.Seq.{sets}
 
--- records::word
-pub recordsWord-one : (s : List ℕ) (k : ℕ)
-    → (r : ℕ) × (RecordsWord s k r)
-    × ((q : ℕ) → RecordsWord s k q → (q ≡ r))
-recordsWord-one s k = (
+-- records::two_bytes
+pub recordsTwoBytes-one : (s : List ℕ) (k : ℕ)
+    → (r : ℕ) × (RecordsTwoBytes s k r)
+    × ((q : ℕ) → RecordsTwoBytes s k q → (q ≡ r))
+recordsTwoBytes-one s k = (
   le16 s k,
   record { answer = refl },
   λ q says. says .answer,
@@ -62,12 +63,12 @@ recordsPutTwo-one out at a b = (
   λ out″ says. says .out-after,
 )
 
--- records::put_word
-pub recordsPutWord-one : (out : List ℕ) (at : ℕ) (x : ℕ)
-    → (out′ : List ℕ) × (RecordsPutWord out at x out′)
-    × ((out″ : List ℕ) → RecordsPutWord out at x out″ → (out″ ≡ out′))
-recordsPutWord-one out at x = (
-  sets out at (words (x ∷ [])),
+-- records::put_two_bytes
+pub recordsPutTwoBytes-one : (out : List ℕ) (at : ℕ) (x : ℕ)
+    → (out′ : List ℕ) × (RecordsPutTwoBytes out at x out′)
+    × ((out″ : List ℕ) → RecordsPutTwoBytes out at x out″ → (out″ ≡ out′))
+recordsPutTwoBytes-one out at x = (
+  sets out at (twoBytesEach (x ∷ [])),
   record { out-after = refl },
   λ out″ says. says .out-after,
 )
@@ -77,7 +78,7 @@ pub recordsPutStart-one : (out : List ℕ) (at : ℕ) (len : ℕ) (kind : ℕ)
     → (out′ : List ℕ) × (RecordsPutStart out at len kind out′)
     × ((out″ : List ℕ) → RecordsPutStart out at len kind out″ → (out″ ≡ out′))
 recordsPutStart-one out at len kind = (
-  sets out at (words (len ∷ kind ∷ [])),
+  sets out at (twoBytesEach (len ∷ kind ∷ [])),
   record { out-after = refl },
   λ out″ says. says .out-after,
 )

@@ -1,13 +1,13 @@
--- For any arguments one answer and one content of what is lent meet the contract, and no other, in crate `sheet`: by its equalities alone. Made by tools/surface from the source.
--- Assumes nothing.
+-- For any arguments one answer and one content of what is lent meet the contract, and no other, in crate `sheet`: by its equalities alone.
+-- Made by tools/surface from the source. Assumes nothing.
 use mathlib.Core.Path.{_≡_, refl}
 use mathlib.Core.List.{List}
 use Prim.Native.Nat.{ℕ}
 use Rattle.contracts.specs.SheetSays.{ReadSheet, WriteSheet}
+use Rattle.records.specs.declared.Written.{Written}
 use Rattle.sheet.specs.Read.{readSheet}
 use Rattle.sheet.specs.Write.{sheetOut, sheetWritten}
 use Rattle.sheet.specs.declared.SheetRead.{SheetRead}
-use Rattle.sheet.specs.declared.SheetWritten.{SheetWritten}
 use Rattle.site.specs.declared.Site.{Site}
 
 -- sheet::read_sheet
@@ -22,8 +22,8 @@ readSheet-one bytes slots channels = (
 
 -- sheet::write_sheet
 pub writeSheet-one : (site : Site) (out : List ℕ)
-    → (r : SheetWritten) × (out′ : List ℕ) × (WriteSheet site out r out′)
-    × ((q : SheetWritten) (out″ : List ℕ) → WriteSheet site out q out″ → (q ≡ r) × (out″ ≡ out′))
+    → (r : Written) × (out′ : List ℕ) × (WriteSheet site out r out′)
+    × ((q : Written) (out″ : List ℕ) → WriteSheet site out q out″ → (q ≡ r) × (out″ ≡ out′))
 writeSheet-one site out = (
   sheetWritten site out,
   sheetOut site out,

@@ -1,13 +1,12 @@
--- For any arguments one answer and one content of what is lent meet the contract, and no other, in crate `stretches`: by its equalities alone. Made by tools/surface from the source.
--- Assumes nothing.
+-- For any arguments one answer and one content of what is lent meet the contract, and no other, in crate `stretches`: by its equalities alone.
+-- Made by tools/surface from the source. Assumes nothing.
 use mathlib.Core.Path.{_≡_, refl}
 use mathlib.Core.List.{List, _++_}
 use Prim.Native.Nat.{ℕ}
 use Rattle.contracts.specs.StretchesSays.{StretchesPlanStretches}
-use Rattle.laws.specs.Bits.{bitIn}
-use Rattle.site.specs.Reach.{netIn}
-use Rattle.stretches.specs.Stretches.{stoodOf}
-use Rattle.stretches.specs.declared.Stood.{Stood}
+use Rattle.planner.specs.Plan.{answerOf}
+use Rattle.planner.specs.declared.PlanAnswer.{PlanAnswer}
+use Rattle.site.specs.Reach.{netBy}
 use Rattle.theory.specs.Greedy.{greedy}
 use Rattle.theory.specs.Net.{unblocked}
 use Rattle.words.specs.Words.{outWords}
@@ -15,11 +14,11 @@ use lib.ListN.{drop}
 
 -- stretches::plan_stretches
 pub stretchesPlanStretches-one : (words : List ℕ) (clash : List ℕ) (loads : List ℕ) (cells : ℕ) (n : ℕ)
-    → (r : Stood) × (words′ : List ℕ) × (StretchesPlanStretches words clash loads cells n r words′)
-    × ((q : Stood) (words″ : List ℕ) → StretchesPlanStretches words clash loads cells n q words″ → (q ≡ r) × (words″ ≡ words′))
+    → (r : PlanAnswer) × (words′ : List ℕ) × (StretchesPlanStretches words clash loads cells n r words′)
+    × ((q : PlanAnswer) (words″ : List ℕ) → StretchesPlanStretches words clash loads cells n q words″ → (q ≡ r) × (words″ ≡ words′))
 stretchesPlanStretches-one words clash loads cells n = (
-  stoodOf (greedy (netIn cells n loads (bitIn clash) unblocked)),
-  outWords cells n (greedy (netIn cells n loads (bitIn clash) unblocked)) ++ drop n words,
+  answerOf (greedy (netBy cells n loads clash unblocked)),
+  outWords cells n (greedy (netBy cells n loads clash unblocked)) ++ drop n words,
   record { answer = refl; words-after = refl },
   λ q words″ says. (says .answer, says .words-after),
 )

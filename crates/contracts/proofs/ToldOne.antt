@@ -1,11 +1,13 @@
--- For any arguments one answer and one content of what is lent meet the contract, and no other, in crate `told`: by its equalities alone. Made by tools/surface from the source.
--- Assumes nothing.
+-- For any arguments one answer and one content of what is lent meet the contract, and no other, in crate `told`: by its equalities alone.
+-- Made by tools/surface from the source. Assumes nothing.
 use mathlib.Core.Path.{_≡_, refl}
 use Rattle.admission.specs.Given.{admitGiven}
 use Rattle.admission.specs.declared.AdmitAnswer.{AdmitAnswer}
 use Rattle.checker.specs.Given.{checkGiven}
 use Rattle.checker.specs.declared.CheckAnswer.{CheckAnswer}
-use Rattle.contracts.specs.ToldSays.{ToldAdmitAnswer, ToldChainAnswer, ToldCheckAnswer, ToldClashAnswer, ToldEditedAnswer, ToldFaultAnswer, ToldFormAnswer, ToldHeaviestAnswer, ToldLeastAnswer, ToldLoadAnswer, ToldMendAnswer, ToldPlanAnswer, ToldPlanRead, ToldPlanWritten, ToldReadAnswer, ToldShareAnswer, ToldSheetAnswer, ToldSheetRead, ToldSheetWritten, ToldSiteRead, ToldSiteWritten}
+use Rattle.contracts.specs.ToldSays.{ToldAdmitAnswer, ToldChainAnswer, ToldCheckAnswer, ToldClashAnswer, ToldEditedAnswer, ToldFaultAnswer}
+use Rattle.contracts.specs.ToldSays.{ToldFormAnswer, ToldHeaviestAnswer, ToldLeastAnswer, ToldLoadAnswer, ToldMendAnswer, ToldPlanAnswer, ToldPlanRead}
+use Rattle.contracts.specs.ToldSays.{ToldPlanWritten, ToldReadAnswer, ToldShareAnswer, ToldSheetAnswer, ToldSheetRead, ToldSiteRead, ToldWrittenAnswer}
 use Rattle.heaviest.specs.Given.{heaviestGiven}
 use Rattle.heaviest.specs.declared.HeaviestAnswer.{HeaviestAnswer}
 use Rattle.judges.specs.Given.{chainGiven, leastGiven, loadGiven}
@@ -19,21 +21,19 @@ use Rattle.planfile.specs.declared.PlanRead.{PlanRead}
 use Rattle.planfile.specs.declared.PlanWritten.{PlanWritten}
 use Rattle.planner.specs.Given.{planGiven}
 use Rattle.planner.specs.declared.PlanAnswer.{PlanAnswer}
-use Rattle.records.specs.Given.{readGiven}
+use Rattle.records.specs.Given.{readGiven, writtenGiven}
 use Rattle.records.specs.declared.ReadAnswer.{ReadAnswer}
+use Rattle.records.specs.declared.Written.{Written}
 use Rattle.shares.specs.Given.{shareGiven}
 use Rattle.shares.specs.declared.ShareAnswer.{ShareAnswer}
-use Rattle.sheet.specs.Given.{sheetGiven, sheetWrittenGiven}
+use Rattle.sheet.specs.Given.{sheetGiven}
 use Rattle.sheet.specs.declared.SheetAnswer.{SheetAnswer}
 use Rattle.sheet.specs.declared.SheetRead.{SheetRead}
-use Rattle.sheet.specs.declared.SheetWritten.{SheetWritten}
 use Rattle.site.specs.Given.{clashGiven, faultGiven}
 use Rattle.site.specs.declared.ClashAnswer.{ClashAnswer}
 use Rattle.site.specs.declared.Edited.{Edited}
 use Rattle.site.specs.declared.Fault.{Fault}
-use Rattle.sitefile.specs.Given.{siteWrittenGiven}
 use Rattle.sitefile.specs.declared.SiteRead.{SiteRead}
-use Rattle.sitefile.specs.declared.SiteWritten.{SiteWritten}
 use Rattle.told.specs.Told.{told, toldEdited, toldPlanRead, toldSheetRead, toldSiteRead}
 use Rattle.told.specs.declared.Answer.{Answer}
 use Rattle.told.specs.declared.EditedSite.{EditedSite}
@@ -161,12 +161,12 @@ toldReadAnswer-one said = (
   λ q says. says .answer,
 )
 
--- told::site_written
-pub toldSiteWritten-one : (said : SiteWritten)
-    → (r : Answer) × (ToldSiteWritten said r)
-    × ((q : Answer) → ToldSiteWritten said q → (q ≡ r))
-toldSiteWritten-one said = (
-  told (siteWrittenGiven said),
+-- told::written_answer
+pub toldWrittenAnswer-one : (said : Written)
+    → (r : Answer) × (ToldWrittenAnswer said r)
+    × ((q : Answer) → ToldWrittenAnswer said q → (q ≡ r))
+toldWrittenAnswer-one said = (
+  told (writtenGiven said),
   record { answer = refl },
   λ q says. says .answer,
 )
@@ -187,16 +187,6 @@ pub toldSheetAnswer-one : (said : SheetAnswer)
     × ((q : Answer) → ToldSheetAnswer said q → (q ≡ r))
 toldSheetAnswer-one said = (
   told (sheetGiven said),
-  record { answer = refl },
-  λ q says. says .answer,
-)
-
--- told::sheet_written
-pub toldSheetWritten-one : (said : SheetWritten)
-    → (r : Answer) × (ToldSheetWritten said r)
-    × ((q : Answer) → ToldSheetWritten said q → (q ≡ r))
-toldSheetWritten-one said = (
-  told (sheetWrittenGiven said),
   record { answer = refl },
   λ q says. says .answer,
 )

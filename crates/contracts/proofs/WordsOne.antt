@@ -1,10 +1,11 @@
--- For any arguments one answer and one content of what is lent meet the contract, and no other, in crate `words`: by its equalities alone. Made by tools/surface from the source.
--- Assumes nothing.
+-- For any arguments one answer and one content of what is lent meet the contract, and no other, in crate `words`: by its equalities alone.
+-- Made by tools/surface from the source. Assumes nothing.
 use mathlib.Core.Path.{_≡_, refl}
 use mathlib.Core.Bool.{Bool, _&&_, not}
 use mathlib.Core.List.{List}
 use Prim.Native.Nat.{ℕ}
-use Rattle.contracts.specs.WordsSays.{WordsAddRow, WordsApart, WordsFirstIn, WordsGreater, WordsHas, WordsJoinRow, WordsLay, WordsLoaded, WordsLoadedIn, WordsLoadsOf, WordsLoadsOfMany, WordsLowest, WordsSecondIn, WordsWide, WordsWordAt}
+use Rattle.contracts.specs.WordsSays.{WordsAddRow, WordsApart, WordsFirstIn, WordsGreater, WordsHas, WordsJoinRow, WordsLay, WordsLoaded, WordsLoadedIn}
+use Rattle.contracts.specs.WordsSays.{WordsLoadsOf, WordsLoadsOfMany, WordsLowest, WordsSecondIn, WordsWide, WordsWordAt}
 use Rattle.laws.specs.Bits.{bitAt, wordOf}
 use Rattle.laws.specs.Most.{greater}
 use Rattle.laws.specs.Part.{listOf}
@@ -12,7 +13,7 @@ use Rattle.laws.specs.Search.{first}
 use Rattle.theory.specs.Greedy.{reserved}
 use Rattle.words.specs.Clashes.{firstIn, secondIn}
 use Rattle.words.specs.Loads.{loadsIn}
-use Rattle.words.specs.Words.{joinedAt, markedAt, wordAt}
+use Rattle.words.specs.Words.{joinedRow, markedRow, wordAt}
 use lib.Dec.{ltb}
 use lib.ListN.{getD}
 use lib.Seq.{sets}
@@ -32,7 +33,7 @@ pub wordsAddRow-one : (words : List ℕ) (table : List ℕ) (from : ℕ) (n : �
     → (words′ : List ℕ) × (WordsAddRow words table from n bit words′)
     × ((words″ : List ℕ) → WordsAddRow words table from n bit words″ → (words″ ≡ words′))
 wordsAddRow-one words table from n bit = (
-  sets words 0 (listOf (joinedAt words table from bit) n),
+  joinedRow words table from n bit,
   record { words-after = refl },
   λ words″ says. says .words-after,
 )
@@ -42,8 +43,8 @@ pub wordsJoinRow-one : (words : List ℕ) (marks : List ℕ) (table : List ℕ) 
     → (words′ : List ℕ) × (marks′ : List ℕ) × (WordsJoinRow words marks table from n bit row words′ marks′)
     × ((words″ : List ℕ) (marks″ : List ℕ) → WordsJoinRow words marks table from n bit row words″ marks″ → (words″ ≡ words′) × (marks″ ≡ marks′))
 wordsJoinRow-one words marks table from n bit row = (
-  sets words 0 (listOf (joinedAt words table from bit) n),
-  sets marks 0 (listOf (markedAt marks words table from row) n),
+  joinedRow words table from n bit,
+  markedRow marks words table from n row,
   record { words-after = refl; marks-after = refl },
   λ words″ marks″ says. (says .words-after, says .marks-after),
 )

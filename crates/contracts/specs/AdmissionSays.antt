@@ -1,10 +1,11 @@
--- The equalities that the contracts of crate `admission` state: r is the answer, and x′ what a lent x holds afterwards. Made by tools/surface from the source.
+-- The equalities that the contracts of crate `admission` state: r is the answer, and x′ what a lent x holds afterwards.
+-- Made by tools/surface from the source.
 use mathlib.Core.Path.{_≡_}
 use mathlib.Core.List.{List}
 use Prim.Native.Nat.{ℕ}
 use Rattle.admission.specs.Admit.{admitAnswer, answerIn, shareIn}
 use Rattle.admission.specs.declared.AdmitAnswer.{AdmitAnswer}
-use Rattle.flowlist.specs.List.{none}
+use Rattle.flowlist.specs.List.{zeroFlow}
 use Rattle.flowlist.specs.declared.Flow.{Flow}
 use Rattle.flowlist.specs.declared.FlowList.{FlowList}
 use Rattle.shares.specs.declared.ShareAnswer.{ShareAnswer}
@@ -17,7 +18,7 @@ pub record ShareIn (slots : ℕ) (f : Flow) (r : ShareAnswer) : Type 0 where
 
 -- admission::decide
 pub record Decide (site : Site) (l : FlowList) (count : ℕ) (r : AdmitAnswer) : Type 0 where
-  pub answer : r ≡ answerIn site (λ k. getD (l .list) k none) count
+  pub answer : r ≡ answerIn site (λ k. getD (l .list) k zeroFlow) count
 
 -- admission::admit
 pub record Admit (site : Site) (flows : List Flow) (r : AdmitAnswer) : Type 0 where

@@ -1,4 +1,5 @@
--- The equalities that the contracts of crate `capi` state: r is the answer, and x′ what a lent x holds afterwards. Made by tools/surface from the source.
+-- The equalities that the contracts of crate `capi` state: r is the answer, and x′ what a lent x holds afterwards.
+-- Made by tools/surface from the source.
 use mathlib.Core.Path.{_≡_}
 use mathlib.Core.List.{List}
 use Prim.Native.Nat.{ℕ}
@@ -18,9 +19,9 @@ use Rattle.planfile.specs.Read.{planTableRead, readPlan}
 use Rattle.planfile.specs.Write.{planOut, planWritten}
 use Rattle.planner.specs.Given.{planGiven}
 use Rattle.planner.specs.Plan.{planAnswer, planTable}
+use Rattle.records.specs.Given.{writtenGiven}
 use Rattle.shares.specs.Given.{shareGiven}
 use Rattle.shares.specs.Share.{defaultRepeats, shareOf}
-use Rattle.sheet.specs.Given.{sheetWrittenGiven}
 use Rattle.sheet.specs.Read.{readSheet}
 use Rattle.sheet.specs.Write.{sheetOut, sheetWritten}
 use Rattle.site.specs.Edit.{clearReachOf, setLoadOf, setReachOf}
@@ -28,7 +29,6 @@ use Rattle.site.specs.Given.{clashGiven, faultGiven}
 use Rattle.site.specs.Reach.{clashAnswer}
 use Rattle.site.specs.Record.{faultOf}
 use Rattle.site.specs.declared.Site.{Site}
-use Rattle.sitefile.specs.Given.{siteWrittenGiven}
 use Rattle.sitefile.specs.Read.{readSite}
 use Rattle.sitefile.specs.Write.{siteOut, siteWritten}
 use Rattle.told.specs.Told.{told, toldEdited, toldPlanRead, toldSheetRead, toldSiteRead}
@@ -124,7 +124,7 @@ pub record DuggReadSite (bytes : List ℕ) (r : EditedSite) : Type 0 where
 
 -- capi::dugg_write_site
 pub record DuggWriteSite (site : Site) (out : List ℕ) (r : Answer) (out′ : List ℕ) : Type 0 where
-  pub answer : r ≡ told (siteWrittenGiven (siteWritten site out))
+  pub answer : r ≡ told (writtenGiven (siteWritten site out))
   pub out-after : out′ ≡ siteOut site out
 
 -- capi::dugg_read_plan
@@ -143,7 +143,7 @@ pub record DuggReadSheet (bytes : List ℕ) (slots : ℕ) (channels : ℕ) (r : 
 
 -- capi::dugg_write_sheet
 pub record DuggWriteSheet (site : Site) (out : List ℕ) (r : Answer) (out′ : List ℕ) : Type 0 where
-  pub answer : r ≡ told (sheetWrittenGiven (sheetWritten site out))
+  pub answer : r ≡ told (writtenGiven (sheetWritten site out))
   pub out-after : out′ ≡ sheetOut site out
 
 -- capi::dugg_admit

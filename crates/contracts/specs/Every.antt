@@ -1,4 +1,5 @@
--- Every call of the product: for any arguments one answer and one content of what is lent meet its contract, and no other. None has a `requires`. Made by tools/surface from the source.
+-- Every call of the product: for any arguments one answer and one content of what is lent meet its contract, and no other. None has a `requires`.
+-- Made by tools/surface from the source.
 use mathlib.Core.Path.{_≡_}
 use mathlib.Core.Bool.{Bool}
 use mathlib.Core.List.{List}
@@ -6,7 +7,9 @@ use Prim.Native.Nat.{ℕ}
 use Rattle.admission.specs.declared.AdmitAnswer.{AdmitAnswer}
 use Rattle.checker.specs.declared.CheckAnswer.{CheckAnswer}
 use Rattle.contracts.specs.AdmissionSays.{Admit, Decide, ShareIn}
-use Rattle.contracts.specs.CapiSays.{DuggAdmit, DuggChain, DuggCheck, DuggCheckWords, DuggClash, DuggClearReach, DuggFault, DuggHeaviest, DuggLeast, DuggLoadTest, DuggMend, DuggPlan, DuggPlanWords, DuggReadPlan, DuggReadSheet, DuggReadSite, DuggSetLoad, DuggSetReach, DuggShare, DuggShareRepeated, DuggToBytes, DuggToWords, DuggWritePlan, DuggWriteSheet, DuggWriteSite}
+use Rattle.contracts.specs.CapiSays.{DuggAdmit, DuggChain, DuggCheck, DuggCheckWords, DuggClash, DuggClearReach, DuggFault, DuggHeaviest, DuggLeast}
+use Rattle.contracts.specs.CapiSays.{DuggLoadTest, DuggMend, DuggPlan, DuggPlanWords, DuggReadPlan, DuggReadSheet, DuggReadSite, DuggSetLoad}
+use Rattle.contracts.specs.CapiSays.{DuggSetReach, DuggShare, DuggShareRepeated, DuggToBytes, DuggToWords, DuggWritePlan, DuggWriteSheet, DuggWriteSite}
 use Rattle.contracts.specs.CheckerSays.{Check}
 use Rattle.contracts.specs.FlowsheetSays.{ReadFlows}
 use Rattle.contracts.specs.HeaviestSays.{Heaviest}
@@ -30,18 +33,17 @@ use Rattle.mender.specs.declared.MendAnswer.{MendAnswer}
 use Rattle.planfile.specs.declared.PlanRead.{PlanRead}
 use Rattle.planfile.specs.declared.PlanWritten.{PlanWritten}
 use Rattle.planner.specs.declared.PlanAnswer.{PlanAnswer}
+use Rattle.records.specs.declared.Written.{Written}
 use Rattle.shares.specs.declared.Fragments.{Fragments}
 use Rattle.shares.specs.declared.Repeats.{Repeats}
 use Rattle.shares.specs.declared.ShareAnswer.{ShareAnswer}
 use Rattle.shares.specs.declared.Slots.{Slots}
 use Rattle.sheet.specs.declared.SheetRead.{SheetRead}
-use Rattle.sheet.specs.declared.SheetWritten.{SheetWritten}
 use Rattle.site.specs.declared.ClashAnswer.{ClashAnswer}
 use Rattle.site.specs.declared.Edited.{Edited}
 use Rattle.site.specs.declared.Fault.{Fault}
 use Rattle.site.specs.declared.Site.{Site}
 use Rattle.sitefile.specs.declared.SiteRead.{SiteRead}
-use Rattle.sitefile.specs.declared.SiteWritten.{SiteWritten}
 use Rattle.told.specs.declared.Answer.{Answer}
 use Rattle.told.specs.declared.EditedSite.{EditedSite}
 use Rattle.told.specs.declared.PlanReadC.{PlanReadC}
@@ -118,7 +120,8 @@ pub record EveryCall : Type 0 where
   -- mender::mend
   pub mend : (site : Site) (table : List ℕ) (changes : List ℕ)
       → (r : MendAnswer) × (table′ : List ℕ) × (changes′ : List ℕ) × (Mend site table changes r table′ changes′)
-      × ((q : MendAnswer) (table″ : List ℕ) (changes″ : List ℕ) → Mend site table changes q table″ changes″ → (q ≡ r) × (table″ ≡ table′) × (changes″ ≡ changes′))
+      × ((q : MendAnswer) (table″ : List ℕ) (changes″ : List ℕ) → Mend site table changes q table″ changes″
+      → (q ≡ r) × (table″ ≡ table′) × (changes″ ≡ changes′))
   -- mender::mend_only
   pub mendOnly : (site : Site) (table : List ℕ)
       → (r : MendAnswer) × (table′ : List ℕ) × (MendOnly site table r table′)
@@ -161,8 +164,8 @@ pub record EveryCall : Type 0 where
       × ((q : SiteRead) → ReadSite bytes q → (q ≡ r))
   -- sitefile::write_site
   pub writeSite : (site : Site) (out : List ℕ)
-      → (r : SiteWritten) × (out′ : List ℕ) × (WriteSite site out r out′)
-      × ((q : SiteWritten) (out″ : List ℕ) → WriteSite site out q out″ → (q ≡ r) × (out″ ≡ out′))
+      → (r : Written) × (out′ : List ℕ) × (WriteSite site out r out′)
+      × ((q : Written) (out″ : List ℕ) → WriteSite site out q out″ → (q ≡ r) × (out″ ≡ out′))
   -- planfile::read_plan
   pub readPlan : (bytes : List ℕ) (table : List ℕ)
       → (r : PlanRead) × (table′ : List ℕ) × (ReadPlan bytes table r table′)
@@ -177,8 +180,8 @@ pub record EveryCall : Type 0 where
       × ((q : SheetRead) → ReadSheet bytes slots channels q → (q ≡ r))
   -- sheet::write_sheet
   pub writeSheet : (site : Site) (out : List ℕ)
-      → (r : SheetWritten) × (out′ : List ℕ) × (WriteSheet site out r out′)
-      × ((q : SheetWritten) (out″ : List ℕ) → WriteSheet site out q out″ → (q ≡ r) × (out″ ≡ out′))
+      → (r : Written) × (out′ : List ℕ) × (WriteSheet site out r out′)
+      × ((q : Written) (out″ : List ℕ) → WriteSheet site out q out″ → (q ≡ r) × (out″ ≡ out′))
   -- capi::dugg_fault
   pub duggFault : (site : Site)
       → (r : Answer) × (DuggFault site r)
@@ -242,7 +245,8 @@ pub record EveryCall : Type 0 where
   -- capi::dugg_mend
   pub duggMend : (site : Site) (table : List ℕ) (changes : List ℕ)
       → (r : Answer) × (table′ : List ℕ) × (changes′ : List ℕ) × (DuggMend site table changes r table′ changes′)
-      × ((q : Answer) (table″ : List ℕ) (changes″ : List ℕ) → DuggMend site table changes q table″ changes″ → (q ≡ r) × (table″ ≡ table′) × (changes″ ≡ changes′))
+      × ((q : Answer) (table″ : List ℕ) (changes″ : List ℕ) → DuggMend site table changes q table″ changes″
+      → (q ≡ r) × (table″ ≡ table′) × (changes″ ≡ changes′))
   -- capi::dugg_share
   pub duggShare : (slots : ℕ) (burst : ℕ) (period : ℕ)
       → (r : Answer) × (DuggShare slots burst period r)

@@ -1,4 +1,5 @@
--- The equalities that the contracts of crate `heaviest` state: r is the answer, and x′ what a lent x holds afterwards. Made by tools/surface from the source.
+-- The equalities that the contracts of crate `heaviest` state: r is the answer, and x′ what a lent x holds afterwards.
+-- Made by tools/surface from the source.
 use mathlib.Core.Path.{_≡_}
 use Rattle.heaviest.specs.Sets.{heaviestOf}
 use Rattle.heaviest.specs.declared.HeaviestAnswer.{HeaviestAnswer}

@@ -1,8 +1,9 @@
--- The equalities that the contracts of crate `records` state: r is the answer, and x′ what a lent x holds afterwards. Made by tools/surface from the source.
+-- The equalities that the contracts of crate `records` state: r is the answer, and x′ what a lent x holds afterwards.
+-- Made by tools/surface from the source.
 use mathlib.Core.Path.{_≡_}
 use mathlib.Core.List.{List, [], _∷_}
 use Prim.Native.Nat.{ℕ}
-use Rattle.records.specs.Bytes.{le16, words}
+use Rattle.records.specs.Bytes.{le16, twoBytesEach}
 use Rattle.records.specs.Head.{headAnswer, headRecord}
 use Rattle.records.specs.Opener.{openAnswer, openAt}
 use Rattle.records.specs.declared.Length.{Length}
@@ -10,8 +11,8 @@ use Rattle.records.specs.declared.Opened.{Opened}
 use Rattle.records.specs.declared.ReadAnswer.{ReadAnswer}
 use lib.Seq.{sets}
 
--- records::word
-pub record RecordsWord (s : List ℕ) (k : ℕ) (r : ℕ) : Type 0 where
+-- records::two_bytes
+pub record RecordsTwoBytes (s : List ℕ) (k : ℕ) (r : ℕ) : Type 0 where
   pub answer : r ≡ le16 s k
 
 -- records::open
@@ -30,13 +31,13 @@ pub record RecordsHeadAnswer (s : List ℕ) (r : ReadAnswer) : Type 0 where
 pub record RecordsPutTwo (out : List ℕ) (at : ℕ) (a : ℕ) (b : ℕ) (out′ : List ℕ) : Type 0 where
   pub out-after : out′ ≡ sets out at (a ∷ b ∷ [])
 
--- records::put_word
-pub record RecordsPutWord (out : List ℕ) (at : ℕ) (x : ℕ) (out′ : List ℕ) : Type 0 where
-  pub out-after : out′ ≡ sets out at (words (x ∷ []))
+-- records::put_two_bytes
+pub record RecordsPutTwoBytes (out : List ℕ) (at : ℕ) (x : ℕ) (out′ : List ℕ) : Type 0 where
+  pub out-after : out′ ≡ sets out at (twoBytesEach (x ∷ []))
 
 -- records::put_start
 pub record RecordsPutStart (out : List ℕ) (at : ℕ) (len : ℕ) (kind : ℕ) (out′ : List ℕ) : Type 0 where
-  pub out-after : out′ ≡ sets out at (words (len ∷ kind ∷ []))
+  pub out-after : out′ ≡ sets out at (twoBytesEach (len ∷ kind ∷ []))
 
 -- records::put_head
 pub record RecordsPutHead (out : List ℕ) (cells : ℕ) (slots : ℕ) (channels : ℕ) (out′ : List ℕ) : Type 0 where

@@ -1,4 +1,5 @@
--- The equalities that the contracts of crate `shares` state: r is the answer, and x′ what a lent x holds afterwards. Made by tools/surface from the source.
+-- The equalities that the contracts of crate `shares` state: r is the answer, and x′ what a lent x holds afterwards.
+-- Made by tools/surface from the source.
 use mathlib.Core.Path.{_≡_}
 use Rattle.shares.specs.Share.{defaultRepeats, shareOf}
 use Rattle.shares.specs.declared.Fragments.{Fragments}

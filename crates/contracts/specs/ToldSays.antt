@@ -1,4 +1,5 @@
--- The equalities that the contracts of crate `told` state: r is the answer, and x′ what a lent x holds afterwards. Made by tools/surface from the source.
+-- The equalities that the contracts of crate `told` state: r is the answer, and x′ what a lent x holds afterwards.
+-- Made by tools/surface from the source.
 use mathlib.Core.Path.{_≡_}
 use Rattle.admission.specs.Given.{admitGiven}
 use Rattle.admission.specs.declared.AdmitAnswer.{AdmitAnswer}
@@ -17,21 +18,19 @@ use Rattle.planfile.specs.declared.PlanRead.{PlanRead}
 use Rattle.planfile.specs.declared.PlanWritten.{PlanWritten}
 use Rattle.planner.specs.Given.{planGiven}
 use Rattle.planner.specs.declared.PlanAnswer.{PlanAnswer}
-use Rattle.records.specs.Given.{readGiven}
+use Rattle.records.specs.Given.{readGiven, writtenGiven}
 use Rattle.records.specs.declared.ReadAnswer.{ReadAnswer}
+use Rattle.records.specs.declared.Written.{Written}
 use Rattle.shares.specs.Given.{shareGiven}
 use Rattle.shares.specs.declared.ShareAnswer.{ShareAnswer}
-use Rattle.sheet.specs.Given.{sheetGiven, sheetWrittenGiven}
+use Rattle.sheet.specs.Given.{sheetGiven}
 use Rattle.sheet.specs.declared.SheetAnswer.{SheetAnswer}
 use Rattle.sheet.specs.declared.SheetRead.{SheetRead}
-use Rattle.sheet.specs.declared.SheetWritten.{SheetWritten}
 use Rattle.site.specs.Given.{clashGiven, faultGiven}
 use Rattle.site.specs.declared.ClashAnswer.{ClashAnswer}
 use Rattle.site.specs.declared.Edited.{Edited}
 use Rattle.site.specs.declared.Fault.{Fault}
-use Rattle.sitefile.specs.Given.{siteWrittenGiven}
 use Rattle.sitefile.specs.declared.SiteRead.{SiteRead}
-use Rattle.sitefile.specs.declared.SiteWritten.{SiteWritten}
 use Rattle.told.specs.Told.{told, toldEdited, toldPlanRead, toldSheetRead, toldSiteRead}
 use Rattle.told.specs.declared.Answer.{Answer}
 use Rattle.told.specs.declared.EditedSite.{EditedSite}
@@ -87,9 +86,9 @@ pub record ToldShareAnswer (said : ShareAnswer) (r : Answer) : Type 0 where
 pub record ToldReadAnswer (said : ReadAnswer) (r : Answer) : Type 0 where
   pub answer : r ≡ told (readGiven said)
 
--- told::site_written
-pub record ToldSiteWritten (said : SiteWritten) (r : Answer) : Type 0 where
-  pub answer : r ≡ told (siteWrittenGiven said)
+-- told::written_answer
+pub record ToldWrittenAnswer (said : Written) (r : Answer) : Type 0 where
+  pub answer : r ≡ told (writtenGiven said)
 
 -- told::plan_written
 pub record ToldPlanWritten (said : PlanWritten) (r : Answer) : Type 0 where
@@ -98,10 +97,6 @@ pub record ToldPlanWritten (said : PlanWritten) (r : Answer) : Type 0 where
 -- told::sheet_answer
 pub record ToldSheetAnswer (said : SheetAnswer) (r : Answer) : Type 0 where
   pub answer : r ≡ told (sheetGiven said)
-
--- told::sheet_written
-pub record ToldSheetWritten (said : SheetWritten) (r : Answer) : Type 0 where
-  pub answer : r ≡ told (sheetWrittenGiven said)
 
 -- told::admit_answer
 pub record ToldAdmitAnswer (said : AdmitAnswer) (r : Answer) : Type 0 where

@@ -1,4 +1,5 @@
--- The equalities that the contracts of crate `words` state: r is the answer, and x′ what a lent x holds afterwards. Made by tools/surface from the source.
+-- The equalities that the contracts of crate `words` state: r is the answer, and x′ what a lent x holds afterwards.
+-- Made by tools/surface from the source.
 use mathlib.Core.Path.{_≡_}
 use mathlib.Core.Bool.{Bool, _&&_, not}
 use mathlib.Core.List.{List}
@@ -10,7 +11,7 @@ use Rattle.laws.specs.Search.{first}
 use Rattle.theory.specs.Greedy.{reserved}
 use Rattle.words.specs.Clashes.{firstIn, secondIn}
 use Rattle.words.specs.Loads.{loadsIn}
-use Rattle.words.specs.Words.{joinedAt, markedAt, wordAt}
+use Rattle.words.specs.Words.{joinedRow, markedRow, wordAt}
 use lib.Dec.{ltb}
 use lib.ListN.{getD}
 use lib.Seq.{sets}
@@ -21,12 +22,13 @@ pub record WordsLay (words : List ℕ) (from : ℕ) (m : ℕ) (word : ℕ) (word
 
 -- words::add_row
 pub record WordsAddRow (words : List ℕ) (table : List ℕ) (from : ℕ) (n : ℕ) (bit : ℕ) (words′ : List ℕ) : Type 0 where
-  pub words-after : words′ ≡ sets words 0 (listOf (joinedAt words table from bit) n)
+  pub words-after : words′ ≡ joinedRow words table from n bit
 
 -- words::join_row
-pub record WordsJoinRow (words : List ℕ) (marks : List ℕ) (table : List ℕ) (from : ℕ) (n : ℕ) (bit : ℕ) (row : ℕ) (words′ : List ℕ) (marks′ : List ℕ) : Type 0 where
-  pub words-after : words′ ≡ sets words 0 (listOf (joinedAt words table from bit) n)
-  pub marks-after : marks′ ≡ sets marks 0 (listOf (markedAt marks words table from row) n)
+pub record WordsJoinRow (words : List ℕ) (marks : List ℕ) (table : List ℕ) (from : ℕ) (n : ℕ) (bit : ℕ) (row : ℕ) (words′ : List ℕ)
+    (marks′ : List ℕ) : Type 0 where
+  pub words-after : words′ ≡ joinedRow words table from n bit
+  pub marks-after : marks′ ≡ markedRow marks words table from n row
 
 -- words::word_at
 pub record WordsWordAt (table : List ℕ) (n : ℕ) (cells : ℕ) (p : ℕ) (r : ℕ) : Type 0 where

@@ -2,8 +2,8 @@
 // its numbers follow; the first input is on standard input, the second on descriptor 4. What it says and writes is made by proved functions over slices;
 // here it is only read and written, by way of `reply`.
 //
-// Every buffer has 65,536 bytes: the table of the largest site has as many, 32 cells by 2,048 positions. What is said at once has far fewer, and so has every good input. Of a longer one only
-// the first 65,536 bytes are read, and they are refused.
+// Every buffer has 65,536 bytes: the table of the largest site has as many, 32 cells by 2,048 positions.
+// What is said at once has far fewer, and so has every good input. Of a longer one only the first 65,536 bytes are read, and they are refused.
 use admission::AdmitAnswer;
 use checker::CheckAnswer;
 use flowlist::FlowList;
@@ -15,18 +15,17 @@ use planfile::PlanRead;
 use planfile::PlanWritten;
 use planner::PlanAnswer;
 use records::ReadAnswer;
+use records::Written;
 use reply::no;
 use reply::yes;
+use say_verdicts::File;
 use shares::Fragments;
 use shares::Repeats;
 use shares::ShareAnswer;
 use shares::Slots;
 use sheet::SheetAnswer;
-use sheet::SheetWritten;
 use site::Fault;
 use site::Site;
-use sitefile::SiteWritten;
-use verdicts::File;
 ghost use mathlib.Core.Path.{_≡_};
 ghost use mathlib.Core.Bool.{true, _&&_};
 ghost use Prim.Native.Nat.{_+_, _≤_};
@@ -43,12 +42,12 @@ const SECOND_NAME: usize = 3;
 const NUMBERS: usize = 4;
 
 // A site file that was refused.
-fn refuse(words: &mut [u8], input: &[u8], answer: ReadAnswer)
-    requires { ⌜ 65536 ≤ length (now words) ⌝ }
+fn refuse(text: &mut [u8], input: &[u8], answer: ReadAnswer)
+    requires { ⌜ 65536 ≤ length (now text) ⌝ }
 {
     reply::named(FIRST_NAME, input, Input::SiteFile);
-    let end = verdicts::read_words(words, 0, File::SiteFile, answer);
-    no(words, end);
+    let end = say_verdicts::put_read(text, 0, File::SiteFile, answer);
+    no(text, end);
 }
 
 // A table as a plan file; whether it was written.
@@ -61,28 +60,28 @@ fn put_plan(site: Site, table: &[u8], out: &mut [u8]) -> bool {
 }
 
 // Plans a site: the plan file, and a line that says what was planned.
-fn plan(input: &[u8], table: &mut [u8], out: &mut [u8], words: &mut [u8])
-    requires { ⌜ 65536 ≤ length (now words) ⌝ }
+fn plan(input: &[u8], table: &mut [u8], out: &mut [u8], text: &mut [u8])
+    requires { ⌜ 65536 ≤ length (now text) ⌝ }
 {
     let read = sitefile::read_site(input);
     let answer = read.answer;
     let site = read.site;
     let ReadAnswer::Done = answer else {
-        refuse(words, input, answer);
+        refuse(text, input, answer);
         return;
     };
     let planned = planner::plan(site, table);
-    let end = verdicts::plan_words(words, 0, site, planned);
+    let end = say_verdicts::put_plan(text, 0, site, planned);
     let PlanAnswer::Done = planned else {
-        no(words, end);
+        no(text, end);
         return;
     };
     if !put_plan(site, table, out) {
         reply::unwritten();
         return;
     }
-    reply::words(words, end);
-    reply::done();
+    reply::message(text, end);
+    reply::fine();
 }
 
 // Whether a plan is of the site's size.
@@ -98,62 +97,62 @@ fn same_size(site: Site, plan: PlanRead) -> bool
     site.channels == plan.channels
 }
 
-// A site, and whether the plan that was read into a table goes with it. Where it does not, or one of the two is refused, the words are said.
+// A site, and whether the plan that was read into a table goes with it. Where it does not, or one of the two is refused, the text is said.
 struct Pair {
     site: Site,
     good: bool,
 }
 
 // The site file, and the plan file, which goes into the table.
-fn read_pair(input: &[u8], second: &[u8], table: &mut [u8], words: &mut [u8]) -> Pair
-    requires { ⌜ 65536 ≤ length (now words) ⌝ }
+fn read_pair(input: &[u8], second: &[u8], table: &mut [u8], text: &mut [u8]) -> Pair
+    requires { ⌜ 65536 ≤ length (now text) ⌝ }
 {
     let read = sitefile::read_site(input);
     let answer = read.answer;
     let site = read.site;
     let ReadAnswer::Done = answer else {
-        refuse(words, input, answer);
+        refuse(text, input, answer);
         return Pair { site, good: false };
     };
     let plan = planfile::read_plan(second, table);
     let plan_answer = plan.answer;
     let ReadAnswer::Done = plan_answer else {
         reply::named(SECOND_NAME, second, Input::PlanFile);
-        let end = verdicts::read_words(words, 0, File::PlanFile, plan_answer);
-        no(words, end);
+        let end = say_verdicts::put_read(text, 0, File::PlanFile, plan_answer);
+        no(text, end);
         return Pair { site, good: false };
     };
     if same_size(site, plan) {
         return Pair { site, good: true };
     }
     reply::named(SECOND_NAME, second, Input::PlanFile);
-    let end = verdicts::other_plan_line(
-        words,
+    let end = say_verdicts::put_other_plan(
+        text,
         0,
         plan.cells as usize,
         plan.slots as usize,
         plan.channels as usize,
     );
-    no(words, end);
+    no(text, end);
     Pair { site, good: false }
 }
 
 // Checks a plan file: valid, or the first thing wrong.
-fn check(input: &[u8], second: &[u8], table: &mut [u8], words: &mut [u8])
-    requires { ⌜ 65536 ≤ length (now words) ⌝ }
+fn check(input: &[u8], second: &[u8], table: &mut [u8], text: &mut [u8])
+    requires { ⌜ 65536 ≤ length (now text) ⌝ }
 {
-    let pair = read_pair(input, second, table, words);
+    let pair = read_pair(input, second, table, text);
     if !pair.good {
         return;
     }
     let site = pair.site;
     let verdict = checker::check(site, table);
-    let end = verdicts::check_words(words, 0, site, verdict);
+    let end = say_verdicts::put_check(text, 0, site, verdict);
     let CheckAnswer::Valid = verdict else {
-        no(words, end);
+        no(text, end);
         return;
     };
-    yes(words, end);
+    yes(text, end);
 }
 
 // Whether a table has so many bytes at a place.
@@ -166,24 +165,24 @@ fn holds(table: &[u8], at: usize, many: usize) -> bool
     many <= table.len() - at
 }
 
-// Where the bytes of the next cell begin, and whether the words so far were written.
+// Where the bytes of the next cell begin, and whether the text so far was written.
 struct Row {
     next: usize,
     written: bool,
 }
 
-// The changes of a cell in words, a slot at a time, where its bytes begin at `from` in both tables. Where a table ended before, or the words can't be
+// The changes of a cell in English, a slot at a time, where its bytes begin at `from` in both tables. Where a table ended before, or the text can't be
 // written, it stops there.
 fn put_row(
     old: &[u8],
     new: &[u8],
-    words: &mut [u8],
+    text: &mut [u8],
     from: usize,
     slots: usize,
     channels: usize,
     cell: usize,
 ) -> Row
-    requires { ⌜ (65536 ≤ length (now words)) × (channels ≤ 16) ⌝ }
+    requires { ⌜ (65536 ≤ length (now text)) × (channels ≤ 16) ⌝ }
 {
     let mut at = from;
     for slot in 0..slots {
@@ -199,8 +198,8 @@ fn put_row(
                 written: false,
             };
         }
-        let end = changewords::slot_words(words, 0, old, new, at, channels, cell, slot + 1);
-        if !reply::words(words, end) {
+        let end = say_changes::put_changes(text, 0, old, new, at, channels, cell, slot + 1);
+        if !reply::message(text, end) {
             return Row {
                 next: at,
                 written: false,
@@ -214,9 +213,9 @@ fn put_row(
     }
 }
 
-// Each change in words, cell by cell; whether all of them were written. A site that was read has at most 16 channels, and both tables have its size.
-fn put_changes(old: &[u8], new: &[u8], words: &mut [u8], site: Site) -> bool
-    requires { ⌜ 65536 ≤ length (now words) ⌝ }
+// Each change in English, cell by cell; whether all of them were written. A site that was read has at most 16 channels, and both tables have its size.
+fn put_changes(old: &[u8], new: &[u8], text: &mut [u8], site: Site) -> bool
+    requires { ⌜ 65536 ≤ length (now text) ⌝ }
 {
     let cells = site.cells as usize;
     let slots = site.slots as usize;
@@ -226,7 +225,7 @@ fn put_changes(old: &[u8], new: &[u8], words: &mut [u8], site: Site) -> bool
     }
     let mut at: usize = 0;
     for i in 0..cells {
-        let row = put_row(old, new, words, at, slots, channels, i + 1);
+        let row = put_row(old, new, text, at, slots, channels, i + 1);
         if !row.written {
             return false;
         }
@@ -235,23 +234,23 @@ fn put_changes(old: &[u8], new: &[u8], words: &mut [u8], site: Site) -> bool
     true
 }
 
-// A mended plan: the plan file, the words so far, and each change. The changes are a part of the result: where they can't be written it is none.
-fn put_mended(site: Site, old: &[u8], table: &[u8], out: &mut [u8], words: &mut [u8], end: usize)
-    requires { ⌜ 65536 ≤ length (now words) ⌝ }
+// A mended plan: the plan file, the text so far, and each change. The changes are a part of the result: where they can't be written it is none.
+fn put_mended(site: Site, old: &[u8], table: &[u8], out: &mut [u8], text: &mut [u8], end: usize)
+    requires { ⌜ 65536 ≤ length (now text) ⌝ }
 {
     if !put_plan(site, table, out) {
         reply::unwritten();
         return;
     }
-    if !reply::words(words, end) {
+    if !reply::message(text, end) {
         reply::unwritten();
         return;
     }
-    if !put_changes(old, table, words, site) {
+    if !put_changes(old, table, text, site) {
         reply::unwritten();
         return;
     }
-    reply::done();
+    reply::fine();
 }
 
 // Mends a plan. It is read twice: one table is mended, and the other keeps what it was.
@@ -261,54 +260,54 @@ fn mend(
     old: &mut [u8],
     table: &mut [u8],
     out: &mut [u8],
-    words: &mut [u8],
+    text: &mut [u8],
 )
-    requires { ⌜ 65536 ≤ length (now words) ⌝ }
+    requires { ⌜ 65536 ≤ length (now text) ⌝ }
 {
-    let pair = read_pair(input, second, old, words);
+    let pair = read_pair(input, second, old, text);
     if !pair.good {
         return;
     }
     let site = pair.site;
     planfile::read_plan(second, table);
     let mended = mender::mend_only(site, table);
-    let end = verdicts::mend_words(words, 0, mended);
+    let end = say_verdicts::put_mend(text, 0, mended);
     let MendAnswer::Done(_) = mended else {
-        no(words, end);
+        no(text, end);
         return;
     };
-    put_mended(site, old, table, out, words, end);
+    put_mended(site, old, table, out, text, end);
 }
 
-// The verdicts on a site, in words.
-fn why(input: &[u8], table: &mut [u8], words: &mut [u8])
+// The verdicts on a site, in English.
+fn why(input: &[u8], table: &mut [u8], text: &mut [u8])
     requires { ⌜ 65536 ≤ length (now table) ⌝ }
-    requires { ⌜ 65536 ≤ length (now words) ⌝ }
+    requires { ⌜ 65536 ≤ length (now text) ⌝ }
 {
     let read = sitefile::read_site(input);
     let answer = read.answer;
     let site = read.site;
     let ReadAnswer::Done = answer else {
-        refuse(words, input, answer);
+        refuse(text, input, answer);
         return;
     };
-    let end = why::why(site, table, words);
-    yes(words, end);
+    let end = say_why::put_why(site, table, text);
+    yes(text, end);
 }
 
 // A site as a range sheet.
-fn sheet(input: &[u8], out: &mut [u8], words: &mut [u8])
-    requires { ⌜ 65536 ≤ length (now words) ⌝ }
+fn sheet(input: &[u8], out: &mut [u8], text: &mut [u8])
+    requires { ⌜ 65536 ≤ length (now text) ⌝ }
 {
     let read = sitefile::read_site(input);
     let answer = read.answer;
     let site = read.site;
     let ReadAnswer::Done = answer else {
-        refuse(words, input, answer);
+        refuse(text, input, answer);
         return;
     };
     let written = sheet::write_sheet(site, out);
-    let SheetWritten::Done(size) = written else {
+    let Written::Done(size) = written else {
         reply::unwritten();
         return;
     };
@@ -336,20 +335,20 @@ fn name_sheet(input: &[u8], answer: SheetAnswer) {
 }
 
 // A range sheet as a site file, with slots and channels.
-fn site(input: &[u8], slots: u16, channels: u16, out: &mut [u8], words: &mut [u8])
-    requires { ⌜ 65536 ≤ length (now words) ⌝ }
+fn site(input: &[u8], slots: u16, channels: u16, out: &mut [u8], text: &mut [u8])
+    requires { ⌜ 65536 ≤ length (now text) ⌝ }
 {
     let read = sheet::read_sheet(input, slots, channels);
     let answer = read.answer;
     let site = read.site;
-    let end = verdicts::sheet_words(words, 0, answer);
+    let end = say_verdicts::put_sheet_read(text, 0, answer);
     let SheetAnswer::Done = answer else {
         name_sheet(input, answer);
-        no(words, end);
+        no(text, end);
         return;
     };
     let written = sitefile::write_site(site, out);
-    let SiteWritten::Done(size) = written else {
+    let Written::Done(size) = written else {
         reply::unwritten();
         return;
     };
@@ -367,57 +366,57 @@ fn share_of(slots: u16, burst: u16, period: u16) -> ShareAnswer {
     shares::share_of(t, c, p, Repeats(number(NUMBERS + 3) as u32))
 }
 
-// The share of a flow, in words.
-fn share(slots: u16, burst: u16, period: u16, words: &mut [u8])
-    requires { ⌜ 65536 ≤ length (now words) ⌝ }
+// The share of a flow, in English.
+fn share(slots: u16, burst: u16, period: u16, text: &mut [u8])
+    requires { ⌜ 65536 ≤ length (now text) ⌝ }
 {
     let answer = share_of(slots, burst, period);
-    let end = verdicts::share_words(words, 0, burst as usize, period as usize, answer);
+    let end = say_verdicts::put_share(text, 0, burst as usize, period as usize, answer);
     let ShareAnswer::Done(_, _, _) = answer else {
-        no(words, end);
+        no(text, end);
         return;
     };
-    yes(words, end);
+    yes(text, end);
 }
 
 // Which of the flows to take, a line for each.
-fn decide(site: Site, flows: FlowList, words: &mut [u8])
-    requires { ⌜ (65536 ≤ length (now words)) × (flows .count ≤ 16) ⌝ }
+fn decide(site: Site, flows: FlowList, text: &mut [u8])
+    requires { ⌜ (65536 ≤ length (now text)) × (flows .count ≤ 16) ⌝ }
 {
     let count = flows.count;
     let answer = admission::decide(site, flows, count);
-    let end = flowwords::admit_words(words, 0, site, flows, count, answer);
+    let end = say_flows::put_admit(text, 0, site, flows, count, answer);
     let AdmitAnswer::Admitted(_) = answer else {
-        no(words, end);
+        no(text, end);
         return;
     };
-    yes(words, end);
+    yes(text, end);
 }
 
-// Whether an input was read to its end: one more read finds nothing, and does not fail. A sheet of flows may end after any line, so what a failing read cut off would pass for a shorter sheet; every
-// other file says how long it is.
+// Whether an input was read to its end: one more read finds nothing, and does not fail. A sheet of flows may end after any line,
+// so what a failing read cut off would pass for a shorter sheet; every other file says how long it is.
 fn ended(fd: i32) -> bool {
     let mut more = [0u8; 1];
     libc::read(fd, &mut more) == 0
 }
 
 // Which flows of a sheet to take.
-fn admit(input: &[u8], second: &[u8], words: &mut [u8])
-    requires { ⌜ 65536 ≤ length (now words) ⌝ }
+fn admit(input: &[u8], second: &[u8], text: &mut [u8])
+    requires { ⌜ 65536 ≤ length (now text) ⌝ }
 {
     let read = sitefile::read_site(input);
     let answer = read.answer;
     let site = read.site;
     let ReadAnswer::Done = answer else {
-        refuse(words, input, answer);
+        refuse(text, input, answer);
         return;
     };
     let flows = flowsheet::read_flows(second);
     let said = flows.answer;
     let FlowsAnswer::Done = said else {
         reply::named(SECOND_NAME, second, Input::FlowSheet);
-        let end = flowwords::flow_sheet_words(words, 0, said);
-        no(words, end);
+        let end = say_flows::put_flow_sheet(text, 0, said);
+        no(text, end);
         return;
     };
     if !ended(SECOND) {
@@ -427,7 +426,7 @@ fn admit(input: &[u8], second: &[u8], words: &mut [u8])
         );
         return;
     }
-    decide(site, flows.flows, words);
+    decide(site, flows.flows, text);
 }
 
 // The most bytes of an argument that is a command or a number.
@@ -509,34 +508,34 @@ fn main() {
     let mut table = io::large_buffer();
     let mut old = io::large_buffer();
     let mut out = io::large_buffer();
-    let mut words = io::large_buffer();
+    let mut text = io::large_buffer();
     match asked() {
-        Command::Plan => plan(&input[..n], &mut table, &mut out, &mut words),
-        Command::Check => check(&input[..n], &second[..m], &mut table, &mut words),
+        Command::Plan => plan(&input[..n], &mut table, &mut out, &mut text),
+        Command::Check => check(&input[..n], &second[..m], &mut table, &mut text),
         Command::Mend => mend(
             &input[..n],
             &second[..m],
             &mut old,
             &mut table,
             &mut out,
-            &mut words,
+            &mut text,
         ),
-        Command::Why => why(&input[..n], &mut table, &mut words),
-        Command::Sheet => sheet(&input[..n], &mut out, &mut words),
+        Command::Why => why(&input[..n], &mut table, &mut text),
+        Command::Sheet => sheet(&input[..n], &mut out, &mut text),
         Command::Site => site(
             &input[..n],
             number(NUMBERS),
             number(NUMBERS + 1),
             &mut out,
-            &mut words,
+            &mut text,
         ),
         Command::Share => share(
             number(NUMBERS),
             number(NUMBERS + 1),
             number(NUMBERS + 2),
-            &mut words,
+            &mut text,
         ),
-        Command::Admit => admit(&input[..n], &second[..m], &mut words),
+        Command::Admit => admit(&input[..n], &second[..m], &mut text),
         Command::Unknown => no(b"duggfrask: there is no such command\n", 36),
     }
 }

@@ -8,16 +8,16 @@ use Rattle.flowlist.specs.declared.Flow.{Flow}
 use Rattle.flowlist.specs.declared.FlowList.{FlowList}
 
 -- a flow of zeros
-abbrev pub none : Flow
-none = record { cell = 0; burst = 0; period = 0; repeats = 0; value = 0 }
+abbrev pub zeroFlow : Flow
+zeroFlow = record { cell = 0; burst = 0; period = 0; repeats = 0; value = 0 }
 
 -- the flow at place k; zeros past the end
 abbrev pub flowAt : List Flow → ℕ → Flow
-flowAt fs k = getD fs k none
+flowAt fs k = getD fs k zeroFlow
 
 -- no flows yet
 unfoldable pub noFlows : FlowList
-noFlows = record { list = replicate 16 none; count = 0 }
+noFlows = record { list = replicate 16 zeroFlow; count = 0 }
 
 -- one flow more
 abbrev pub withFlow : FlowList → Flow → FlowList

@@ -6,10 +6,10 @@ use Rattle.text.specs.Decimal.{digitsOf, decimal}
 use Rattle.lines.specs.Match.{starts}
 use Rattle.lines.specs.Format.{column}
 use Rattle.lines.specs.Content.{more, scanned}
-use Rattle.flowlist.specs.List.{none, noFlows, withFlow}
+use Rattle.flowlist.specs.List.{zeroFlow, noFlows, withFlow}
 use Rattle.flowlist.specs.declared.Flow.{Flow}
 use Rattle.flowsheet.specs.Format.{flowLine, flowLines, flowSheet}
-use Rattle.flowsheet.specs.Read.{after, flowIn, flowFits, flowOk, done, badAt, flowsFrom, readFlows}
+use Rattle.flowsheet.specs.Read.{after, flowIn, flowFits, flowOk, flowsDone, badFlows, flowsFrom, readFlows}
 
 -- cell,burst,period,repeats,value with CR LF, letter by letter
 abbrev firstLine : List ℕ
@@ -52,9 +52,9 @@ pub flows-read :
     ∷ (firstLine ++ (49 ∷ 44 ∷ 51 ∷ 44 ∷ 56 ∷ 44 ∷ 49 ∷ 44 ∷ 49 ∷ 48 ∷ 13 ∷ []))
     -- a space after a comma is malformed, in line 3 here
     ∷ (firstLine ++ (line₁ ++ (50 ∷ 44 ∷ 32 ∷ 52 ∷ 44 ∷ 56 ∷ 44 ∷ 50 ∷ 44 ∷ 51 ∷ 48 ∷ 13 ∷ 10 ∷ [])))
-    -- 0,0,0,0,0: "`0` alone is a number". That no cell has the number 0, and that there is no such flow, is not the sheet's question
+    -- 0,0,0,0,0: `0` alone is a number. That no cell has the number 0, and that there is no such flow, is not the sheet's question
     ∷ (firstLine ++ (48 ∷ 44 ∷ 48 ∷ 44 ∷ 48 ∷ 44 ∷ 48 ∷ 44 ∷ 48 ∷ 13 ∷ 10 ∷ []))
-    -- 65535,3,8,1,65535: "Each number is 0 to 65,535."; and 1,3,8,1,65536
+    -- 65535,3,8,1,65535: each number is 0 to 65,535; and 1,3,8,1,65536
     ∷ (firstLine ++ (54 ∷ 53 ∷ 53 ∷ 51 ∷ 53 ∷ 44 ∷ 51 ∷ 44 ∷ 56 ∷ 44 ∷ 49 ∷ 44 ∷ 54 ∷ 53 ∷ 53 ∷ 51 ∷ 53 ∷ 13 ∷ 10 ∷ []))
     ∷ (firstLine ++ (49 ∷ 44 ∷ 51 ∷ 44 ∷ 56 ∷ 44 ∷ 49 ∷ 44 ∷ 54 ∷ 53 ∷ 53 ∷ 51 ∷ 54 ∷ 13 ∷ 10 ∷ []))
     -- 1,3,8,1,00 and 01,3,8,1,10: "no leading zeros"
@@ -70,20 +70,20 @@ pub flows-read :
     -- an empty line after a good one
     ∷ (firstLine ++ (line₁ ++ (13 ∷ 10 ∷ [])))
     ∷ [])
-    ≡ done noFlows
-    ∷ badAt 1
-    ∷ badAt 2
-    ∷ badAt 3
-    ∷ done (withFlow noFlows none)
-    ∷ done (withFlow noFlows most)
-    ∷ badAt 2
-    ∷ badAt 2
-    ∷ badAt 2
-    ∷ badAt 2
-    ∷ badAt 2
-    ∷ badAt 2
-    ∷ badAt 2
-    ∷ badAt 3
+    ≡ flowsDone noFlows
+    ∷ badFlows 1
+    ∷ badFlows 2
+    ∷ badFlows 3
+    ∷ flowsDone (withFlow noFlows zeroFlow)
+    ∷ flowsDone (withFlow noFlows most)
+    ∷ badFlows 2
+    ∷ badFlows 2
+    ∷ badFlows 2
+    ∷ badFlows 2
+    ∷ badFlows 2
+    ∷ badFlows 2
+    ∷ badFlows 2
+    ∷ badFlows 3
     ∷ []
 unfolding readFlows starts flowsFrom flowOk flowFits flowIn after scanned more flowLine column decimal digitsOf noFlows
 flows-read = refl

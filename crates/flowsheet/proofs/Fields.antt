@@ -1,5 +1,5 @@
--- One line of a flow, read field by field: after each field the reader stands where the text of the fields so far ends, if that text is there and each number so far is small enough, and
--- nowhere otherwise. So at the line's end it stands after the line that its content gives, or nowhere. Assumes nothing.
+-- One line of a flow, read field by field: after each field the reader stands where the text of the fields so far ends, if that text is there and each number
+-- so far is small enough, and nowhere otherwise. So at the line's end it stands after the line that its content gives, or nowhere. Assumes nothing.
 use Prim.Native.Nat.{ℕ, _+_, _≤_, _<_}
 use mathlib.Core.Path.{_≡_, refl, sym, ap, ap₂, _∙_}
 use mathlib.Core.Bool.{Bool, true, false, _&&_}
@@ -34,7 +34,8 @@ module _ (s : List ℕ) (short : length s < nowhere) where
   unfolding fieldRead numberRead
   field-next p b = go (leb (scanned 0 (drop p s)) 65535)
     where
-      go : (t : Bool) → eaten s (pick t (eaten s p (decimal (scanned 0 (drop p s)))) nowhere) (b ∷ []) ≡ pick t (eaten s p (decimal (scanned 0 (drop p s)) ++ (b ∷ []))) nowhere
+      go : (t : Bool) → eaten s (pick t (eaten s p (decimal (scanned 0 (drop p s)))) nowhere) (b ∷ [])
+          ≡ pick t (eaten s p (decimal (scanned 0 (drop p s)) ++ (b ∷ []))) nowhere
       go true = eaten-append s p (decimal (scanned 0 (drop p s))) (b ∷ []) (omega arith)
       go false = lost s (b ∷ []) (omega arith)
 
@@ -141,9 +142,27 @@ all-five true true false d e = refl
 all-five true false c d e = refl
 all-five false b c d e = refl
 
-module _ (s : List ℕ) (at : ℕ) (short : length s < nowhere) (n₁ n₂ n₃ n₄ n₅ : Number) (end : ℕ)
-    (e₁ : n₁ ≡ fieldRead s at 44) (e₂ : n₂ ≡ fieldRead s (n₁ .next) 44) (e₃ : n₃ ≡ fieldRead s (n₂ .next) 44) (e₄ : n₄ ≡ fieldRead s (n₃ .next) 44) (e₅ : n₅ ≡ fieldRead s (n₄ .next) 13)
-    (e₆ : end ≡ eaten s (n₅ .next) (10 ∷ [])) where
+-- the parts of a line at `at`, each read after the other: five numbers, with the byte that has to stand after each, and the place after the line feed
+pub record Parts (s : List ℕ) (at : ℕ) : Type 0 where
+  pub cell : Number
+  pub burst : Number
+  pub period : Number
+  pub repeats : Number
+  pub value : Number
+  pub end : ℕ
+  pub is-cell : cell ≡ fieldRead s at 44
+  pub is-burst : burst ≡ fieldRead s (cell .next) 44
+  pub is-period : period ≡ fieldRead s (burst .next) 44
+  pub is-repeats : repeats ≡ fieldRead s (period .next) 44
+  pub is-value : value ≡ fieldRead s (repeats .next) 13
+  pub is-end : end ≡ eaten s (value .next) (10 ∷ [])
+
+-- the flow of their numbers
+abbrev pub flowOf : {s : List ℕ} {at : ℕ} → Parts s at → Flow
+flowOf p =
+    record { cell = p .cell .value; burst = p .burst .value; period = p .period .value; repeats = p .repeats .value; value = p .value .value }
+
+module _ (s : List ℕ) (at : ℕ) (short : length s < nowhere) (p : Parts s at) where
   abbrev f : Flow
   f = flowIn (drop at s)
 
@@ -189,20 +208,20 @@ module _ (s : List ℕ) (at : ℕ) (short : length s < nowhere) (n₁ n₂ n₃ 
   abbrev t₅ : Bool
   t₅ = t₄ && leb (scanned 0 r₄) 65535
 
-  way₁ : Way s at t₁ w₁ r₁ (n₁ .next)
-  way₁ = one s short at true [] (drop at s) at (begun s short at) 44 n₁ e₁
+  way₁ : Way s at t₁ w₁ r₁ (p .cell .next)
+  way₁ = one s short at true [] (drop at s) at (begun s short at) 44 (p .cell) (p .is-cell)
 
-  way₂ : Way s at t₂ w₂ r₂ (n₂ .next)
-  way₂ = one s short at t₁ w₁ r₁ (n₁ .next) way₁ 44 n₂ e₂
+  way₂ : Way s at t₂ w₂ r₂ (p .burst .next)
+  way₂ = one s short at t₁ w₁ r₁ (p .cell .next) way₁ 44 (p .burst) (p .is-burst)
 
-  way₃ : Way s at t₃ w₃ r₃ (n₃ .next)
-  way₃ = one s short at t₂ w₂ r₂ (n₂ .next) way₂ 44 n₃ e₃
+  way₃ : Way s at t₃ w₃ r₃ (p .period .next)
+  way₃ = one s short at t₂ w₂ r₂ (p .burst .next) way₂ 44 (p .period) (p .is-period)
 
-  way₄ : Way s at t₄ w₄ r₄ (n₄ .next)
-  way₄ = one s short at t₃ w₃ r₃ (n₃ .next) way₃ 44 n₄ e₄
+  way₄ : Way s at t₄ w₄ r₄ (p .repeats .next)
+  way₄ = one s short at t₃ w₃ r₃ (p .period .next) way₃ 44 (p .repeats) (p .is-repeats)
 
-  way₅ : Way s at t₅ w₅ (after r₄) (n₅ .next)
-  way₅ = one s short at t₄ w₄ r₄ (n₄ .next) way₄ 13 n₅ e₅
+  way₅ : Way s at t₅ w₅ (after r₄) (p .value .next)
+  way₅ = one s short at t₄ w₄ r₄ (p .repeats .next) way₄ 13 (p .value) (p .is-value)
 
   -- the text of the fields and the line feed is the line
   line-is : w₅ ++ (10 ∷ []) ≡ flowLine f
@@ -211,59 +230,59 @@ module _ (s : List ℕ) (at : ℕ) (short : length s < nowhere) (n₁ n₂ n₃ 
 
   fits-is : t₅ ≡ flowFits f
   unfolding flowFits flowIn
-  fits-is = all-five (leb (scanned 0 (drop at s)) 65535) (leb (scanned 0 r₁) 65535) (leb (scanned 0 r₂) 65535) (leb (scanned 0 r₃) 65535) (leb (scanned 0 r₄) 65535)
+  fits-is =
+      all-five (leb (scanned 0 (drop at s)) 65535) (leb (scanned 0 r₁) 65535) (leb (scanned 0 r₂) 65535) (leb (scanned 0 r₃) 65535)
+      (leb (scanned 0 r₄) 65535)
 
-  last : (t : Bool) → n₅ .next ≡ pick t (eaten s at w₅) nowhere → end ≡ pick t (eaten s at (w₅ ++ (10 ∷ []))) nowhere
-  last true e = e₆ ∙ ap (λ (i : ℕ). eaten s i (10 ∷ [])) e ∙ eaten-append s at w₅ (10 ∷ []) (omega arith)
-  last false e = e₆ ∙ lost-at s short (n₅ .next) (10 ∷ []) e
+  last : (t : Bool) → p .value .next ≡ pick t (eaten s at w₅) nowhere → p .end ≡ pick t (eaten s at (w₅ ++ (10 ∷ []))) nowhere
+  last true e = p .is-end ∙ ap (λ (i : ℕ). eaten s i (10 ∷ [])) e ∙ eaten-append s at w₅ (10 ∷ []) (omega arith)
+  last false e = p .is-end ∙ lost-at s short (p .value .next) (10 ∷ []) e
 
-  end-is : end ≡ pick (flowFits f) (eaten s at (flowLine f)) nowhere
+  end-is : p .end ≡ pick (flowFits f) (eaten s at (flowLine f)) nowhere
   end-is = last t₅ (way₅ .place) ∙ ap₂ (λ (t : Bool) (w : List ℕ). pick t (eaten s at w) nowhere) fits-is line-is
 
   -- the line is not there
-  pub no-line : end ≡ nowhere → noFlow ≡ flowRead s at
+  pub no-line : p .end ≡ nowhere → noFlow ≡ flowRead s at
   unfolding flowRead flowOk
   no-line e = go (flowFits f) refl (sym end-is ∙ e)
     where
       go : (t : Bool) → flowFits f ≡ t → pick t (eaten s at (flowLine f)) nowhere ≡ nowhere → noFlow ≡ flowRead s at
-      go true p q = rw (p, eaten-not s at (flowLine f) short (line-some f) q)
-      go false p q = rw p
+      go true fits q = rw (fits, eaten-not s at (flowLine f) short (line-some f) q)
+      go false fits q = rw fits
 
-  module _ (there : end ≡ nowhere → ⊥) where
-    still₅ : n₅ .next ≡ nowhere → ⊥
-    still₅ e = there (e₆ ∙ lost-at s short (n₅ .next) (10 ∷ []) e)
+  module _ (there : p .end ≡ nowhere → ⊥) where
+    still₅ : p .value .next ≡ nowhere → ⊥
+    still₅ e = there (p .is-end ∙ lost-at s short (p .value .next) (10 ∷ []) e)
 
-    met₅ : (n₅ .value ≡ scanned 0 r₄) × (n₅ .value ≤ 65535) × (n₄ .next ≡ nowhere → ⊥)
-    met₅ = met s short at t₄ w₄ r₄ (n₄ .next) way₄ 13 n₅ e₅ still₅
+    met₅ : (p .value .value ≡ scanned 0 r₄) × (p .value .value ≤ 65535) × (p .repeats .next ≡ nowhere → ⊥)
+    met₅ = met s short at t₄ w₄ r₄ (p .repeats .next) way₄ 13 (p .value) (p .is-value) still₅
 
-    met₄ : (n₄ .value ≡ scanned 0 r₃) × (n₄ .value ≤ 65535) × (n₃ .next ≡ nowhere → ⊥)
-    met₄ = met s short at t₃ w₃ r₃ (n₃ .next) way₃ 44 n₄ e₄ (met₅ .2)
+    met₄ : (p .repeats .value ≡ scanned 0 r₃) × (p .repeats .value ≤ 65535) × (p .period .next ≡ nowhere → ⊥)
+    met₄ = met s short at t₃ w₃ r₃ (p .period .next) way₃ 44 (p .repeats) (p .is-repeats) (met₅ .2)
 
-    met₃ : (n₃ .value ≡ scanned 0 r₂) × (n₃ .value ≤ 65535) × (n₂ .next ≡ nowhere → ⊥)
-    met₃ = met s short at t₂ w₂ r₂ (n₂ .next) way₂ 44 n₃ e₃ (met₄ .2)
+    met₃ : (p .period .value ≡ scanned 0 r₂) × (p .period .value ≤ 65535) × (p .burst .next ≡ nowhere → ⊥)
+    met₃ = met s short at t₂ w₂ r₂ (p .burst .next) way₂ 44 (p .period) (p .is-period) (met₄ .2)
 
-    met₂ : (n₂ .value ≡ scanned 0 r₁) × (n₂ .value ≤ 65535) × (n₁ .next ≡ nowhere → ⊥)
-    met₂ = met s short at t₁ w₁ r₁ (n₁ .next) way₁ 44 n₂ e₂ (met₃ .2)
+    met₂ : (p .burst .value ≡ scanned 0 r₁) × (p .burst .value ≤ 65535) × (p .cell .next ≡ nowhere → ⊥)
+    met₂ = met s short at t₁ w₁ r₁ (p .cell .next) way₁ 44 (p .burst) (p .is-burst) (met₃ .2)
 
-    met₁ : (n₁ .value ≡ scanned 0 (drop at s)) × (n₁ .value ≤ 65535) × (at ≡ nowhere → ⊥)
-    met₁ = met s short at true [] (drop at s) at (begun s short at) 44 n₁ e₁ (met₂ .2)
+    met₁ : (p .cell .value ≡ scanned 0 (drop at s)) × (p .cell .value ≤ 65535) × (at ≡ nowhere → ⊥)
+    met₁ = met s short at true [] (drop at s) at (begun s short at) 44 (p .cell) (p .is-cell) (met₂ .2)
 
     -- each number fits, and they are what the line says
-    pub fit : (n₁ .value ≤ 65535) × (n₂ .value ≤ 65535) × (n₃ .value ≤ 65535) × (n₄ .value ≤ 65535) × (n₅ .value ≤ 65535)
+    pub fit : (p .cell .value ≤ 65535) × (p .burst .value ≤ 65535) × (p .period .value ≤ 65535) × (p .repeats .value ≤ 65535) × (p .value .value ≤ 65535)
     fit = (met₁ .1, met₂ .1, met₃ .1, met₄ .1, met₅ .1)
 
-    said : _≡_ {A = Flow} (record { cell = n₁ .value; burst = n₂ .value; period = n₃ .value; repeats = n₄ .value; value = n₅ .value }) f
+    said : flowOf p ≡ f
     unfolding flowIn
     said = rw (met₁ .0, met₂ .0, met₃ .0, met₄ .0, met₅ .0)
 
-    pub line-read :
-        record { flow = record { cell = n₁ .value; burst = n₂ .value; period = n₃ .value; repeats = n₄ .value; value = n₅ .value }; next = end } ≡ flowRead s at
+    pub line-read : record { flow = flowOf p; next = p .end } ≡ flowRead s at
     unfolding flowRead flowOk
     line-read = go (flowFits f) refl end-is
       where
-        go : (t : Bool) → flowFits f ≡ t → end ≡ pick t (eaten s at (flowLine f)) nowhere →
-            record { flow = record { cell = n₁ .value; burst = n₂ .value; period = n₃ .value; repeats = n₄ .value; value = n₅ .value }; next = end } ≡ flowRead s at
-        go true p q =
+        go : (t : Bool) → flowFits f ≡ t → p .end ≡ pick t (eaten s at (flowLine f)) nowhere → record { flow = flowOf p; next = p .end } ≡ flowRead s at
+        go true fits q =
             let h = eaten-there s at (flowLine f) (λ z. there (q ∙ z)) in
-            rw (p, h .0, said, q ∙ h .1)
-        go false p q = absurd (there q)
+            rw (fits, h .0, said, q ∙ h .1)
+        go false fits q = absurd (there q)

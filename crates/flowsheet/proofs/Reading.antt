@@ -9,13 +9,14 @@ use lib.Seq.{drop-drop}
 use borrow.Author.Tests.{eq-eqb, ne-eqb}
 use Rattle.laws.specs.Choice.{pick}
 use Rattle.laws.proofs.Choice.{both, refute}
+use Rattle.lines.specs.Format.{lineNumber}
 use Rattle.lines.specs.Match.{starts, nowhere, eaten}
 use Rattle.lines.proofs.Match.{starts-long}
 use Rattle.lines.proofs.Steps.{eaten-there, eaten-not}
 use Rattle.flowlist.specs.List.{noFlows, withFlow}
 use Rattle.flowlist.specs.declared.FlowList.{FlowList}
 use Rattle.flowsheet.specs.Format.{flowHead, flowLine}
-use Rattle.flowsheet.specs.Read.{flowIn, flowFits, flowOk, noFlow, flowRead, done, badAt, tooMany, lineNumber, atEnd, flowsFrom, readFlows}
+use Rattle.flowsheet.specs.Read.{flowIn, flowFits, flowOk, noFlow, flowRead, flowsDone, badFlows, tooMany, atEnd, flowsFrom, readFlows}
 use Rattle.flowsheet.specs.declared.FlowRead.{FlowRead}
 
 -- no flow is read yet
@@ -31,7 +32,7 @@ module _ (s : List ℕ) (p : ℕ) where
   some-left h = ne-eqb (length (drop p s)) 0 (λ e. omega (arith, length-drop p s))
 
   -- the sheet ends here
-  pub ended : length s ≤ p → (m : ℕ) (l : FlowList) → done l ≡ flowsFrom m l (drop p s)
+  pub ended : length s ≤ p → (m : ℕ) (l : FlowList) → flowsDone l ≡ flowsFrom m l (drop p s)
   unfolding flowsFrom
   ended h zero l = rw (nothing-left h)
   ended h (suc m) l = rw (nothing-left h)
@@ -52,11 +53,12 @@ module _ (s : List ℕ) (p : ℕ) where
     bad h =
         refute _
         (λ t.
-        let b : length (flowLine (flowIn (drop p s))) ≤ length (drop p s) = starts-long _ _ (both (flowFits (flowIn (drop p s))) (starts (flowLine (flowIn (drop p s))) (drop p s)) t .1) in
+        let b : length (flowLine (flowIn (drop p s))) ≤ length (drop p s) = starts-long _ _
+        (both (flowFits (flowIn (drop p s))) (starts (flowLine (flowIn (drop p s))) (drop p s)) t .1) in
         let z : p + length (flowLine (flowIn (drop p s))) ≡ nowhere = sym (ap (λ (x : FlowRead). x .next) (told true t)) ∙ h in
         omega (arith, b, z, length-drop p s))
 
-    pub stopped : n .next ≡ nowhere → badAt (lineNumber (l .count)) ≡ flowsFrom (suc m) l (drop p s)
+    pub stopped : n .next ≡ nowhere → badFlows (lineNumber (l .count)) ≡ flowsFrom (suc m) l (drop p s)
     unfolding flowsFrom
     stopped h = rw (some-left some, bad h)
 
@@ -72,7 +74,7 @@ module _ (s : List ℕ) (p : ℕ) where
 -- ---- the first line
 
 module _ (s : List ℕ) (short : length s < nowhere) (a : ℕ) (begun : a ≡ eaten s 0 flowHead) where
-  pub no-head : a ≡ nowhere → badAt 1 ≡ readFlows s
+  pub no-head : a ≡ nowhere → badFlows 1 ≡ readFlows s
   unfolding readFlows
   no-head e = rw (eaten-not s 0 flowHead short (omega arith) (sym begun ∙ e))
 

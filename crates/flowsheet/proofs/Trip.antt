@@ -12,7 +12,7 @@ use lib.Dec.{leb}
 use borrow.Author.Tests.{leb-true, le-leb, ne-eqb}
 use Rattle.laws.proofs.Choice.{both}
 use Rattle.text.specs.Decimal.{decimal}
-use Rattle.lines.specs.Format.{column}
+use Rattle.lines.specs.Format.{column, lineNumber}
 use Rattle.lines.specs.Content.{scanned}
 use Rattle.lines.proofs.Match.{starts-there}
 use Rattle.lines.proofs.Numbers.{scanned-decimal, scanned-end}
@@ -21,8 +21,8 @@ use Rattle.flowlist.proofs.Laws.{gathered-count}
 use Rattle.flowlist.specs.declared.Flow.{Flow}
 use Rattle.flowlist.specs.declared.FlowList.{FlowList}
 use Rattle.flowsheet.specs.Format.{flowHead, flowLine, flowLines, flowSheet}
-use Rattle.flowsheet.specs.Read.{after, flowIn, flowFits, flowOk, done, badAt, tooMany, lineNumber, atEnd, flowsFrom, readFlows}
-use Rattle.flowsheet.specs.Means.{Fits}
+use Rattle.flowsheet.specs.Read.{after, flowIn, flowFits, flowOk, flowsDone, badFlows, tooMany, atEnd, flowsFrom, readFlows}
+use Rattle.flowsheet.specs.Means.{FlowFits}
 use Rattle.flowsheet.proofs.Fields.{line-some}
 
 -- ---- a written number, and a byte below the digits after it
@@ -38,7 +38,7 @@ module _ (v d : ℕ) (x : List ℕ) (few : v ≤ 65535) (low : d < 48) where
 -- ---- a written line, and any bytes after it
 
 -- each number is at most 65,535
-pub fit : (f : Flow) → flowFits f ≡ true → Fits f
+pub fit : (f : Flow) → flowFits f ≡ true → FlowFits f
 unfolding flowFits
 fit f h =
     let a = both (leb (f .cell) 65535) _ h in
@@ -53,7 +53,7 @@ fit f h =
       value = leb-true _ _ (d .1);
     }
 
-pub fit-is : (f : Flow) → Fits f → flowFits f ≡ true
+pub fit-is : (f : Flow) → FlowFits f → flowFits f ≡ true
 unfolding flowFits
 fit-is f h =
     rw (le-leb _ _ (h .cell), le-leb _ _ (h .burst), le-leb _ _ (h .period), le-leb _ _ (h .repeats), le-leb _ _ (h .value))
@@ -109,12 +109,12 @@ module _ (f : Flow) (r : List ℕ) (h : flowFits f ≡ true) where
 
 -- ---- the flows of a sheet that was written
 
-no-lines : (m : ℕ) (l : FlowList) → flowsFrom m l [] ≡ done l
+no-lines : (m : ℕ) (l : FlowList) → flowsFrom m l [] ≡ flowsDone l
 unfolding flowsFrom
 no-lines zero l = refl
 no-lines (suc m) l = refl
 
-stop-here : (m : ℕ) (l : FlowList) (r : List ℕ) → atEnd r ≡ false → flowOk r ≡ false → flowsFrom (suc m) l r ≡ badAt (lineNumber (l .count))
+stop-here : (m : ℕ) (l : FlowList) (r : List ℕ) → atEnd r ≡ false → flowOk r ≡ false → flowsFrom (suc m) l r ≡ badFlows (lineNumber (l .count))
 unfolding flowsFrom
 stop-here m l r some bad = rw (some, bad)
 
@@ -125,7 +125,8 @@ no-room l r some = rw some
 module _ (fs : List Flow) where
   -- after the lines of n flows the reader has these, and goes on
   lines-read :
-      (n k m : ℕ) (r : List ℕ) → n ≤ m → ((i : ℕ) → i < k + n → flowFits (flowAt fs i) ≡ true) → flowsFrom m (gathered fs k) (flowLines (flowAt fs) k n ++ r) ≡ flowsFrom (m - n) (gathered fs (k + n)) r
+      (n k m : ℕ) (r : List ℕ) → n ≤ m → ((i : ℕ) → i < k + n → flowFits (flowAt fs i) ≡ true)
+      → flowsFrom m (gathered fs k) (flowLines (flowAt fs) k n ++ r) ≡ flowsFrom (m - n) (gathered fs (k + n)) r
   unfolding flowLines gathered
   lines-read zero k m r h fits = let e : m - zero ≡ m = omega arith in rw (add-zero k, e)
   lines-read (suc n) k zero r h fits = absurd (omega arith)
@@ -142,21 +143,25 @@ module _ (fs : List Flow) where
     unfolding readFlows flowSheet gathered
     sheet-read r =
         let e : 0 + n ≡ n = omega arith in
-        rw (append-assoc flowHead (flowLines (flowAt fs) 0 n) r, starts-there flowHead (flowLines (flowAt fs) 0 n ++ r), drop-append-seam flowHead (flowLines (flowAt fs) 0 n ++ r))
+        rw (
+          append-assoc flowHead (flowLines (flowAt fs) 0 n) r,
+          starts-there flowHead (flowLines (flowAt fs) 0 n ++ r),
+          drop-append-seam flowHead (flowLines (flowAt fs) 0 n ++ r),
+        )
         (lines-read n 0 16 r few (λ i l. fits i (omega arith))
         ∙ ap (λ (i : ℕ). flowsFrom (16 - n) (gathered fs i) r) e)
 
     -- reading their sheet gives these flows
-    pub read-written : readFlows (flowSheet (flowAt fs) n) ≡ done (gathered fs n)
+    pub read-written : readFlows (flowSheet (flowAt fs) n) ≡ flowsDone (gathered fs n)
     read-written = ap readFlows (sym (append-nil (flowSheet (flowAt fs) n))) ∙ sheet-read [] ∙ no-lines (16 - n) (gathered fs n)
 
-    -- "17 gives the first line that is not so, from 1.": the line after those of n flows is not of the format
-    pub bad-after : (r : List ℕ) → n < 16 → atEnd r ≡ false → flowOk r ≡ false → readFlows (flowSheet (flowAt fs) n ++ r) ≡ badAt (lineNumber n)
+    -- 17 gives the first line that is not so, from 1: the line after those of n flows is not of the format
+    pub bad-after : (r : List ℕ) → n < 16 → atEnd r ≡ false → flowOk r ≡ false → readFlows (flowSheet (flowAt fs) n ++ r) ≡ badFlows (lineNumber n)
     bad-after r less some bad = sheet-read r ∙ no-line (15 - n) (omega arith) (gathered-count fs n)
       where
-        no-line : (m : ℕ) → 16 - n ≡ suc m → gathered fs n .count ≡ n → flowsFrom (16 - n) (gathered fs n) r ≡ badAt (lineNumber n)
-        no-line m e c = ap (λ (i : ℕ). flowsFrom i (gathered fs n) r) e ∙ stop-here m (gathered fs n) r some bad ∙ ap (λ (i : ℕ). badAt (lineNumber i)) c
+        no-line : (m : ℕ) → 16 - n ≡ suc m → gathered fs n .count ≡ n → flowsFrom (16 - n) (gathered fs n) r ≡ badFlows (lineNumber n)
+        no-line m e c = ap (λ (i : ℕ). flowsFrom i (gathered fs n) r) e ∙ stop-here m (gathered fs n) r some bad ∙ ap (λ (i : ℕ). badFlows (lineNumber i)) c
 
-    -- "A line after the sixteenth flow's is 18, whatever stands in it."
+    -- A line after the sixteenth flow's is 18, whatever stands in it.
     pub seventeenth : (r : List ℕ) → n ≡ 16 → atEnd r ≡ false → readFlows (flowSheet (flowAt fs) n ++ r) ≡ tooMany
     seventeenth r all some = sheet-read r ∙ ap (λ (i : ℕ). flowsFrom i (gathered fs n) r) (omega arith) ∙ no-room (gathered fs n) r some

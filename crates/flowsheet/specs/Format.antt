@@ -5,7 +5,7 @@ use Rattle.text.specs.Decimal.{decimal}
 use Rattle.lines.specs.Format.{crlf, column}
 use Rattle.flowlist.specs.declared.Flow.{Flow}
 
--- "a sheet `cell,burst,period,repeats,value`": its first line
+-- a sheet `cell,burst,period,repeats,value`: its first line
 abbrev pub flowHead : List ℕ
 flowHead =
     99 ∷ 101 ∷ 108 ∷ 108 ∷ 44 ∷  -- cell,
@@ -14,7 +14,7 @@ flowHead =
     114 ∷ 101 ∷ 112 ∷ 101 ∷ 97 ∷ 116 ∷ 115 ∷ 44 ∷  -- repeats,
     118 ∷ 97 ∷ 108 ∷ 117 ∷ 101 ∷ crlf  -- value
 
--- "a line per flow, with the same line form as W1's"
+-- a line per flow, with the same line form as W1's
 unfoldable pub flowLine : Flow → List ℕ
 flowLine f = decimal (f .cell) ++ (column (f .burst) ++ (column (f .period) ++ (column (f .repeats) ++ (column (f .value) ++ crlf))))
 

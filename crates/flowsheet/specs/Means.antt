@@ -8,8 +8,8 @@ use Rattle.flowlist.specs.List.{flowAt}
 use Rattle.flowlist.specs.declared.Flow.{Flow}
 use Rattle.flowsheet.specs.Format.{flowHead, flowLine, flowSheet}
 
--- "Each number is 0 to 65,535."
-pub record Fits (f : Flow) : Type 0 where
+-- Each number is 0 to 65,535.
+pub record FlowFits (f : Flow) : Type 0 where
   pub cell : f .cell ≤ 65535
   pub burst : f .burst ≤ 65535
   pub period : f .period ≤ 65535
@@ -23,22 +23,22 @@ sheetOf fs = flowSheet (flowAt fs) (length fs)
 -- the bytes are the sheet of these flows, at most 16
 pub record FlowsOf (b : List ℕ) (fs : List Flow) : Type 0 where
   pub few : length fs ≤ 16
-  pub fits : (i : ℕ) → i < length fs → Fits (flowAt fs i)
+  pub fits : (i : ℕ) → i < length fs → FlowFits (flowAt fs i)
   pub bytes : b ≡ sheetOf fs
 
--- "17 gives the first line that is not so, from 1.": line l of the bytes b
-pub data FirstBad (b : List ℕ) (l : ℕ) : Type 0 where
+-- 17 gives the first line that is not so, from 1: line l of the bytes b
+pub data FirstBadOfFlows (b : List ℕ) (l : ℕ) : Type 0 where
   -- b does not begin with the first line
-  no-first-line : l ≡ 1 → ((r : List ℕ) → b ≡ flowHead ++ r → ⊥) → FirstBad b l
+  no-first-line : l ≡ 1 → ((r : List ℕ) → b ≡ flowHead ++ r → ⊥) → FirstBadOfFlows b l
   -- the sheet of fewer than 16 flows stands there and something after it, which is no line of a flow
-  no-flow-line : (fs : List Flow) (x : ℕ) (rest : List ℕ) → l ≡ length fs + 2 → length fs < 16 → ((i : ℕ) → i < length fs → Fits (flowAt fs i))
-      → b ≡ sheetOf fs ++ (x ∷ rest) → ((f : Flow) (r : List ℕ) → Fits f → x ∷ rest ≡ flowLine f ++ r → ⊥) → FirstBad b l
+  no-flow-line : (fs : List Flow) (x : ℕ) (rest : List ℕ) → l ≡ length fs + 2 → length fs < 16 → ((i : ℕ) → i < length fs → FlowFits (flowAt fs i))
+      → b ≡ sheetOf fs ++ (x ∷ rest) → ((f : Flow) (r : List ℕ) → FlowFits f → x ∷ rest ≡ flowLine f ++ r → ⊥) → FirstBadOfFlows b l
 
--- "A line after the sixteenth flow's is 18, whatever stands in it."
-pub record Over (b : List ℕ) : Type 0 where
+-- A line after the sixteenth flow's is 18, whatever stands in it.
+pub record TooManyFlows (b : List ℕ) : Type 0 where
   pub flows : List Flow
   pub sixteen : length flows ≡ 16
-  pub fits : (i : ℕ) → i < length flows → Fits (flowAt flows i)
+  pub fits : (i : ℕ) → i < length flows → FlowFits (flowAt flows i)
   pub next : ℕ
   pub rest : List ℕ
   pub bytes : b ≡ sheetOf flows ++ (next ∷ rest)

@@ -1,4 +1,5 @@
--- What reading a sheet of flows answers. What a line says is taken from any bytes at all; it is a line of the format where the bytes start with the line that this content gives.
+-- What reading a sheet of flows answers. What a line says is taken from any bytes at all;
+-- it is a line of the format where the bytes start with the line that this content gives.
 -- r is the input from where the line begins.
 use Prim.Native.Nat.{ℕ, zero, suc, _+_}
 use mathlib.Core.Bool.{Bool, _&&_}
@@ -9,8 +10,9 @@ use Rattle.laws.specs.Choice.{pick}
 use Rattle.text.specs.Decimal.{decimal}
 use Rattle.lines.specs.Match.{starts, nowhere, eaten}
 use Rattle.lines.specs.Content.{scanned, numberRead}
+use Rattle.lines.specs.Format.{lineNumber}
 use Rattle.lines.specs.declared.Number.{Number}
-use Rattle.flowlist.specs.List.{none, noFlows, withFlow}
+use Rattle.flowlist.specs.List.{zeroFlow, noFlows, withFlow}
 use Rattle.flowlist.specs.declared.Flow.{Flow}
 use Rattle.flowlist.specs.declared.FlowList.{FlowList}
 use Rattle.flowsheet.specs.Format.{flowHead, flowLine}
@@ -33,7 +35,7 @@ flowIn r =
       value = scanned 0 (after (after (after (after r))));
     }
 
--- "Each number is 0 to 65,535."
+-- Each number is 0 to 65,535.
 unfoldable pub flowFits : Flow → Bool
 flowFits f = leb (f .cell) 65535 && (leb (f .burst) 65535 && (leb (f .period) 65535 && (leb (f .repeats) 65535 && leb (f .value) 65535)))
 
@@ -46,7 +48,7 @@ unfoldable pub fieldRead : List ℕ → ℕ → ℕ → Number
 fieldRead s at b = record { value = numberRead s at 65535 .value; next = eaten s (numberRead s at 65535 .next) (b ∷ []) }
 
 abbrev pub noFlow : FlowRead
-noFlow = record { flow = none; next = nowhere }
+noFlow = record { flow = zeroFlow; next = nowhere }
 
 -- a line read at `at`: its content and the place after it
 unfoldable pub flowRead : List ℕ → ℕ → FlowRead
@@ -57,20 +59,16 @@ flowRead s at =
 
 -- ---- the sheet. A refusal has no flows beside it
 
-abbrev pub done : FlowList → FlowsRead
-done l = record { flows = l; answer = Done }
+abbrev pub flowsDone : FlowList → FlowsRead
+flowsDone l = record { flows = l; answer = Done }
 
--- "17 gives the first line that is not so, from 1."
-abbrev pub badAt : ℕ → FlowsRead
-badAt line = record { flows = noFlows; answer = BadLine line }
+-- 17 gives the first line that is not so, from 1.
+abbrev pub badFlows : ℕ → FlowsRead
+badFlows line = record { flows = noFlows; answer = BadLine line }
 
--- "A line after the sixteenth flow's is 18, whatever stands in it."
+-- A line after the sixteenth flow's is 18, whatever stands in it.
 abbrev pub tooMany : FlowsRead
 tooMany = record { flows = noFlows; answer = TooMany }
-
--- the number of the line of the flow at place k: the first line is line 1
-abbrev pub lineNumber : ℕ → ℕ
-lineNumber k = k + 2
 
 -- whether nothing is left
 abbrev pub atEnd : List ℕ → Bool
@@ -78,10 +76,10 @@ atEnd r = eqb (length r) 0
 
 -- the flows of r, where l has those before, and there is room for m more
 unfoldable pub flowsFrom : ℕ → FlowList → List ℕ → FlowsRead
-flowsFrom zero l r = pick (atEnd r) (done l) tooMany
+flowsFrom zero l r = pick (atEnd r) (flowsDone l) tooMany
 flowsFrom (suc m) l r =
-    pick (atEnd r) (done l)
-    (pick (flowOk r) (flowsFrom m (withFlow l (flowIn r)) (drop (length (flowLine (flowIn r))) r)) (badAt (lineNumber (l .count))))
+    pick (atEnd r) (flowsDone l)
+    (pick (flowOk r) (flowsFrom m (withFlow l (flowIn r)) (drop (length (flowLine (flowIn r))) r)) (badFlows (lineNumber (l .count))))
 
 unfoldable pub readFlows : List ℕ → FlowsRead
-readFlows b = pick (starts flowHead b) (flowsFrom 16 noFlows (drop (length flowHead) b)) (badAt 1)
+readFlows b = pick (starts flowHead b) (flowsFrom 16 noFlows (drop (length flowHead) b)) (badFlows 1)

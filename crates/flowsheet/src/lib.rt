@@ -3,6 +3,7 @@ use flowlist::Flow;
 use flowlist::FlowList;
 use flowlist::empty;
 use flowlist::push;
+use lines::NOWHERE;
 use lines::Number;
 use lines::eat;
 use lines::eat_text;
@@ -11,9 +12,7 @@ ghost use mathlib.Core.Path.{_≡_};
 ghost use Prim.Native.Nat.{_≤_};
 ghost use lib.ListN.{drop};
 ghost use Rattle.flowlist.specs.List.{noFlows};
-ghost use Rattle.flowsheet.specs.Read.{fieldRead, noFlow, flowRead, badAt, tooMany, flowsFrom, readFlows};
-
-const NOWHERE: usize = 18446744073709551615;
+ghost use Rattle.flowsheet.specs.Read.{fieldRead, noFlow, flowRead, badFlows, tooMany, flowsFrom, readFlows};
 
 // What the reader answers: the flows are read; the first bad line, from 1; or there are more than 16 flows.
 pub enum FlowsAnswer {
@@ -88,7 +87,7 @@ fn read_flow(s: &[u8], at: usize) -> FlowRead
 
 // A malformed sheet.
 fn bad_at(line: usize) -> FlowsRead
-    ensures { λ r. ⌜ r ≡ badAt line ⌝ }
+    ensures { λ r. ⌜ r ≡ badFlows line ⌝ }
 {
     FlowsRead {
         flows: empty(),

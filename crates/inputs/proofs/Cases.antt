@@ -9,7 +9,7 @@ use Rattle.records.specs.Bytes.{le16}
 use Rattle.lines.specs.Match.{starts}
 use Rattle.speech.specs.Speech.{bytes}
 use Rattle.inputs.specs.Files.{byKind, houseFile, inputOf}
-use Rattle.inputs.specs.Words.{numberOf, plainWords, otherWords, fileWords}
+use Rattle.inputs.specs.Said.{inputNumber, plainSaid, otherSaid, fileSaid}
 use Rattle.inputs.specs.declared.Input.{Input as File}
 use Rattle.inputs.specs.declared.Input.the-variants.{RangeSheet, FlowSheet, Other}
 
@@ -42,15 +42,15 @@ module _ (s : List ℕ) where
   unfolding inputOf
   input-house h i = rw (h, i)
 
-module _ (found asked : File) (a b : ℕ) (ea : a ≡ numberOf found) (eb : b ≡ numberOf asked) where
-  pub said-nothing : a ≡ 0 → plainWords ≡ fileWords found asked
-  unfolding fileWords
-  said-nothing h = rw (eq-eqb (numberOf found) 0 (sym ea ∙ h))
+module _ (found asked : File) (a b : ℕ) (ea : a ≡ inputNumber found) (eb : b ≡ inputNumber asked) where
+  pub said-nothing : a ≡ 0 → plainSaid ≡ fileSaid found asked
+  unfolding fileSaid
+  said-nothing h = rw (eq-eqb (inputNumber found) 0 (sym ea ∙ h))
 
-  pub said-same : (a ≡ 0 → ⊥) → a ≡ b → plainWords ≡ fileWords found asked
-  unfolding fileWords
-  said-same n h = rw (ne-eqb (numberOf found) 0 (λ q. n (ea ∙ q)), eq-eqb (numberOf found) (numberOf asked) (sym ea ∙ h ∙ eb))
+  pub said-same : (a ≡ 0 → ⊥) → a ≡ b → plainSaid ≡ fileSaid found asked
+  unfolding fileSaid
+  said-same n h = rw (ne-eqb (inputNumber found) 0 (λ q. n (ea ∙ q)), eq-eqb (inputNumber found) (inputNumber asked) (sym ea ∙ h ∙ eb))
 
-  pub said-other : (a ≡ 0 → ⊥) → (a ≡ b → ⊥) → otherWords found asked ≡ fileWords found asked
-  unfolding fileWords
-  said-other n m = rw (ne-eqb (numberOf found) 0 (λ q. n (ea ∙ q)), ne-eqb (numberOf found) (numberOf asked) (λ q. m (ea ∙ q ∙ sym eb)))
+  pub said-other : (a ≡ 0 → ⊥) → (a ≡ b → ⊥) → otherSaid found asked ≡ fileSaid found asked
+  unfolding fileSaid
+  said-other n m = rw (ne-eqb (inputNumber found) 0 (λ q. n (ea ∙ q)), ne-eqb (inputNumber found) (inputNumber asked) (λ q. m (ea ∙ q ∙ sym eb)))

@@ -1,4 +1,4 @@
 -- The definitions of crate `inputs`, module by module.
 pub mod Files
 pub mod Lines
-pub mod Words
+pub mod Said

@@ -3,8 +3,8 @@ use Prim.Native.Nat.{ℕ}
 use Prim.Native.String.{String}
 use mathlib.Core.List.{List, [], _∷_}
 
-unfoldable pub lines : List String
-lines =
+unfoldable pub inputLines : List String
+inputLines =
     ": "
     ∷ " is a site file; "
     ∷ " is a plan file; "

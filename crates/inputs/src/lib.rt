@@ -1,9 +1,10 @@
-// What a file is, by its first bytes; and the words after its name that say so, where another one was asked for. A function of words puts them at `at` and
+// What a file is, by its first bytes; and the sentence after its name that says so, where another one was asked for. A function of text puts it at `at` and
 // answers where the next byte goes.
+use lines::NOWHERE;
 use lines::eat_text;
 use phrases::Phrase;
 use phrases::put_phrase;
-use records::word;
+use records::two_bytes;
 ghost use mathlib.Core.Path.{_≡_};
 ghost use Prim.Native.Nat.{_+_, _≤_};
 ghost use lib.ListN.{length};
@@ -11,10 +12,8 @@ ghost use Rattle.lines.specs.Match.{starts};
 ghost use Rattle.phrases.specs.Put.{Put};
 ghost use Rattle.phrases.specs.Phrases.{phrase};
 ghost use Rattle.inputs.specs.Files.{byKind, houseFile, inputOf};
-ghost use Rattle.inputs.specs.Lines.{lines};
-ghost use Rattle.inputs.specs.Words.{numberOf, foundPhrase, askedPhrase, otherWords, fileWords};
-
-const NOWHERE: usize = 18446744073709551615;
+ghost use Rattle.inputs.specs.Lines.{inputLines};
+ghost use Rattle.inputs.specs.Said.{inputNumber, foundPhrase, askedPhrase, otherSaid, fileSaid};
 
 const PLAIN: usize = 0;
 
@@ -74,15 +73,15 @@ fn house_file(s: &[u8]) -> Input
     if s.len() < 14 {
         return Input::Other;
     }
-    let length = word(s, 0);
+    let length = two_bytes(s, 0);
     if length != 8 {
         return Input::Other;
     }
-    let kind = word(s, 2);
+    let kind = two_bytes(s, 2);
     if kind != 1 {
         return Input::Other;
     }
-    by_kind(word(s, 12))
+    by_kind(two_bytes(s, 12))
 }
 
 // Which file it is.
@@ -100,7 +99,7 @@ pub fn input_of(s: &[u8]) -> Input
 
 // The number of a file in their list; 0 for any other.
 fn number_of(input: Input) -> usize
-    ensures { λ r. ⌜ r ≡ numberOf input ⌝ }
+    ensures { λ r. ⌜ r ≡ inputNumber input ⌝ }
 {
     match input {
         Input::SiteFile => 1,
@@ -114,7 +113,7 @@ fn number_of(input: Input) -> usize
 // Puts a row of the table, or nothing.
 fn put(out: &mut [u8], at: usize, what: Phrase) -> usize
     requires { ⌜ at + 500 ≤ length (now out) ⌝ }
-    ensures { λ r. ⌜ Put (now (out .entry)) at (phrase lines what) 500 (now (out .exit)) r ⌝ }
+    ensures { λ r. ⌜ Put (now (out .entry)) at (phrase inputLines what) 500 (now (out .exit)) r ⌝ }
 {
     put_phrase(
         out,
@@ -161,16 +160,16 @@ fn asked_phrase(input: Input) -> Phrase
 // Both.
 fn put_other(out: &mut [u8], at: usize, found: Input, asked: Input) -> usize
     requires { ⌜ at + 1000 ≤ length (now out) ⌝ }
-    ensures { λ r. ⌜ Put (now (out .entry)) at (otherWords found asked) 1000 (now (out .exit)) r ⌝ }
+    ensures { λ r. ⌜ Put (now (out .entry)) at (otherSaid found asked) 1000 (now (out .exit)) r ⌝ }
 {
     let middle = put(out, at, found_phrase(found));
     put(out, middle, asked_phrase(asked))
 }
 
 // What is said after the name of a file: what it is, where its bytes show another than the one asked for.
-pub fn file_words(out: &mut [u8], at: usize, found: Input, asked: Input) -> usize
+pub fn put_file(out: &mut [u8], at: usize, found: Input, asked: Input) -> usize
     requires { ⌜ at + 1000 ≤ length (now out) ⌝ }
-    ensures { λ r. ⌜ Put (now (out .entry)) at (fileWords found asked) 1000 (now (out .exit)) r ⌝ }
+    ensures { λ r. ⌜ Put (now (out .entry)) at (fileSaid found asked) 1000 (now (out .exit)) r ⌝ }
 {
     let a = number_of(found);
     let b = number_of(asked);

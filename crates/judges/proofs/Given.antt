@@ -1,4 +1,5 @@
--- The numbers and values tell the cases of a verdict apart: from them each answer is read back. `Refused Fine` alone looks like the good verdict, and no call answers it.
+-- The numbers and values tell the cases of a verdict apart: from them each answer is read back.
+-- `Refused Fine` alone looks like the good verdict, and no call answers it.
 -- Assumes nothing.
 use Prim.Native.Nat.{ℕ}
 use mathlib.Core.Path.{_≡_, refl, sym, ap, _∙_}
@@ -28,7 +29,8 @@ use Rattle.judges.specs.declared.LeastAnswer.the-variants as least
 
 abbrev loadFrom : Given → LoadAnswer
 loadFrom g =
-    pick (eqb (g .number) 0) (pick (eqb (length (g .values)) 0) load.Holds (load.Over (getD (g .values) 0 0) (getD (g .values) 1 0))) (load.Refused (faultFrom g))
+    pick (eqb (g .number) 0) (pick (eqb (length (g .values)) 0) load.Holds (load.Over (getD (g .values) 0 0) (getD (g .values) 1 0)))
+    (load.Refused (faultFrom g))
 
 load-back : (a : LoadAnswer) → loadProper a ≡ true → loadFrom (loadGiven a) ≡ a
 load-back load.Holds p = refl
@@ -55,14 +57,16 @@ abbrev loads : (cell excess row : ℕ) → List LoadAnswer
 loads cell excess row = load.Holds ∷ load.Over cell excess ∷ load.Refused Size ∷ load.Refused (Load cell) ∷ load.Refused (Reach row) ∷ []
 
 pub load-numbers : (cell excess row : ℕ)
-    → (map (λ (a : LoadAnswer). loadGiven a .number) (loads cell excess row) ≡ 0 ∷ 0 ∷ 1 ∷ 2 ∷ 3 ∷ []) × (map (λ (a : LoadAnswer). loadGiven a .values) (loads cell excess row) ≡ [] ∷ (cell ∷ excess ∷ []) ∷ [] ∷ (cell ∷ []) ∷ (row ∷ []) ∷ [])
+    → (map (λ (a : LoadAnswer). loadGiven a .number) (loads cell excess row) ≡ 0 ∷ 0 ∷ 1 ∷ 2 ∷ 3 ∷ [])
+    × (map (λ (a : LoadAnswer). loadGiven a .values) (loads cell excess row) ≡ [] ∷ (cell ∷ excess ∷ []) ∷ [] ∷ (cell ∷ []) ∷ (row ∷ []) ∷ [])
 load-numbers cell excess row = (refl, refl)
 
 -- ---- the judge
 
 abbrev chainFrom : Given → ChainAnswer
 chainFrom g =
-    pick (eqb (g .number) 0) (pick (eqb (length (g .values)) 0) chain.Chained (chain.Broken (getD (g .values) 0 0) (getD (g .values) 1 0) (getD (g .values) 2 0))) (chain.Refused (faultFrom g))
+    pick (eqb (g .number) 0) (pick (eqb (length (g .values)) 0) chain.Chained
+    (chain.Broken (getD (g .values) 0 0) (getD (g .values) 1 0) (getD (g .values) 2 0))) (chain.Refused (faultFrom g))
 
 chain-back : (a : ChainAnswer) → chainProper a ≡ true → chainFrom (chainGiven a) ≡ a
 chain-back chain.Chained p = refl
@@ -89,14 +93,16 @@ abbrev chains : (a b c cell row : ℕ) → List ChainAnswer
 chains a b c cell row = chain.Chained ∷ chain.Broken a b c ∷ chain.Refused Size ∷ chain.Refused (Load cell) ∷ chain.Refused (Reach row) ∷ []
 
 pub chain-numbers : (a b c cell row : ℕ)
-    → (map (λ (a : ChainAnswer). chainGiven a .number) (chains a b c cell row) ≡ 0 ∷ 0 ∷ 1 ∷ 2 ∷ 3 ∷ []) × (map (λ (a : ChainAnswer). chainGiven a .values) (chains a b c cell row) ≡ [] ∷ (a ∷ b ∷ c ∷ []) ∷ [] ∷ (cell ∷ []) ∷ (row ∷ []) ∷ [])
+    → (map (λ (a : ChainAnswer). chainGiven a .number) (chains a b c cell row) ≡ 0 ∷ 0 ∷ 1 ∷ 2 ∷ 3 ∷ [])
+    × (map (λ (a : ChainAnswer). chainGiven a .values) (chains a b c cell row) ≡ [] ∷ (a ∷ b ∷ c ∷ []) ∷ [] ∷ (cell ∷ []) ∷ (row ∷ []) ∷ [])
 chain-numbers a b c cell row = (refl, refl)
 
 -- ---- the least number of channel-slots
 
 abbrev leastFrom : Given → LeastAnswer
 leastFrom g =
-    pick (eqb (g .number) 0) (pick (eqb (getD (g .values) 1 0) 0) (least.Least (getD (g .values) 0 0)) (least.Enough (getD (g .values) 0 0))) (least.Refused (faultFrom g))
+    pick (eqb (g .number) 0) (pick (eqb (getD (g .values) 1 0) 0) (least.Least (getD (g .values) 0 0)) (least.Enough (getD (g .values) 0 0)))
+    (least.Refused (faultFrom g))
 
 least-back : (a : LeastAnswer) → leastProper a ≡ true → leastFrom (leastGiven a) ≡ a
 least-back (least.Least n) p = refl
@@ -125,5 +131,6 @@ abbrev leasts : (n cell row : ℕ) → List LeastAnswer
 leasts n cell row = least.Least n ∷ least.Enough n ∷ least.Refused Size ∷ least.Refused (Load cell) ∷ least.Refused (Reach row) ∷ []
 
 pub least-numbers : (n cell row : ℕ)
-    → (map (λ (a : LeastAnswer). leastGiven a .number) (leasts n cell row) ≡ 0 ∷ 0 ∷ 1 ∷ 2 ∷ 3 ∷ []) × (map (λ (a : LeastAnswer). leastGiven a .values) (leasts n cell row) ≡ (n ∷ 0 ∷ []) ∷ (n ∷ 1 ∷ []) ∷ [] ∷ (cell ∷ []) ∷ (row ∷ []) ∷ [])
+    → (map (λ (a : LeastAnswer). leastGiven a .number) (leasts n cell row) ≡ 0 ∷ 0 ∷ 1 ∷ 2 ∷ 3 ∷ [])
+    × (map (λ (a : LeastAnswer). leastGiven a .values) (leasts n cell row) ≡ (n ∷ 0 ∷ []) ∷ (n ∷ 1 ∷ []) ∷ [] ∷ (cell ∷ []) ∷ (row ∷ []) ∷ [])
 least-numbers n cell row = (refl, refl)

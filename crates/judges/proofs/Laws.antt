@@ -1,4 +1,5 @@
--- What the searches over the clash rows and the word of who counts find is what the definitions name: rows state the clash relation, and below I the word says who counts.
+-- What the searches over the clash rows and the word of who counts find is what the definitions name:
+-- rows state the clash relation, and below I the word says who counts.
 -- Assumes nothing.
 use Prim.Native.Nat.{ℕ, _+_, _-_, _≤_, _<_, zero-le}
 use mathlib.Core.Bool.{Bool, _&&_}
@@ -26,9 +27,10 @@ use Rattle.site.specs.declared.Fault.the-variants.{Fine}
 use Rattle.site.proofs.Faults.{fine-sized}
 use Rattle.site.proofs.Reach.{clash-sym}
 use Rattle.judges.specs.Judges.{counted, loadAnswer, chainAnswer, leastAnswer}
-use Rattle.chainwords.specs.Chain.{chainIn}
+use Rattle.chainwords.specs.Chain.{chainIn, gapIn, breakIn}
 use Rattle.chainwords.proofs.Laws.{break-least, break-inside, gap-same, break-same, first-break-same}
-use Rattle.judges.specs.Words.{demandIn, overIn, askedIn}
+use Rattle.chainwords.proofs.Rows.{gap-row, break-row}
+use Rattle.judges.specs.Words.{demandAt, overIn, demandCounted}
 use Rattle.judges.specs.declared.LoadAnswer.the-variants as load
 use Rattle.judges.specs.declared.ChainAnswer.the-variants as chain
 use Rattle.judges.specs.declared.LeastAnswer.the-variants as least
@@ -42,7 +44,7 @@ over s who i e h =
     rw e (ltb-true _ _ (both (who (lowestOver s who)) _ (first-passes (overloaded s who) 0 (s .cells) (omega arith) (rw e at h)) .1))
 
 -- the demand by a clash row is the definition's, since clash is symmetric
-pub demand-is : (s : Site) (rows : List ℕ) → bitIn rows ≡ clashOf s → (i : ℕ) → demandIn (s .loads) (getD rows i 0) i ≡ demand (netOf s) i
+pub demand-is : (s : Site) (rows : List ℕ) → bitIn rows ≡ clashOf s → (i : ℕ) → demandAt (s .loads) (getD rows i 0) i ≡ demand (netOf s) i
 demand-is s rows relation i =
     ap (λ (n : ℕ). getD (s .loads) i 0 + n)
     (sum-eq (λ j. pick (bitIn rows i j) (getD (s .loads) j 0) 0) (λ j. pick (clashOf s j i) (getD (s .loads) j 0) 0) i
@@ -85,17 +87,18 @@ module _ (s : Site) (fine : faultOf s ≡ Fine) (rows : List ℕ) (relation : bi
       ∙ first-break-same (netOf s) (bitAt who) (counted s) (counts-is s fine who word)
 
   pub chain-broken : (c b : ℕ) → a < s .cells
-      → c ≡ breakOf (chainIn (s .cells) (λ _. bitIn rows a)) (bitAt who) a → b ≡ gap (chainIn c (λ _. bitIn rows a)) (bitAt who) a c
+      → c ≡ breakIn (getD rows a 0) who a (s .cells) → b ≡ gapIn (getD rows a 0) who a c
       → chainAnswer s ≡ chain.Broken (a + 1) (b + 1) (c + 1)
   unfolding chainAnswer chainVerdict breakOf breaks gap
   chain-broken c b h p q =
       let agree = counts-is s fine who word in
       let p′ : c ≡ breakOf (netOf s) (counted s) a =
-      p ∙ ap (λ (r : ℕ → ℕ → Bool). breakOf (chainIn (s .cells) (λ _. r a)) (bitAt who) a) relation ∙ break-same (netOf s) (bitAt who) (counted s) agree a h in
+      p ∙ break-row rows who (s .cells) a h ∙ ap (λ (r : ℕ → ℕ → Bool). breakOf (chainIn (s .cells) r) (bitAt who) a) relation
+      ∙ break-same (netOf s) (bitAt who) (counted s) agree a h in
       let low = break-least (netOf s) (counted s) a in
       let high = break-inside (netOf s) (counted s) a first-is-named h in
       let q′ : b ≡ gap (netOf s) (counted s) a c =
-      q ∙ ap (λ (r : ℕ → ℕ → Bool). gap (chainIn c (λ _. r a)) (bitAt who) a c) relation
+      q ∙ gap-row rows who (s .cells) a c ∙ ap (λ (r : ℕ → ℕ → Bool). gap (chainIn (s .cells) r) (bitAt who) a c) relation
       ∙ gap-same (netOf s) (bitAt who) (counted s) agree a c (omega arith) (omega arith) in
       simp (fine, sym first-is-named, lt-ltb a (s .cells) h, sym p′, sym q′)
 
@@ -107,13 +110,13 @@ module _ (s : Site) (fine : faultOf s ≡ Fine) (rows : List ℕ) (relation : bi
 
 -- what the call answers for a record with no fault: n is the greatest of what the rows ask, a the first cell that some cell breaks the chain with
 module _ (s : Site) (fine : faultOf s ≡ Fine) (rows : List ℕ) (relation : bitIn rows ≡ clashOf s) (who : ℕ) (word : who ≡ wordOf (counted s) 32)
-    (n : ℕ) (e : n ≡ most (λ i. askedIn (s .loads) (getD rows i 0) who i) (s .cells))
+    (n : ℕ) (e : n ≡ most (λ i. demandCounted (s .loads) (getD rows i 0) who i) (s .cells))
     (a : ℕ) (d : a ≡ firstBreak (chainIn (s .cells) (bitIn rows)) (bitAt who)) where
   most-is : n ≡ mostDemand (netOf s) (counted s)
   unfolding mostDemand
   most-is =
       e
-      ∙ most-same (λ i. askedIn (s .loads) (getD rows i 0) who i) (asks (netOf s) (counted s)) (s .cells)
+      ∙ most-same (λ i. demandCounted (s .loads) (getD rows i 0) who i) (asks (netOf s) (counted s)) (s .cells)
       (λ i h. ap₂ (λ t x. pick t x 0) (counts-is s fine who word i h) (demand-is s rows relation i))
 
   broken-here : a ≡ firstBreak (netOf s) (counted s)

@@ -1,5 +1,5 @@
--- What the calls say: Holds and Chained exactly where a record without fault has the property; where a cell or a triple is named, it is the first, by the theory's laws. And
--- Least and Enough exactly on the chain and off it, with the greatest demand.
+-- What the calls say: Holds and Chained exactly where a record without fault has the property; where a cell or a triple is named, it is the first,
+-- by the theory's laws. And Least and Enough exactly on the chain and off it, with the greatest demand.
 -- Assumes nothing.
 use Prim.Native.Nat.{ℕ, _+_, _<_}
 use mathlib.Core.Logic.{_↔_}

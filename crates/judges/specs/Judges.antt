@@ -1,4 +1,5 @@
--- The load test, the chain judge and the least number of channel-slots, as calls on a site record: the record's fault, or the theory's verdict on the problem that the record states.
+-- The load test, the chain judge and the least number of channel-slots, as calls on a site record:
+-- the record's fault, or the theory's verdict on the problem that the record states.
 -- "Load test and chain judge are verdicts; they refuse only with 1 to 3." Cells are named by number, from 1.
 use Prim.Native.Nat.{ℕ, _+_}
 use mathlib.Core.Bool.{Bool}
@@ -17,8 +18,8 @@ use Rattle.judges.specs.declared.ChainAnswer.the-variants as chain
 use Rattle.judges.specs.declared.LeastAnswer.{LeastAnswer}
 use Rattle.judges.specs.declared.LeastAnswer.the-variants as least
 
--- The cells that the two rules are about, by the loads. W2: "From now on the chain rule is about cells with load above 0 only, as a, b and c, and the load test skips cells
--- with load 0. This mends document 01".
+-- The cells that the two rules are about, by the loads. W2: "From now on the chain rule is about cells with load above 0 only, as a, b and c,
+-- and the load test skips cells with load 0. This mends document 01".
 abbrev pub countedIn : List ℕ → ℕ → Bool
 countedIn loads i = ltb 0 (getD loads i 0)
 
@@ -42,7 +43,8 @@ chainOf (broken a b c) = chain.Broken (a + 1) (b + 1) (c + 1)
 unfoldable pub chainAnswer : Site → ChainAnswer
 chainAnswer s = pick (isFine (faultOf s)) (chainOf (chainVerdict (netOf s) (counted s))) (chain.Refused (faultOf s))
 
--- "On a chained site also the least number of channel-slots that would do": the greatest demand of a cell with load above 0. The site's own slots and channels play no part.
+-- On a chained site also the least number of channel-slots that would do: the greatest demand of a cell with load above 0.
+-- The site's own slots and channels play no part.
 -- Off the chain so many are enough, since the load test then holds; fewer may be enough, too. (Named in proofs/Meaning.antt.)
 abbrev pub leastOf : ChainVerdict → ℕ → LeastAnswer
 leastOf chained n = least.Least n

@@ -9,13 +9,13 @@ use Rattle.laws.specs.Choice.{pick}
 use Rattle.words.specs.Loads.{loadsBelow}
 
 -- "its load plus the loads of its lower-numbered clashing cells", by the cell's clash row
-abbrev pub demandIn : List ℕ → ℕ → ℕ → ℕ
-demandIn loads row i = getD loads i 0 + loadsBelow loads row i
+abbrev pub demandAt : List ℕ → ℕ → ℕ → ℕ
+demandAt loads row i = getD loads i 0 + loadsBelow loads row i
 
 -- whether the cell counts, and its demand is above the room
 abbrev pub overIn : List ℕ → ℕ → ℕ → ℕ → ℕ → Bool
-overIn loads row who room i = bitAt who i && ltb room (demandIn loads row i)
+overIn loads row who room i = bitAt who i && ltb room (demandAt loads row i)
 
 -- what the cell asks of the room: its demand where it counts, else 0
-abbrev pub askedIn : List ℕ → ℕ → ℕ → ℕ → ℕ
-askedIn loads row who i = pick (bitAt who i) (demandIn loads row i) 0
+abbrev pub demandCounted : List ℕ → ℕ → ℕ → ℕ → ℕ
+demandCounted loads row who i = pick (bitAt who i) (demandAt loads row i) 0

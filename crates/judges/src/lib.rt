@@ -1,12 +1,13 @@
-// The verdicts on a site: the load test, the judge of the chain, and the least number of channel-slots that do. All ask the clash rows and the word of the cells that count, those with load above 0. The chain
-// goes from one cell of a word to the next without a look at those between.
+// The verdicts on a site: the load test, the judge of the chain, and the least number of channel-slots that do.
+// All ask the clash rows and the word of the cells that count, those with load above 0.
+// The chain goes from one cell of a word to the next without a look at those between.
 ghost use mathlib.Core.Path.{_≡_};
 ghost use Prim.Native.Nat.{_≤_, _<_};
 ghost use lib.ListN.{getD};
 ghost use Rattle.laws.specs.Most.{most};
 ghost use Rattle.laws.specs.Search.{first};
 ghost use Rattle.judges.specs.Judges.{loadAnswer, chainAnswer, leastAnswer};
-ghost use Rattle.judges.specs.Words.{demandIn, overIn, askedIn};
+ghost use Rattle.judges.specs.Words.{demandAt, overIn, demandCounted};
 use chainwords::break_of;
 use chainwords::first_break;
 use chainwords::gap;
@@ -42,7 +43,7 @@ pub enum LeastAnswer {
 // The load of cell i, and the loads of the cells below i in its clash row.
 fn demand(loads: &[u16; 32], row: u32, i: usize) -> u32
     requires { ⌜ i < 32 ⌝ }
-    ensures { λ r. ⌜ r ≡ demandIn (now (loads .entry)) row i ⌝ }
+    ensures { λ r. ⌜ r ≡ demandAt (now (loads .entry)) row i ⌝ }
 {
     wide(loads[i]) + loads_of(loads, row & ((1 << i) - 1))
 }
@@ -118,7 +119,7 @@ pub fn chain(site: Site) -> ChainAnswer
 // What a cell asks of the room: its demand where it counts, else 0.
 fn asked(loads: &[u16; 32], row: u32, who: u32, i: usize) -> u32
     requires { ⌜ i < 32 ⌝ }
-    ensures { λ r. ⌜ r ≡ askedIn (now (loads .entry)) row who i ⌝ }
+    ensures { λ r. ⌜ r ≡ demandCounted (now (loads .entry)) row who i ⌝ }
 {
     if has(who, i) {
         return demand(loads, row, i);
@@ -129,7 +130,7 @@ fn asked(loads: &[u16; 32], row: u32, who: u32, i: usize) -> u32
 // The greatest demand of the cells that count.
 fn most_demand(loads: &[u16; 32], clash: &[u32; 32], who: u32, cells: usize) -> u32
     requires { ⌜ cells ≤ 32 ⌝ }
-    ensures { λ r. ⌜ r ≡ most (λ i. askedIn (now (loads .entry)) (getD (now (clash .entry)) i 0) who i) cells ⌝ }
+    ensures { λ r. ⌜ r ≡ most (λ i. demandCounted (now (loads .entry)) (getD (now (clash .entry)) i 0) who i) cells ⌝ }
 {
     let mut greatest: u32 = 0;
     let mut i = 0;

@@ -1,4 +1,5 @@
--- The first few of the numbers that pass a test: how many they are, when a loop that counts down what is left takes a number, and that none is taken once nothing is left.
+-- The first few of the numbers that pass a test: how many they are, when a loop that counts down what is left takes a number,
+-- and that none is taken once nothing is left.
 -- Assumes nothing.
 use mathlib.Core.Path.{_≡_, refl, sym, ap, _∙_}
 use mathlib.Core.Bool.{Bool, true, false, _&&_, and-false}

@@ -1,4 +1,5 @@
--- The lowest bit of a word from a place on, as a program finds it by counting zeros, is the first number from there on that the word has: both go digit by digit.
+-- The lowest bit of a word from a place on, as a program finds it by counting zeros, is the first number from there on that the word has:
+-- both go digit by digit.
 -- And the bits of a word that a program cuts, turns or fills. Assumes nothing.
 use Prim.Native.Nat.{ℕ, zero, suc, _+_, _-_, _*_, _/_, _%_, _^_, _≤_, _<_}
 use mathlib.Core.Bool.{Bool, true, false, not, _||_, true≢false}

@@ -1,5 +1,5 @@
--- The lowest number of a word, found by counting zeros, and the word without it, `x & (x - 1)`: below the lowest bit x has zeros and x - 1 has ones, and above it they
--- are the same. Assumes nothing.
+-- The lowest number of a word, found by counting zeros, and the word without it, `x & (x - 1)`: below the lowest bit x has zeros and x - 1 has ones,
+-- and above it they are the same. Assumes nothing.
 use Prim.Native.Nat.{ℕ, zero, suc, _+_, _-_, _*_, _/_, _%_, _^_, _≤_, _<_, zero-le}
 use mathlib.Core.Bool.{Bool, true, false, _&&_, true≢false}
 use mathlib.Core.Logic.{⊎-elim}
@@ -61,7 +61,13 @@ module _ (p : ℕ → Bool) (i : ℕ) (passes : p i ≡ true) (below : (j : ℕ)
   apart : (d : ℕ) → wordOf p (suc (i + d)) ≡ wordOf (λ j. leb (i + 1) j && p j) (suc (i + d)) + 2 ^ i
   apart zero =
       let e : i + 0 ≡ i = omega arith in
-      rw (e, word-suc p i, none-word p i below, passes, none-word (λ j. leb (i + 1) j && p j) (suc i) (λ j l. ap (λ b. b && p j) (lt-leb (i + 1) j (omega arith)))) refl
+      rw (
+        e,
+        word-suc p i,
+        none-word p i below,
+        passes,
+        none-word (λ j. leb (i + 1) j && p j) (suc i) (λ j l. ap (λ b. b && p j) (lt-leb (i + 1) j (omega arith))),
+      ) refl
   apart (suc d) =
       let e : i + suc d ≡ suc (i + d) = omega arith in
       rw (e, word-suc p (suc (i + d)), word-suc (λ j. leb (i + 1) j && p j) (suc (i + d)), le-leb (i + 1) (suc (i + d)) (omega arith))

@@ -1,5 +1,5 @@
--- The laws of words: their bits, their size, one number more, what two words share, the empty word, and a number as the word of its bits. By how many numbers are
--- asked.
+-- The laws of words: their bits, their size, one number more, what two words share, the empty word, and a number as the word of its bits.
+-- By how many numbers are asked.
 -- Assumes nothing.
 use mathlib.Core.Path.{_≡_, refl, sym, ap, ap₂, _∙_}
 use mathlib.Core.Bool.{Bool, true, false, _&&_, _||_, not, and-true, and-false, or-true, or-false, Bool·not-not}

@@ -1,4 +1,4 @@
--- The greatest of some numbers. Every "the most that .." of the product is said by this one form.
+-- The greatest of some numbers. Where the product says the most of something, it is by this one form.
 use Prim.Native.Nat.{ℕ, zero, suc}
 use lib.Dec.{ltb}
 use Rattle.laws.specs.Choice.{pick}

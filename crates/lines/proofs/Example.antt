@@ -5,7 +5,7 @@ use mathlib.Core.Path.{_≡_, refl}
 use Rattle.text.specs.Decimal.{digitsOf, decimal}
 use Rattle.lines.specs.Match.{starts}
 use Rattle.lines.specs.Format.{column, columns, header, bitsOf, marks, label, cellLine}
-use Rattle.lines.specs.Content.{more, scanned, loadIn, marksIn, markAt, lineIn, lineOk, columnsIn, cellsIn, headOk}
+use Rattle.lines.specs.Content.{more, scanned, loadOfLine, marksOfLine, markOfLine, lineIn, lineOk, columnsIn, cellsOfLine, headOk}
 
 -- the first lines of 3 and of 10 cells; cell 2 with load 1 reaches cells 1 and 3; cell 1 with load 65,535 reaches cell 3
 pub lines-written :
@@ -34,7 +34,7 @@ pub heads-judged :
     ∷ (99 ∷ 101 ∷ 108 ∷ 108 ∷ 44 ∷ 108 ∷ 111 ∷ 97 ∷ 100 ∷ 44 ∷ 49 ∷ 10 ∷ 13 ∷ [])
     ∷ [])
     ≡ true ∷ false ∷ false ∷ false ∷ false ∷ false ∷ false ∷ []
-unfolding headOk cellsIn columnsIn starts header columns column decimal digitsOf
+unfolding headOk cellsOfLine columnsIn starts header columns column decimal digitsOf
 heads-judged = refl
 
 -- lines of one cell: 1,5,0 and 1,0,1 and 1,65535,0; a load of 65,536; leading zeros, twice; cell 0; semicolons; a mark 2; no load; LF alone; LF CR
@@ -54,5 +54,5 @@ pub lines-judged :
     ∷ (49 ∷ 44 ∷ 53 ∷ 44 ∷ 48 ∷ 10 ∷ 13 ∷ [])
     ∷ [])
     ≡ true ∷ true ∷ true ∷ false ∷ false ∷ false ∷ false ∷ false ∷ false ∷ false ∷ false ∷ false ∷ []
-unfolding lineOk loadIn scanned more label lineIn cellLine marksIn markAt marks starts decimal digitsOf
+unfolding lineOk loadOfLine scanned more label lineIn cellLine marksOfLine markOfLine marks starts decimal digitsOf
 lines-judged = refl

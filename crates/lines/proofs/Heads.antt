@@ -16,7 +16,7 @@ use Rattle.text.specs.Decimal.{decimal}
 use Rattle.lines.specs.Match.{starts, nowhere, eaten}
 use Rattle.lines.specs.Format.{commaByte, cellNumber, crByte, lfByte, crlf, column, columns, cellLoad, header}
 use Rattle.lines.specs.declared.Head.{Head}
-use Rattle.lines.specs.Content.{columnsIn, columnsRead, cellsIn, headOk, noHead, headRead}
+use Rattle.lines.specs.Content.{columnsIn, columnsRead, cellsOfLine, headOk, noHead, headRead}
 use Rattle.lines.proofs.Match.{starts-is, starts-there, starts-long, eaten-append}
 use Rattle.lines.proofs.Steps.{eaten-lost, eaten-there, eaten-not}
 
@@ -64,7 +64,8 @@ module _ (s : List ℕ) (short : length s < nowhere) where
       b ∙ ap (λ (i : ℕ). eaten s i (column (cellNumber k))) a ∙ eaten-append s at (columns 0 k) (column (cellNumber k)) (omega arith)
       ∙ ap (eaten s at) (sym (columns-snoc k 0 ∙ ap (λ (i : ℕ). columns 0 k ++ column i) (omega arith)))
 
-  pub columns-end : (at p k : ℕ) → p ≡ eaten s at (columns 0 k) → columnsIn (32 - k) k (drop p s) ≡ columnsIn 32 0 (drop at s) → columnsIn (32 - k) k (drop p s) ≡ k → record { cells = k; next = p } ≡ columnsRead s at
+  pub columns-end : (at p k : ℕ) → p ≡ eaten s at (columns 0 k) → columnsIn (32 - k) k (drop p s) ≡ columnsIn 32 0 (drop at s)
+      → columnsIn (32 - k) k (drop p s) ≡ k → record { cells = k; next = p } ≡ columnsRead s at
   unfolding columnsRead
   columns-end at p k a b c = rw (sym b ∙ c, a)
 
@@ -79,26 +80,27 @@ module _ (s : List ℕ) (short : length s < nowhere) where
 -- ---- the first line
 
 module _ (s : List ℕ) (short : length s < nowhere) where
-  head-some : 0 < length (header (cellsIn s))
+  head-some : 0 < length (header (cellsOfLine s))
   unfolding header
   head-some = omega arith
 
-  pub head-lost : eaten s 0 (header (cellsIn s)) ≡ nowhere → noHead ≡ headRead s
+  pub head-lost : eaten s 0 (header (cellsOfLine s)) ≡ nowhere → noHead ≡ headRead s
   unfolding headRead headOk
-  head-lost e = rw (eaten-not s 0 _ short head-some e) (go (leb 1 (cellsIn s)))
+  head-lost e = rw (eaten-not s 0 _ short head-some e) (go (leb 1 (cellsOfLine s)))
     where
-      go : (t : Bool) → noHead ≡ pick (t && false) (record { cells = cellsIn s; next = length (header (cellsIn s)) }) noHead
+      go : (t : Bool) → noHead ≡ pick (t && false) (record { cells = cellsOfLine s; next = length (header (cellsOfLine s)) }) noHead
       go true = refl
       go false = refl
 
-  pub head-none : cellsIn s < 1 → noHead ≡ headRead s
+  pub head-none : cellsOfLine s < 1 → noHead ≡ headRead s
   unfolding headRead headOk
   head-none h = rw (lt-leb _ _ h)
 
-  head-there : 1 ≤ cellsIn s → (eaten s 0 (header (cellsIn s)) ≡ nowhere → ⊥) → record { cells = cellsIn s; next = eaten s 0 (header (cellsIn s)) } ≡ headRead s
+  head-there : 1 ≤ cellsOfLine s → (eaten s 0 (header (cellsOfLine s)) ≡ nowhere → ⊥)
+      → record { cells = cellsOfLine s; next = eaten s 0 (header (cellsOfLine s)) } ≡ headRead s
   unfolding headRead headOk
   head-there h e =
-      let t = eaten-there s 0 (header (cellsIn s)) e in
+      let t = eaten-there s 0 (header (cellsOfLine s)) e in
       rw (le-leb _ _ h, t .0, t .1 ∙ zero-add _)
 
   module _ (a : ℕ) (begun : a ≡ eaten s 0 cellLoad) where
@@ -110,24 +112,24 @@ module _ (s : List ℕ) (short : length s < nowhere) where
       begin-end : a ≡ 9
       begin-end = begun ∙ eaten-there s 0 cellLoad (λ e. on (begun ∙ e)) .1
 
-      pub cells-are : h .cells ≡ cellsIn s
-      unfolding cellsIn columnsRead
+      pub cells-are : h .cells ≡ cellsOfLine s
+      unfolding cellsOfLine columnsRead
       cells-are = ap (λ (x : Head). x .cells) read ∙ ap (λ (i : ℕ). columnsIn 32 0 (drop i s)) begin-end
 
-      place-is : h .next ≡ eaten s a (columns 0 (cellsIn s))
-      unfolding cellsIn columnsRead
+      place-is : h .next ≡ eaten s a (columns 0 (cellsOfLine s))
+      unfolding cellsOfLine columnsRead
       place-is = ap (λ (x : Head). x .next) read ∙ ap (λ (i : ℕ). eaten s a (columns 0 (columnsIn 32 0 (drop i s)))) begin-end
 
       pub no-cells : h .cells < 1 → noHead ≡ headRead s
       no-cells l = head-none (omega (arith, cells-are))
 
       module _ (cr end : ℕ) (p : cr ≡ eaten s (h .next) (crByte ∷ [])) (q : end ≡ eaten s cr (lfByte ∷ [])) where
-        end-is : end ≡ eaten s 0 (header (cellsIn s))
+        end-is : end ≡ eaten s 0 (header (cellsOfLine s))
         unfolding header
         end-is =
             q ∙ ap (λ (i : ℕ). eaten s i (lfByte ∷ [])) p ∙ eaten-append s (h .next) (crByte ∷ []) (lfByte ∷ []) (omega arith)
             ∙ ap (λ (i : ℕ). eaten s i crlf) place-is ∙ eaten-append s a _ crlf (omega arith)
-            ∙ ap (λ (i : ℕ). eaten s i (columns 0 (cellsIn s) ++ crlf)) begun ∙ eaten-append s 0 cellLoad _ (omega arith)
+            ∙ ap (λ (i : ℕ). eaten s i (columns 0 (cellsOfLine s) ++ crlf)) begun ∙ eaten-append s 0 cellLoad _ (omega arith)
 
         pub no-head-end : end ≡ nowhere → noHead ≡ headRead s
         no-head-end e = head-lost (sym end-is ∙ e)
@@ -156,8 +158,8 @@ columns-written (suc n) (suc m) k r h =
     ∙ columns-written n m (suc k) r (omega arith)
     ∙ omega arith
 
-pub cells-written : (n : ℕ) (r : List ℕ) → n ≤ 32 → cellsIn (header n ++ r) ≡ n
-unfolding cellsIn header
+pub cells-written : (n : ℕ) (r : List ℕ) → n ≤ 32 → cellsOfLine (header n ++ r) ≡ n
+unfolding cellsOfLine header
 cells-written n r h = rw (append-assoc (columns 0 n) crlf r) (columns-written n 32 0 r h ∙ zero-add n)
 
 pub head-written : (n : ℕ) (r : List ℕ) → 1 ≤ n → n ≤ 32 → headOk (header n ++ r) ≡ true
@@ -165,7 +167,7 @@ unfolding headOk
 head-written n r l h = rw (cells-written n r h, le-leb 1 n l) (starts-there (header n) r)
 
 -- a first line that is well is there
-pub head-is : (r : List ℕ) → headOk r ≡ true → (1 ≤ cellsIn r) × (r ≡ header (cellsIn r) ++ drop (length (header (cellsIn r))) r)
+pub head-is : (r : List ℕ) → headOk r ≡ true → (1 ≤ cellsOfLine r) × (r ≡ header (cellsOfLine r) ++ drop (length (header (cellsOfLine r))) r)
 unfolding headOk
 head-is r h = let b = both _ _ h in (leb-true _ _ (b .0), starts-is _ _ (b .1))
 
@@ -179,14 +181,14 @@ few (suc n) k r = go (starts (column (cellNumber k)) r) (few n (suc k) (drop (le
     go true h = omega arith
     go false h = omega arith
 
-pub cells-few : (r : List ℕ) → cellsIn r ≤ 32
-unfolding cellsIn
+pub cells-few : (r : List ℕ) → cellsOfLine r ≤ 32
+unfolding cellsOfLine
 cells-few r = few 32 0 (drop 9 r)
 
 -- ---- what the answer says
 
 module _ (s : List ℕ) (short : length s < nowhere) where
-  told : (t : Bool) → headOk s ≡ t → headRead s ≡ pick t (record { cells = cellsIn s; next = length (header (cellsIn s)) }) noHead
+  told : (t : Bool) → headOk s ≡ t → headRead s ≡ pick t (record { cells = cellsOfLine s; next = length (header (cellsOfLine s)) }) noHead
   unfolding headRead
   told t e = rw e
 
@@ -195,13 +197,14 @@ module _ (s : List ℕ) (short : length s < nowhere) where
   head-bad h e n =
       refute _
       (λ t.
-      let b : length (header (cellsIn s)) ≤ length s = starts-long _ _ (both (leb 1 (cellsIn s)) (starts (header (cellsIn s)) s) t .1) in
-      let z : length (header (cellsIn s)) ≡ nowhere = sym (ap (λ (x : Head). x .next) (e ∙ told true t)) ∙ n in
+      let b : length (header (cellsOfLine s)) ≤ length s = starts-long _ _ (both (leb 1 (cellsOfLine s)) (starts (header (cellsOfLine s)) s) t .1) in
+      let z : length (header (cellsOfLine s)) ≡ nowhere = sym (ap (λ (x : Head). x .next) (e ∙ told true t)) ∙ n in
       omega (arith, b, z))
 
-  pub head-good : (h : Head) → h ≡ headRead s → (h .next ≡ nowhere → ⊥) → (headOk s ≡ true) × (h ≡ record { cells = cellsIn s; next = length (header (cellsIn s)) })
+  pub head-good : (h : Head) → h ≡ headRead s → (h .next ≡ nowhere → ⊥)
+      → (headOk s ≡ true) × (h ≡ record { cells = cellsOfLine s; next = length (header (cellsOfLine s)) })
   head-good h e n = go (headOk s) refl
     where
-      go : (t : Bool) → headOk s ≡ t → (headOk s ≡ true) × (h ≡ record { cells = cellsIn s; next = length (header (cellsIn s)) })
+      go : (t : Bool) → headOk s ≡ t → (headOk s ≡ true) × (h ≡ record { cells = cellsOfLine s; next = length (header (cellsOfLine s)) })
       go true p = (p, e ∙ told true p)
       go false p = absurd (n (ap (λ (x : Head). x .next) (e ∙ told false p)))

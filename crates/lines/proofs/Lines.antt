@@ -13,14 +13,14 @@ use Rattle.laws.specs.Sum.{bit}
 use Rattle.laws.proofs.Choice.{both}
 use Rattle.text.specs.Decimal.{decimal}
 use Rattle.lines.specs.Format.{commaByte, crlf, bitsOf, marks, label, cellLine}
-use Rattle.lines.specs.Content.{scanned, loadIn, marksIn, markAt, weigh, rowIn, lineIn, lineOk}
+use Rattle.lines.specs.Content.{scanned, loadOfLine, marksOfLine, markOfLine, weigh, rowOfLine, lineIn, lineOk}
 use Rattle.lines.proofs.Match.{starts-is, starts-there}
 use Rattle.lines.proofs.Numbers.{scanned-decimal, scanned-end}
 
 -- ---- the marks and their row
 
-pub mark-two : (r : List ℕ) (b : ℕ) → markAt r b < 2
-unfolding markAt
+pub mark-two : (r : List ℕ) (b : ℕ) → markOfLine r b < 2
+unfolding markOfLine
 mark-two r b = go (eqb (getD r (2 * b + 1) 0) 49)
   where
     go : (t : Bool) → bit t < 2
@@ -105,17 +105,18 @@ module _ (n k load : ℕ) (f : ℕ → ℕ) (r : List ℕ) (few : load < 100000)
   comma zero h = absurd (omega arith)
   comma (suc m) h = scanned-end load commaByte _ (omega arith)
 
-  pub load-written : 0 < n → loadIn k (cellLine n k load f ++ r) ≡ load
-  unfolding loadIn
+  pub load-written : 0 < n → loadOfLine k (cellLine n k load f ++ r) ≡ load
+  unfolding loadOfLine
   load-written h = rw after-label (scanned-decimal load _ few ∙ comma n h)
 
   module _ (some : 0 < n) where
-    marks-written : marksIn k (cellLine n k load f ++ r) ≡ marks f 0 n ++ (crlf ++ r)
-    unfolding marksIn
-    marks-written = rw (load-written some, whole, drop-append-add (label k) (decimal load ++ (marks f 0 n ++ (crlf ++ r))) (length (decimal load))) (drop-append-seam (decimal load) _)
+    marks-written : marksOfLine k (cellLine n k load f ++ r) ≡ marks f 0 n ++ (crlf ++ r)
+    unfolding marksOfLine
+    marks-written = rw (load-written some, whole, drop-append-add (label k) (decimal load ++ (marks f 0 n ++ (crlf ++ r))) (length (decimal load)))
+        (drop-append-seam (decimal load) _)
 
-    pub mark-written : (i : ℕ) → i < n → markAt (marksIn k (cellLine n k load f ++ r)) i ≡ f i
-    unfolding markAt
+    pub mark-written : (i : ℕ) → i < n → markOfLine (marksOfLine k (cellLine n k load f ++ r)) i ≡ f i
+    unfolding markOfLine
     mark-written i h =
         rw (marks-written, marks-at f n 0 i (crlf ++ r) h, zero-add i) (digit-bit (f i) (two i))
 
@@ -123,24 +124,24 @@ module _ (n k load : ℕ) (f : ℕ → ℕ) (r : List ℕ) (few : load < 100000)
     pub line-written : lineIn n k (cellLine n k load f ++ r) ≡ cellLine n k load f
     unfolding lineIn cellLine
     line-written =
-        rw (load-written some, marks-same (markAt (marksIn k (cellLine n k load f ++ r))) f n 0 (λ i h. rw (zero-add i) (mark-written i h)))
+        rw (load-written some, marks-same (markOfLine (marksOfLine k (cellLine n k load f ++ r))) f n 0 (λ i h. rw (zero-add i) (mark-written i h)))
 
     pub ok-written : load ≤ 65535 → lineOk n k (cellLine n k load f ++ r) ≡ true
     unfolding lineOk
     ok-written h = rw (load-written some, le-leb load 65535 h, line-written) (starts-there (cellLine n k load f) r)
 
-    pub row-written : (x : ℕ) → x < 2 ^ n → ((i : ℕ) → i < n → f i ≡ x / 2 ^ i % 2) → rowIn n k (cellLine n k load f ++ r) ≡ x
-    unfolding rowIn
-    row-written x l same = bits-weigh (markAt (marksIn k (cellLine n k load f ++ r))) n 0 x l (λ i h. rw (zero-add i) (mark-written i h ∙ same i h))
+    pub row-written : (x : ℕ) → x < 2 ^ n → ((i : ℕ) → i < n → f i ≡ x / 2 ^ i % 2) → rowOfLine n k (cellLine n k load f ++ r) ≡ x
+    unfolding rowOfLine
+    row-written x l same = bits-weigh (markOfLine (marksOfLine k (cellLine n k load f ++ r))) n 0 x l (λ i h. rw (zero-add i) (mark-written i h ∙ same i h))
 
 -- a line that is well is there
-pub line-there : (n k : ℕ) (r : List ℕ) → lineOk n k r ≡ true → (loadIn k r ≤ 65535) × (r ≡ lineIn n k r ++ drop (length (lineIn n k r)) r)
+pub line-there : (n k : ℕ) (r : List ℕ) → lineOk n k r ≡ true → (loadOfLine k r ≤ 65535) × (r ≡ lineIn n k r ++ drop (length (lineIn n k r)) r)
 unfolding lineOk
 line-there n k r h = let b = both _ _ h in (leb-true _ _ (b .0), starts-is _ _ (b .1))
 
 -- and it is written from its load and its row
-pub line-content : (n k : ℕ) (r : List ℕ) → cellLine n k (loadIn k r) (bitsOf (rowIn n k r)) ≡ lineIn n k r
-unfolding lineIn cellLine rowIn bitsOf
+pub line-content : (n k : ℕ) (r : List ℕ) → cellLine n k (loadOfLine k r) (bitsOf (rowOfLine n k r)) ≡ lineIn n k r
+unfolding lineIn cellLine rowOfLine bitsOf
 line-content n k r =
-    let f = markAt (marksIn k r) in
-    rw (marks-same (λ b. weigh f 0 n / 2 ^ b % 2) f n 0 (λ i l. rw (zero-add i) (weigh-bit f (mark-two (marksIn k r)) n i 0 l ∙ ap f (zero-add i))))
+    let f = markOfLine (marksOfLine k r) in
+    rw (marks-same (λ b. weigh f 0 n / 2 ^ b % 2) f n 0 (λ i l. rw (zero-add i) (weigh-bit f (mark-two (marksOfLine k r)) n i 0 l ∙ ap f (zero-add i))))

@@ -30,16 +30,16 @@ numberRead s at most =
     record { value = scanned 0 (drop at s); next = pick (leb (scanned 0 (drop at s)) most) (eaten s at (decimal (scanned 0 (drop at s)))) nowhere }
 
 -- the load of the cell line: the number after its label
-unfoldable pub loadIn : ℕ → List ℕ → ℕ
-loadIn k r = scanned 0 (drop (length (label k)) r)
+unfoldable pub loadOfLine : ℕ → List ℕ → ℕ
+loadOfLine k r = scanned 0 (drop (length (label k)) r)
 
 -- from where its marks begin
-unfoldable pub marksIn : ℕ → List ℕ → List ℕ
-marksIn k r = drop (length (label k) + length (decimal (loadIn k r))) r
+unfoldable pub marksOfLine : ℕ → List ℕ → List ℕ
+marksOfLine k r = drop (length (label k) + length (decimal (loadOfLine k r))) r
 
 -- the marks that stand in r: 1 where the byte is the digit 1
-unfoldable pub markAt : List ℕ → ℕ → ℕ
-markAt r b = bit (eqb (getD r (2 * b + 1) 0) 49)
+unfoldable pub markOfLine : List ℕ → ℕ → ℕ
+markOfLine r b = bit (eqb (getD r (2 * b + 1) 0) 49)
 
 -- the row of n marks from index b on: its lowest bit is the first
 unfoldable pub weigh : (ℕ → ℕ) → ℕ → ℕ → ℕ
@@ -53,20 +53,20 @@ markOk comma x ok = eqb comma commaByte && (eqb x (48 + bit (eqb x 49)) && ok)
 -- n marks read at `at`
 unfoldable pub marksRead : List ℕ → ℕ → ℕ → Marks
 marksRead s at n =
-    pick (starts (marks (markAt (drop at s)) 0 n) (drop at s))
-    (record { row = weigh (markAt (drop at s)) 0 n; next = at + 2 * n })
+    pick (starts (marks (markOfLine (drop at s)) 0 n) (drop at s))
+    (record { row = weigh (markOfLine (drop at s)) 0 n; next = at + 2 * n })
     (record { row = 0; next = nowhere })
 
-unfoldable pub rowIn : ℕ → ℕ → List ℕ → ℕ
-rowIn n k r = weigh (markAt (marksIn k r)) 0 n
+unfoldable pub rowOfLine : ℕ → ℕ → List ℕ → ℕ
+rowOfLine n k r = weigh (markOfLine (marksOfLine k r)) 0 n
 
 -- the line that this content gives
 unfoldable pub lineIn : ℕ → ℕ → List ℕ → List ℕ
-lineIn n k r = cellLine n k (loadIn k r) (markAt (marksIn k r))
+lineIn n k r = cellLine n k (loadOfLine k r) (markOfLine (marksOfLine k r))
 
 -- "a load above 65,535 is malformed"
 unfoldable pub lineOk : ℕ → ℕ → List ℕ → Bool
-lineOk n k r = leb (loadIn k r) 65535 && starts (lineIn n k r) r
+lineOk n k r = leb (loadOfLine k r) 65535 && starts (lineIn n k r) r
 
 abbrev pub noLine : Line
 noLine = record { load = 0; row = 0; next = nowhere }
@@ -75,7 +75,7 @@ noLine = record { load = 0; row = 0; next = nowhere }
 unfoldable pub lineRead : List ℕ → ℕ → ℕ → ℕ → Line
 lineRead s at n k =
     pick (lineOk n k (drop at s))
-    (record { load = loadIn k (drop at s); row = rowIn n k (drop at s); next = at + length (lineIn n k (drop at s)) })
+    (record { load = loadOfLine k (drop at s); row = rowOfLine n k (drop at s); next = at + length (lineIn n k (drop at s)) })
     noLine
 
 -- ---- the first line
@@ -89,15 +89,15 @@ unfoldable pub columnsRead : List ℕ → ℕ → Head
 columnsRead s at = record { cells = columnsIn 32 0 (drop at s); next = eaten s at (columns 0 (columnsIn 32 0 (drop at s))) }
 
 -- "a first line with no cells or over 32" is malformed
-unfoldable pub cellsIn : List ℕ → ℕ
-cellsIn r = columnsIn 32 0 (drop 9 r)
+unfoldable pub cellsOfLine : List ℕ → ℕ
+cellsOfLine r = columnsIn 32 0 (drop 9 r)
 
 unfoldable pub headOk : List ℕ → Bool
-headOk r = leb 1 (cellsIn r) && starts (header (cellsIn r)) r
+headOk r = leb 1 (cellsOfLine r) && starts (header (cellsOfLine r)) r
 
 abbrev pub noHead : Head
 noHead = record { cells = 0; next = nowhere }
 
 -- the first line read: how many cells, and the place after it
 unfoldable pub headRead : List ℕ → Head
-headRead s = pick (headOk s) (record { cells = cellsIn s; next = length (header (cellsIn s)) }) noHead
+headRead s = pick (headOk s) (record { cells = cellsOfLine s; next = length (header (cellsOfLine s)) }) noHead

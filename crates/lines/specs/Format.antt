@@ -21,6 +21,10 @@ crlf = crByte ∷ lfByte ∷ []
 abbrev pub cellNumber : ℕ → ℕ
 cellNumber k = k + 1
 
+-- the number of the line at index k after the first line, which is line 1
+abbrev pub lineNumber : ℕ → ℕ
+lineNumber k = k + 2
+
 -- a number after a comma
 unfoldable pub column : ℕ → List ℕ
 column x = commaByte ∷ decimal x
@@ -37,7 +41,7 @@ cellLoad = 99 ∷ 101 ∷ 108 ∷ 108 ∷ 44 ∷ 108 ∷ 111 ∷ 97 ∷ 100 ∷ 
 unfoldable pub header : ℕ → List ℕ
 header n = cellLoad ++ (columns 0 n ++ crlf)
 
--- "`1` for \"reaches\" and `0` for not": the bits of a row
+-- `1` where the cell reaches and `0` where not: the bits of a row
 unfoldable pub bitsOf : ℕ → ℕ → ℕ
 bitsOf row b = row / 2 ^ b % 2
 

@@ -9,7 +9,8 @@ ghost use Rattle.lines.specs.Content.{more, scanned, numberRead, markOk,
 ghost use Rattle.laws.specs.Sum.{bit};
 ghost use lib.Dec.{eqb};
 
-const NOWHERE: usize = 18446744073709551615;
+// No place of any input.
+pub const NOWHERE: usize = 18446744073709551615;
 
 const COMMA: u8 = 44;
 

@@ -16,9 +16,9 @@ use Rattle.sitefile.specs.Read.{readSite}
 use Rattle.sitefile.specs.declared.SiteRead.{SiteRead}
 use Rattle.sitefile.proofs.Trip.{read-fine}
 use Rattle.phrases.specs.Phrases.{phrase}
-use Rattle.listing.specs.Lines.{listingLines}
+use Rattle.say_listing.specs.Lines.{listingLines}
 use Rattle.lister.specs.Listing.{headLines, unreadLine}
-use Rattle.lister.specs.Parts.{headOf, tableAfter, rowCount, siteRest, restOf, fileHead, fileTable, fileRest}
+use Rattle.lister.specs.Parts.{headOf, tableLeft, rowCount, siteRest, restOf, fileHead, fileTable, fileRest}
 use Rattle.lister.specs.declared.Rest.{Rest}
 
 -- there are no more cell lines than cells
@@ -41,7 +41,7 @@ module _ (file : List ℕ) {r : SiteRead} (e : r ≡ readSite file) (d : r .answ
 
   pub accepted-table : (t : List ℕ) → planTable (r .site) t ≡ fileTable file t
   accepted-table t =
-      ap (λ (x : SiteRead). planTable (x .site) t) e ∙ ap (λ (a : ReadAnswer). tableAfter (readSite file .site) a t) (sym answered)
+      ap (λ (x : SiteRead). planTable (x .site) t) e ∙ ap (λ (a : ReadAnswer). tableLeft (readSite file .site) a t) (sym answered)
 
   pub accepted-rest : siteRest (r .site) ≡ fileRest file
   accepted-rest = ap (λ (x : SiteRead). siteRest (x .site)) e ∙ ap (restOf (readSite file .site)) (sym answered)
@@ -55,7 +55,7 @@ module _ (file : List ℕ) {r : SiteRead} {number offset : ℕ} (e : r ≡ readS
   refused-head = ap (headOf (readSite file .site)) unread
 
   pub refused-table : (t : List ℕ) → t ≡ fileTable file t
-  refused-table t = ap (λ (a : ReadAnswer). tableAfter (readSite file .site) a t) unread
+  refused-table t = ap (λ (a : ReadAnswer). tableLeft (readSite file .site) a t) unread
 
   pub refused-rest :
       _≡_ {A = Rest} (record { end = length (phrase listingLines (unreadLine number offset)); rows = 0; width = 0; channels = 0 })

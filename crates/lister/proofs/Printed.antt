@@ -22,9 +22,9 @@ use Rattle.records.specs.Bytes.{Bytes}
 use Rattle.sitefile.specs.Read.{readSite}
 use Rattle.sitefile.proofs.Trip.{read-fine}
 use Rattle.phrases.specs.Phrases.{phrase}
-use Rattle.listing.specs.Lines.{listingLines, cellLine}
+use Rattle.say_listing.specs.Lines.{listingLines, cellListed}
 use Rattle.lister.specs.Listing.{headLines, unreadLine, cellLines, cellsOf, listingOf, listing}
-use Rattle.lister.specs.Parts.{headOf, tableAfter, rowCount, siteRest, restOf, fileHead, fileTable, fileRest}
+use Rattle.lister.specs.Parts.{headOf, tableLeft, rowCount, siteRest, restOf, fileHead, fileTable, fileRest}
 
 -- rows that stand in the first part of a table
 front :
@@ -36,7 +36,7 @@ front f w u v i (suc n) h =
     let row : i * w + w ≤ length u = omega (arith, mul-le-mul-right w below, suc-mul i w) in
     let e : i + 1 + n ≡ i + suc n = omega arith in
     let rest : (i + 1 + n) * w ≤ length u = rw e h in
-    λ k. cellLine (i + 1) f (part-append (i * w) w u v row k) ++ front f w u v (i + 1) n rest k
+    λ k. cellListed (i + 1) f (part-append (i * w) w u v row k) ++ front f w u v (i + 1) n rest k
 
 -- the cell lines, read from the table that the planner leaves
 cells-read :
@@ -57,7 +57,7 @@ cells-read s t fine long = go (greedy (netOf s)) refl
 
 parts :
     (s : Site) (t : List ℕ) (a : ReadAnswer) → (a ≡ Done → faultOf s ≡ Fine) → 65536 ≤ length t →
-    listingOf s a ≡ headOf s a ++ cellLines (restOf s a .channels) (restOf s a .width) (tableAfter s a t) 0 (restOf s a .rows)
+    listingOf s a ≡ headOf s a ++ cellLines (restOf s a .channels) (restOf s a .width) (tableLeft s a t) 0 (restOf s a .rows)
 unfolding siteRest
 parts s t Done fine long = ap (λ (l : List ℕ). headLines s ++ l) (cells-read s t (fine refl) long)
 parts s t (Refused number offset) fine long = unfold cellLines in sym (append-nil (phrase listingLines (unreadLine number offset)))

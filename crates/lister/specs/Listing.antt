@@ -1,4 +1,4 @@
--- The listing of a site file, as document 01 has it: the lines of the crate `listing`, put together. It is of the
+-- The listing of a site file, as document 01 has it: the lines of the crate `say_listing`, put together. It is of the
 -- bytes that were read: "the first 4,096 bytes" are the program's to read.
 use Prim.Native.Nat.{ℕ, zero, suc, _+_}
 use mathlib.Core.List.{List, [], _++_}
@@ -20,7 +20,8 @@ use Rattle.sitefile.specs.Read.{readSite}
 use Rattle.phrases.specs.Phrases.{phrase}
 use Rattle.phrases.specs.declared.Phrase.{Phrase}
 use Rattle.phrases.specs.declared.Phrase.the-variants.{Silent, Row}
-use Rattle.listing.specs.Lines.{listingLines, siteRow, chainYesRow, chainNoRow, loadHoldsRow, loadOverRow, planDoneRow, planShortRow, refusedRow, cellLine}
+use Rattle.say_listing.specs.Lines.{listingLines, siteRow, chainYesRow, chainNoRow, loadHoldsRow}
+use Rattle.say_listing.specs.Lines.{loadOverRow, planDoneRow, planShortRow, refusedRow, cellListed}
 
 -- "Fields: cells, slots, channels"
 abbrev pub siteLine : Site → Phrase
@@ -63,7 +64,7 @@ unreadLine number offset = Row refusedRow number offset 0 0
 -- "then cell and its reservations": the lines of n cells from index i on, of a table with w positions to a row
 unfoldable pub cellLines : ℕ → ℕ → List ℕ → ℕ → ℕ → List ℕ
 cellLines channels w t i zero = []
-cellLines channels w t i (suc n) = cellLine (i + 1) channels (rowAt w t i) ++ cellLines channels w t (i + 1) n
+cellLines channels w t i (suc n) = cellListed (i + 1) channels (rowAt w t i) ++ cellLines channels w t (i + 1) n
 
 -- "Otherwise .. no cell lines"
 abbrev pub cellsOf : Site → Outcome → List ℕ

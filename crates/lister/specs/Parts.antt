@@ -13,7 +13,7 @@ use Rattle.records.specs.declared.ReadAnswer.{ReadAnswer}
 use Rattle.records.specs.declared.ReadAnswer.the-variants.{Done, Refused}
 use Rattle.sitefile.specs.Read.{readSite}
 use Rattle.phrases.specs.Phrases.{phrase}
-use Rattle.listing.specs.Lines.{listingLines}
+use Rattle.say_listing.specs.Lines.{listingLines}
 use Rattle.lister.specs.Listing.{headLines, unreadLine}
 use Rattle.lister.specs.declared.Rest.{Rest}
 
@@ -22,9 +22,9 @@ headOf s Done = headLines s
 headOf s (Refused number offset) = phrase listingLines (unreadLine number offset)
 
 -- the table that the cell lines are read from
-abbrev pub tableAfter : Site → ReadAnswer → List ℕ → List ℕ
-tableAfter s Done t = planTable s t
-tableAfter s (Refused number offset) t = t
+abbrev pub tableLeft : Site → ReadAnswer → List ℕ → List ℕ
+tableLeft s Done t = planTable s t
+tableLeft s (Refused number offset) t = t
 
 -- how many cell lines there are
 abbrev pub rowCount : PlanAnswer → ℕ → ℕ
@@ -52,13 +52,13 @@ abbrev pub fileHead : List ℕ → List ℕ
 fileHead file = headOf (readSite file .site) (readSite file .answer)
 
 abbrev pub fileTable : List ℕ → List ℕ → List ℕ
-fileTable file t = tableAfter (readSite file .site) (readSite file .answer) t
+fileTable file t = tableLeft (readSite file .site) (readSite file .answer) t
 
 abbrev pub fileRest : List ℕ → Rest
 fileRest file = restOf (readSite file .site) (readSite file .answer)
 
 -- what makes the program safe: the head is short, and the rows stand within a table of 65,536 bytes
-pub record Fits (r : Rest) : Type 0 where
+pub record RestFits (r : Rest) : Type 0 where
   pub short : r .end ≤ 800
   pub few : r .rows ≤ 32
   pub narrow : r .width ≤ 2048

@@ -1,23 +1,23 @@
 // The lister: reads a site file on standard input, the first 4,096 bytes, and prints document 01's listing. `head` makes the first lines and plans the
 // site, and `row_line` the line of a planned cell; `main`, `print_rows` and `tell` only read and write. A file that is refused is listed as refused, and
-// then said in words, after its name, which is argument 1.
+// then said in English, after its name, which is argument 1.
 use inputs::Input;
 use judges::ChainAnswer;
 use judges::LoadAnswer;
 use libc::STDIN_FILENO;
-use listing::CHAIN_NO;
-use listing::CHAIN_YES;
-use listing::LOAD_HOLDS;
-use listing::LOAD_OVER;
-use listing::PLAN_DONE;
-use listing::PLAN_SHORT;
-use listing::REFUSED;
-use listing::SITE;
-use listing::put_line;
 use phrases::Phrase;
 use planner::PlanAnswer;
 use records::ReadAnswer;
-use refusals::Place;
+use say_listing::CHAIN_NO;
+use say_listing::CHAIN_YES;
+use say_listing::LOAD_HOLDS;
+use say_listing::LOAD_OVER;
+use say_listing::PLAN_DONE;
+use say_listing::PLAN_SHORT;
+use say_listing::REFUSED;
+use say_listing::SITE;
+use say_listing::put_line;
+use say_refusals::Place;
 use site::Site;
 ghost use mathlib.Core.Path.{_≡_};
 ghost use Prim.Native.Nat.{_+_, _*_, _≤_, _<_};
@@ -28,9 +28,9 @@ ghost use Rattle.site.specs.Record.{faultOf};
 ghost use Rattle.site.specs.declared.Fault.the-variants.{Fine};
 ghost use Rattle.planner.specs.Plan.{planTable};
 ghost use Rattle.phrases.specs.Put.{Put};
-ghost use Rattle.listing.specs.Lines.{cellLine};
+ghost use Rattle.say_listing.specs.Lines.{cellListed};
 ghost use Rattle.lister.specs.Listing.{siteLine, chainLine, loadLine, planLine, headWith, headLines};
-ghost use Rattle.lister.specs.Parts.{fileHead, fileTable, rowCount, siteRest, fileRest, Fits};
+ghost use Rattle.lister.specs.Parts.{fileHead, fileTable, rowCount, siteRest, fileRest, RestFits};
 
 // What follows the head: where the head ends, how many cell lines there are, and the positions and channels of a row.
 pub struct Rest {
@@ -114,7 +114,7 @@ fn site_head(out: &mut [u8], site: Site, table: &mut [u8]) -> Rest
     ensures stored { λ r. ⌜ now (out .exit) ≡ sets (now (out .entry)) 0 (headLines site) ⌝ }
     ensures table { λ r. ⌜ now (table .exit) ≡ planTable site (now (table .entry)) ⌝ }
     ensures rest { λ r. ⌜ r ≡ siteRest site ⌝ }
-    ensures fits { λ r. ⌜ Fits r ⌝ }
+    ensures fits { λ r. ⌜ RestFits r ⌝ }
 {
     let cells = site.cells as usize;
     let slots = site.slots as usize;
@@ -137,7 +137,7 @@ fn head(out: &mut [u8], file: &[u8], table: &mut [u8]) -> Rest
     ensures stored { λ r. ⌜ now (out .exit) ≡ sets (now (out .entry)) 0 (fileHead (now (file .entry))) ⌝ }
     ensures table { λ r. ⌜ now (table .exit) ≡ fileTable (now (file .entry)) (now (table .entry)) ⌝ }
     ensures rest { λ r. ⌜ r ≡ fileRest (now (file .entry)) ⌝ }
-    ensures fits { λ r. ⌜ Fits r ⌝ }
+    ensures fits { λ r. ⌜ RestFits r ⌝ }
 {
     let read = sitefile::read_site(file);
     let answer = read.answer;
@@ -161,11 +161,11 @@ fn row_line(out: &mut [u8], table: &[u8], width: usize, channels: usize, i: usiz
     requires { ⌜ (0 < channels) × (width ≤ 2048) ⌝ }
     requires { ⌜ (i < 32) × (i * width + width ≤ length (now table)) ⌝ }
     requires { ⌜ 24576 ≤ length (now out) ⌝ }
-    ensures { λ r. ⌜ Put (now (out .entry)) 0 (cellLine (i + 1) channels (rowAt width (now (table .entry)) i)) 24576 (now (out .exit)) r ⌝ }
+    ensures { λ r. ⌜ Put (now (out .entry)) 0 (cellListed (i + 1) channels (rowAt width (now (table .entry)) i)) 24576 (now (out .exit)) r ⌝ }
 {
     let from = i * width;
     let to = from + width;
-    listing::cell_line(out, i + 1, channels, &table[from..to])
+    say_listing::put_cell_line(out, i + 1, channels, &table[from..to])
 }
 
 // Prints the cell lines, one after the other; whether all of them were written.
@@ -182,17 +182,17 @@ fn print_rows(out: &mut [u8], table: &[u8], rows: usize, width: usize, channels:
     true
 }
 
-// The status of a listing that is written: a file that is refused is a no, with its words.
+// The status of a listing that is written: a file that is refused is a no, with its text.
 fn tell(out: &mut [u8], file: &[u8])
     requires { ⌜ 65536 ≤ length (now out) ⌝ }
 {
     let read = sitefile::read_site(file);
     let answer = read.answer;
     match answer {
-        ReadAnswer::Done => reply::done(),
+        ReadAnswer::Done => reply::fine(),
         ReadAnswer::Refused(number, offset) => {
             reply::named(1, file, Input::SiteFile);
-            let end = refusals::refused(out, 0, number as usize, Place::Byte(offset));
+            let end = say_refusals::put_refused(out, 0, number as usize, Place::Byte(offset));
             reply::no(out, end);
         }
     }

@@ -20,9 +20,11 @@ use Rattle.mending.specs.Mend.{mend, overlay}
 use Rattle.mending.specs.Changes.{changes, follow}
 use Rattle.mending.proofs.Changes.{count-cong, number-cong, changes-cong}
 use Rattle.mending.proofs.Mended.{mended-follows}
-use Rattle.mender.specs.Mend.{numberOf, listed, stoodOf, answerOf, tableAfter, listAfter, mendAnswer, mendTable, mendList}
-use Rattle.mender.specs.Words.{standsIn, allCount, TwoWay, Counted, Says}
-use Rattle.mender.specs.declared.Stood.the-variants.{All, Short}
+use Rattle.standing.specs.Stand.{numberOf, stoodOf}
+use Rattle.standing.specs.Words.{standsIn, TwoWay, Says}
+use Rattle.standing.specs.declared.Stood.the-variants.{All, Short}
+use Rattle.mender.specs.Mend.{listedChanges, mendAnswerOf, tableAfter, listAfter, mendAnswer, mendTable, mendList}
+use Rattle.mender.specs.Words.{allCount, CellsCounted}
 use Rattle.mender.specs.declared.MendAnswer.the-variants.{TableShort, NoRoom, Refused}
 
 -- ---- what stands, by the answer of the cells' turns
@@ -55,8 +57,8 @@ module _ (s : Net) (u : List ℕ) where
 -- ---- a cell that finds no room
 
 module _ (s : Net) (u l : List ℕ) (cell short : ℕ) (lack : Lacking s u cell short) where
-  pub no-room : NoRoom cell short ≡ answerOf s u l (mend s u)
-  no-room = ap (λ c. NoRoom c short) (lack .named) ∙ sym (ap (answerOf s u l) (lack .mends))
+  pub no-room : NoRoom cell short ≡ mendAnswerOf s u l (mend s u)
+  no-room = ap (λ c. NoRoom c short) (lack .named) ∙ sym (ap (mendAnswerOf s u l) (lack .mends))
 
 -- ---- every cell stands
 
@@ -74,13 +76,13 @@ module _ (s : Net) (u words counts : List ℕ) (number : ℕ) (all : Whole s u n
   abbrev was : Reserved
   was = reserved (s .width) u
 
-  pub end-counted : Counted (s .cells) (s .width) words u counts
+  pub end-counted : CellsCounted (s .cells) (s .width) words u counts
   end-counted i h = says .counted i h ∙ sym (count-cong is stands was was i (s .width) (λ k m. says .stands i k h m) (λ k _. refl))
 
   pub end-number : number ≡ allCount (s .cells) (s .width) words u
   end-number = all .all ∙ sym (number-cong is stands was was (s .width) (s .cells) (says .stands) (λ i k _ _. refl))
 
-  pub end-list : changes (standsIn words) (reserved (s .width) u) (s .width) (s .cells) ≡ listed s u t
+  pub end-list : changes (standsIn words) (reserved (s .width) u) (s .width) (s .cells) ≡ listedChanges s u t
   end-list = changes-cong is stands was was (s .width) (s .cells) (says .stands) (λ i k _ _. refl)
 
   pub end-table : follow (s .width) (changes (standsIn words) (reserved (s .width) u) (s .width) (s .cells)) u ≡ overlay t u
@@ -104,7 +106,7 @@ module _ (s : Site) (u l : List ℕ) where
 
   -- record and table are good
   module _ (e : faultOf s ≡ Fine) (h : size s ≤ length u) where
-    pub good-answer : mendAnswer s u l ≡ answerOf (netOf s) u l (mend (netOf s) u)
+    pub good-answer : mendAnswer s u l ≡ mendAnswerOf (netOf s) u l (mend (netOf s) u)
     unfolding mendAnswer
     good-answer = rw (e, le-ltb (length u) (size s) h)
 

@@ -18,7 +18,8 @@ use Rattle.site.specs.declared.Site.{Site}
 use Rattle.site.specs.declared.Fault.{Fault}
 use Rattle.site.specs.declared.Fault.the-variants.{Fine, Size, Load, Reach}
 use Rattle.mending.specs.Mend.{mend}
-use Rattle.mender.specs.Mend.{numberOf, tooShort, answerOf, mendAnswer}
+use Rattle.standing.specs.Stand.{numberOf}
+use Rattle.mender.specs.Mend.{tooShort, mendAnswerOf, mendAnswer}
 use Rattle.mender.specs.Given.{mendGiven, mendProper}
 use Rattle.mender.specs.declared.MendAnswer.{MendAnswer}
 use Rattle.mender.specs.declared.MendAnswer.the-variants.{Done, TableShort, NoRoom, ListShort, Refused}
@@ -51,7 +52,7 @@ mend-apart a b p q e = sym (read-back a p) ∙ ap readBack e ∙ read-back b q
 either-proper : (t : Bool) (n : ℕ) → mendProper (pick t (ListShort n) (Done n)) ≡ true
 either-proper t n = proper-either mendProper t (ListShort n) (Done n) refl refl
 
-run-proper : (s : Net) (u l : List ℕ) (o : Outcome) → mendProper (answerOf s u l o) ≡ true
+run-proper : (s : Net) (u l : List ℕ) (o : Outcome) → mendProper (mendAnswerOf s u l o) ≡ true
 run-proper s u l (planned t) = either-proper (tooShort l (numberOf s u t)) (numberOf s u t)
 run-proper s u l (noRoom c m) = refl
 
@@ -59,7 +60,8 @@ pub mend-proper : (s : Site) (u l : List ℕ) → mendProper (mendAnswer s u l) 
 unfolding mendAnswer
 mend-proper s u l =
     proper-call mendProper Refused (λ g. refl) (faultOf s) _
-    (proper-either mendProper (ltb (length u) (size s)) TableShort (answerOf (netOf s) u l (mend (netOf s) u)) refl (run-proper (netOf s) u l (mend (netOf s) u)))
+    (proper-either mendProper (ltb (length u) (size s)) TableShort (mendAnswerOf (netOf s) u l (mend (netOf s) u)) refl
+    (run-proper (netOf s) u l (mend (netOf s) u)))
 
 -- the numbers and the values, in their order, of an answer of each kind
 abbrev mends : (many cell short row : ℕ) → List MendAnswer

@@ -1,8 +1,5 @@
 -- The laws of crate `mender`, module by module.
-pub mod Rows
 pub mod Lists
-pub mod Passes
-pub mod Standing
 pub mod Ends
 pub mod Given
 pub mod Meaning

@@ -16,8 +16,9 @@ use Rattle.theory.specs.Greedy.{sends, reserved}
 use Rattle.mending.specs.Changes.{differ, change, changed, cellChanges, changes, follow}
 use Rattle.mending.proofs.Changes.{cell-length, changes-length, cell-more, cell-none, cell-cong, count-cong}
 use Rattle.mending.proofs.Follow.{follow-more, follow-cell, follow-later, follow-below}
-use Rattle.mender.specs.Words.{standsIn, cellCount, allCount}
-use Rattle.mender.proofs.Rows.{bool-bit}
+use Rattle.standing.specs.Words.{standsIn}
+use Rattle.standing.proofs.Rows.{bool-bit}
+use Rattle.mender.specs.Words.{cellCount, allCount}
 
 -- ---- one position
 
@@ -87,7 +88,8 @@ module _ (n i : ℕ) (words u t : List ℕ) (so-far : t ≡ follow n (changes (s
   same-cell : cellChanges (standsIn words) (reserved n t) i n ≡ cellChanges (standsIn words) (reserved n u) i n
   same-cell = cell-cong (standsIn words) (standsIn words) (reserved n t) (reserved n u) i n (λ k _. refl) (λ k _. still-cell k)
 
-  pub table-cell : {r : List ℕ} → r ≡ follow n (cellChanges (standsIn words) (reserved n t) i n) t → r ≡ follow n (changes (standsIn words) (reserved n u) n (i + 1)) u
+  pub table-cell : {r : List ℕ} → r ≡ follow n (cellChanges (standsIn words) (reserved n t) i n) t
+      → r ≡ follow n (changes (standsIn words) (reserved n u) n (i + 1)) u
   table-cell e =
       e ∙ ap₂ (follow n) same-cell so-far
       ∙ sym (follow-cell (standsIn words) (reserved n u) n i u)
@@ -109,4 +111,11 @@ module _ (n i : ℕ) (words u t : List ℕ) (so-far : t ≡ follow n (changes (s
   pub room-cell : (m : ℕ) (l x : List ℕ) {at : ℕ} → at ≡ 4 * allCount i n words u → x ≡ sets l 0 (changes (standsIn words) (reserved n u) n i) → i < m
       → 4 * allCount m n words u ≤ length l → at + 4 * cellCount n i words t ≤ length x
   room-cell m l x there done h fits =
-      omega (arith, there, same-count, sum-below (λ j. cellCount n j words u) i m h, ap length done, length-sets l 0 (changes (standsIn words) (reserved n u) n i))
+      omega (
+        arith,
+        there,
+        same-count,
+        sum-below (λ j. cellCount n j words u) i m h,
+        ap length done,
+        length-sets l 0 (changes (standsIn words) (reserved n u) n i),
+      )

@@ -32,7 +32,8 @@ use Rattle.theory.proofs.Run.{run-fails}
 use Rattle.mending.specs.Mend.{stand, mend, overlay}
 use Rattle.mending.proofs.Changes.{few-changes}
 use Rattle.mending.proofs.Mended.{mended-valid, test-mends}
-use Rattle.mender.specs.Mend.{numberOf, listed, tooShort, answerOf, tableAfter, listAfter, mendAnswer, mendTable, mendList}
+use Rattle.standing.specs.Stand.{numberOf}
+use Rattle.mender.specs.Mend.{listedChanges, tooShort, mendAnswerOf, tableAfter, listAfter, mendAnswer, mendTable, mendList}
 use Rattle.mender.specs.declared.MendAnswer.{MendAnswer}
 use Rattle.mender.specs.declared.MendAnswer.the-variants.{Done, TableShort, NoRoom, ListShort, Refused}
 use Rattle.mender.proofs.Ends.{good-answer, good-table, good-list}
@@ -46,13 +47,13 @@ pub record Mended (s : Site) (u l : List ℕ) (n : ℕ) : Type 0 where
   pub number : n ≡ numberOf (netOf s) u stands
   pub room : 4 * n ≤ length l
   pub table : mendTable s u l ≡ overlay stands u
-  pub list : mendList s u l ≡ sets l 0 (listed (netOf s) u stands)
+  pub list : mendList s u l ≡ sets l 0 (listedChanges (netOf s) u stands)
 
 -- ---- the ways of a call: f is the record's fault, b whether the table is short, o what mending comes to
 
 module _ (s : Net) (u l : List ℕ) where
   abbrev answerBy : Fault → Bool → Outcome → MendAnswer
-  answerBy f b o = pick (isFine f) (pick b TableShort (answerOf s u l o)) (Refused f)
+  answerBy f b o = pick (isFine f) (pick b TableShort (mendAnswerOf s u l o)) (Refused f)
 
   -- which way an answer was come by
   abbrev Way : Fault → Bool → Outcome → MendAnswer → Type 0
@@ -82,13 +83,13 @@ module _ (s : Net) (u l : List ℕ) where
   kept-by : (f : Fault) (b : Bool) (o : Outcome) → ((m : ℕ) → answerBy f b o ≡ Done m → ⊥)
       → (pick (isFine f) (pick b u (tableAfter s u l o)) u ≡ u) × (pick (isFine f) (pick b l (listAfter s u l o)) l ≡ l)
   kept-by Fine true o h = (refl, refl)
-  kept-by Fine false (planned t) h = list-kept (tooShort l (numberOf s u t)) (numberOf s u t) (overlay t u) (sets l 0 (listed s u t)) h
+  kept-by Fine false (planned t) h = list-kept (tooShort l (numberOf s u t)) (numberOf s u t) (overlay t u) (sets l 0 (listedChanges s u t)) h
   kept-by Fine false (noRoom c m) h = (refl, refl)
   kept-by Size b o h = (refl, refl)
   kept-by (Load k) b o h = (refl, refl)
   kept-by (Reach k) b o h = (refl, refl)
 
-  no-refusal : (b : Bool) (o : Outcome) (f : Fault) → pick b TableShort (answerOf s u l o) ≡ Refused f → ⊥
+  no-refusal : (b : Bool) (o : Outcome) (f : Fault) → pick b TableShort (mendAnswerOf s u l o) ≡ Refused f → ⊥
   no-refusal true o f e = let z : _≡_ {A = ℕ} 0 1 = cc in omega arith
   no-refusal false (planned t) f e = neither (tooShort l (numberOf s u t)) e
     where
@@ -102,19 +103,20 @@ module _ (s : Net) (u l : List ℕ) where
 module _ (s : Site) (u l : List ℕ) where
   way : (a : MendAnswer) → mendAnswer s u l ≡ a → Way (netOf s) u l (faultOf s) (ltb (length u) (size s)) (mend (netOf s) u) a
   unfolding mendAnswer
-  way a e = subst (Way (netOf s) u l (faultOf s) (ltb (length u) (size s)) (mend (netOf s) u)) e (way-of (netOf s) u l (faultOf s) (ltb (length u) (size s)) (mend (netOf s) u))
+  way a e = subst (Way (netOf s) u l (faultOf s) (ltb (length u) (size s)) (mend (netOf s) u)) e
+      (way-of (netOf s) u l (faultOf s) (ltb (length u) (size s)) (mend (netOf s) u))
 
-  -- "the record's faults, 4, ..": a refusal carries the record's own fault, and a record at fault is refused
+  -- 1 to 3: a refusal carries the record's own fault, and a record at fault is refused
   pub mend-refused : (f : Fault) → mendAnswer s u l ≡ Refused f ↔ ((f ≡ faultOf s) × (isFine f ≡ false))
   unfolding mendAnswer
   mend-refused = passed-on Refused (λ f g e. cc) (faultOf s) _ (no-refusal (netOf s) u l (ltb (length u) (size s)) (mend (netOf s) u))
 
   -- done, and what it leaves
   pub done-leaves : faultOf s ≡ Fine → size s ≤ length u → (t : List ℕ) → mend (netOf s) u ≡ planned t → tooShort l (numberOf (netOf s) u t) ≡ false
-      → (mendTable s u l ≡ overlay t u) × (mendList s u l ≡ sets l 0 (listed (netOf s) u t))
+      → (mendTable s u l ≡ overlay t u) × (mendList s u l ≡ sets l 0 (listedChanges (netOf s) u t))
   done-leaves fine long t e room = (
     good-table s u l fine long ∙ ap (tableAfter (netOf s) u l) e ∙ ap (λ (q : Bool). pick q u (overlay t u)) room,
-    good-list s u l fine long ∙ ap (listAfter (netOf s) u l) e ∙ ap (λ (q : Bool). pick q l (sets l 0 (listed (netOf s) u t))) room,
+    good-list s u l fine long ∙ ap (listAfter (netOf s) u l) e ∙ ap (λ (q : Bool). pick q l (sets l 0 (listedChanges (netOf s) u t))) room,
   )
 
   pub done-means : (n : ℕ) → mendAnswer s u l ≡ Done n → Mended s u l n
@@ -139,17 +141,17 @@ module _ (s : Site) (u l : List ℕ) where
       → mendAnswer s u l ≡ Done (numberOf (netOf s) u t)
   means-done fine long t e room =
       good-answer s u l fine long
-      ∙ ap (answerOf (netOf s) u l) e
+      ∙ ap (mendAnswerOf (netOf s) u l) e
       ∙ ap (λ (q : Bool). pick q (ListShort (numberOf (netOf s) u t)) (Done (numberOf (netOf s) u t))) (le-ltb (length l) (4 * numberOf (netOf s) u t) room)
 
   pub means-short : faultOf s ≡ Fine → size s ≤ length u → (t : List ℕ) → mend (netOf s) u ≡ planned t → length l < 4 * numberOf (netOf s) u t
       → mendAnswer s u l ≡ ListShort (numberOf (netOf s) u t)
   means-short fine long t e over =
       good-answer s u l fine long
-      ∙ ap (answerOf (netOf s) u l) e
+      ∙ ap (mendAnswerOf (netOf s) u l) e
       ∙ ap (λ (q : Bool). pick q (ListShort (numberOf (netOf s) u t)) (Done (numberOf (netOf s) u t))) (lt-ltb (length l) (4 * numberOf (netOf s) u t) over)
 
-  -- "then 5 (cell, fragments short)": the cell that is named is the first whose row leaves fragments over, and as many as are named
+  -- "then 5": the cell that is named is the first whose row leaves fragments over, and as many as are named
   pub short-means : (c m : ℕ) → mendAnswer s u l ≡ NoRoom c m
       → (faultOf s ≡ Fine) × (size s ≤ length u) × ((k : ℕ) × ((c ≡ k + 1) × Fails (netOf s) (stand (netOf s) u) (s .cells) k m))
   short-means c m e =
@@ -157,7 +159,7 @@ module _ (s : Site) (u l : List ℕ) where
       let r = w .2 in
       (w .0, ltb-false (length u) (size s) (w .1), (r .0, (r .1 .0, run-fails (netOf s) (stand (netOf s) u) (s .cells) (r .0) m (r .1 .1))))
 
-  -- "then 13 with the number of changes where the list is too short": every cell stands
+  -- "then 13 with the number of changes if the list is too short": every cell stands
   pub list-means : (n : ℕ) → mendAnswer s u l ≡ ListShort n
       → (faultOf s ≡ Fine) × (size s ≤ length u) × ((t : List ℕ) × ((mend (netOf s) u ≡ planned t) × (n ≡ numberOf (netOf s) u t) × (length l < 4 * n)))
   list-means n e =
@@ -166,7 +168,7 @@ module _ (s : Site) (u l : List ℕ) where
       let over : length l < 4 * numberOf (netOf s) u (w .2 .0) = ltb-true (length l) (4 * numberOf (netOf s) u (w .2 .0)) (r .2) in
       (w .0, ltb-false (length u) (size s) (w .1), (w .2 .0, (r .0, r .1, omega (arith, r .1, over))))
 
-  -- "all of them, 5 too, leave table and list untouched"
+  -- "all, 5 too, leave table and list untouched"
   pub untouched : ((n : ℕ) → mendAnswer s u l ≡ Done n → ⊥) → (mendTable s u l ≡ u) × (mendList s u l ≡ l)
   unfolding mendAnswer mendTable mendList
   untouched h = kept-by (netOf s) u l (faultOf s) (ltb (length u) (size s)) (mend (netOf s) u) h

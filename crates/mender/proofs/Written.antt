@@ -21,8 +21,10 @@ use Rattle.site.specs.declared.Fault.{Fault}
 use Rattle.site.specs.declared.Fault.the-variants.{Fine, Size, Load, Reach}
 use Rattle.site.proofs.Faults.{fine-sized, Sized}
 use Rattle.mending.specs.Mend.{mend, overlay}
-use Rattle.mender.specs.Mend.{numberOf, listed, answerOf, mendAnswer, mendTable, mendList, roomFor, Stands}
-use Rattle.mender.specs.Words.{allCount, tableWith, listWith, Counted, Says}
+use Rattle.standing.specs.Stand.{numberOf}
+use Rattle.standing.specs.Words.{Says}
+use Rattle.mender.specs.Mend.{listedChanges, mendAnswerOf, mendAnswer, mendTable, mendList, listRoom, MendStands}
+use Rattle.mender.specs.Words.{allCount, tableWith, listWith, CellsCounted}
 use Rattle.mender.specs.declared.MendAnswer.{MendAnswer}
 use Rattle.mender.specs.declared.MendAnswer.the-variants.{Done, TableShort, NoRoom, ListShort, Refused}
 use Rattle.mender.proofs.MendAnswer.{the-type}
@@ -40,9 +42,9 @@ isDone (Refused f) = false
 
 -- ---- done
 
-module _ {a : MendAnswer} {s : Site} {u words counts : List ℕ} (st : Stands a s u words counts) {number : ℕ} (e : a ≡ Done number) where
-  pub mended : Mended s u (roomFor s) number
-  mended = done-means s u (roomFor s) number (sym (st .answers) ∙ e)
+module _ {a : MendAnswer} {s : Site} {u words counts : List ℕ} (st : MendStands a s u words counts) {number : ℕ} (e : a ≡ Done number) where
+  pub mended : Mended s u (listRoom s) number
+  mended = done-means s u (listRoom s) number (sym (st .answers) ∙ e)
 
   pub sizes : Sized s
   sizes = fine-sized s (mended .fine)
@@ -53,7 +55,7 @@ module _ {a : MendAnswer} {s : Site} {u words counts : List ℕ} (st : Stands a 
   says : Says (s .cells) (positions s) (mended .stands) u words counts
   says = st .says number e (mended .stands) (mended .mends)
 
-  pub counted : Counted (s .cells) (positions s) words u counts
+  pub counted : CellsCounted (s .cells) (positions s) words u counts
   counted = end-counted (netOf s) u words counts number whole says
 
   pub number-is : number ≡ allCount (s .cells) (positions s) words u
@@ -65,7 +67,7 @@ module _ {a : MendAnswer} {s : Site} {u words counts : List ℕ} (st : Stands a 
     answer-done =
         ap Done (mended .number) ∙ sym (means-done s u l (mended .fine) (mended .long) (mended .stands) (mended .mends) (omega (arith, mended .number)))
 
-    left : (mendTable s u l ≡ overlay (mended .stands) u) × (mendList s u l ≡ sets l 0 (listed (netOf s) u (mended .stands)))
+    left : (mendTable s u l ≡ overlay (mended .stands) u) × (mendList s u l ≡ sets l 0 (listedChanges (netOf s) u (mended .stands)))
     left =
         done-leaves s u l (mended .fine) (mended .long) (mended .stands) (mended .mends)
         (le-ltb (length l) (4 * numberOf (netOf s) u (mended .stands)) (omega (arith, mended .number)))
@@ -97,20 +99,20 @@ not-done (Refused f) h n e = false≢true (ap isDone e)
 module _ (s : Site) (u : List ℕ) where
   -- a call by the record's fault, whether the table is short, and what mending comes to
   abbrev answerBy : List ℕ → Fault → Bool → Outcome → MendAnswer
-  answerBy l f b o = pick (isFine f) (pick b TableShort (answerOf (netOf s) u l o)) (Refused f)
+  answerBy l f b o = pick (isFine f) (pick b TableShort (mendAnswerOf (netOf s) u l o)) (Refused f)
 
-  same-by : (l : List ℕ) (f : Fault) (b : Bool) (o : Outcome) → ((n : ℕ) → answerBy (roomFor s) f b o ≡ Done n → ⊥)
-      → answerBy (roomFor s) f b o ≡ answerBy l f b o
+  same-by : (l : List ℕ) (f : Fault) (b : Bool) (o : Outcome) → ((n : ℕ) → answerBy (listRoom s) f b o ≡ Done n → ⊥)
+      → answerBy (listRoom s) f b o ≡ answerBy l f b o
   same-by l Fine true o h = refl
   same-by l Fine false (planned t) h =
       let number = numberOf (netOf s) u t in
-      absurd (h number (ap (λ (q : Bool). pick q (ListShort number) (Done number)) (le-ltb (length (roomFor s)) (4 * number) (room-for s u t))))
+      absurd (h number (ap (λ (q : Bool). pick q (ListShort number) (Done number)) (le-ltb (length (listRoom s)) (4 * number) (room-for s u t))))
   same-by l Fine false (noRoom c k) h = refl
   same-by l Size b o h = refl
   same-by l (Load k) b o h = refl
   same-by l (Reach k) b o h = refl
 
-module _ {a : MendAnswer} {s : Site} {u words counts : List ℕ} (st : Stands a s u words counts) (h : OneOf (1 ∷ 2 ∷ 3 ∷ 4 ∷ []) (tagOf the-type a))
+module _ {a : MendAnswer} {s : Site} {u words counts : List ℕ} (st : MendStands a s u words counts) (h : OneOf (1 ∷ 2 ∷ 3 ∷ 4 ∷ []) (tagOf the-type a))
     (l : List ℕ) where
   pub answer-other : a ≡ mendAnswer s u l
   unfolding mendAnswer

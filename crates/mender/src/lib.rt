@@ -1,25 +1,23 @@
 // Mends a table from another planner where it stands, and lists the changes.
 //
-// What it costs, for I cells and N positions: each row is read once to keep what may be kept of it, and the words once more, up to the last position that is
-// added, where something is lacking (at most 2 I N steps, without a branch but for the end). A cell that has changes is read once more, to write them. Nothing
-// lent is written before the outcome is known. The local room is a word for each position, 8 kilobytes, and a number for each cell: no second table. Without a
-// list there are 16 kilobytes more, for the changes of one row.
+// What it costs, for I cells and N positions: the cells' turns, at most 2 I N steps (crate `standing`), and a cell that has changes is read once more, to write
+// them. Nothing lent is written before the outcome is known. The local room is a word for each position, 8 kilobytes, and a number for each cell: no second
+// table. Without a list there are 16 kilobytes more, for the changes of one row.
 use site::Fault;
 use site::Site;
+use standing::Stood;
 ghost use mathlib.Core.Path.{_≡_};
-ghost use mathlib.Core.Bool.{_&&_, not};
 ghost use mathlib.Core.List.{[], _∷_};
-ghost use Prim.Native.Nat.{_+_, _-_, _*_, _^_, _≤_, _<_};
-ghost use lib.Dec.{eqb, ltb};
-ghost use lib.ListN.{length, getD};
+ghost use Prim.Native.Nat.{_+_, _*_, _≤_, _<_};
+ghost use lib.ListN.{length};
 ghost use lib.Seq.{sets};
-ghost use Rattle.laws.specs.Choice.{pick};
-ghost use Rattle.laws.specs.Few.{firstFew};
-ghost use Rattle.laws.specs.Sum.{bit, count};
-ghost use Rattle.theory.specs.Greedy.{sends, reserved};
+ghost use Rattle.laws.specs.Part.{Zeros};
+ghost use Rattle.laws.specs.Sum.{bit};
+ghost use Rattle.theory.specs.Greedy.{reserved};
 ghost use Rattle.mending.specs.Changes.{differ, change, cellChanges, follow};
-ghost use Rattle.mender.specs.Words.{freeAt, joined, oldAt, keptIn, standsIn, cellStands, cellCount, allCount, tableWith, listWith, Below, Zeros, TwoWay, Counted};
-ghost use Rattle.mender.specs.Mend.{stoodBy, SaysBy, Stands, roomFor, mendAnswer, mendTable, mendList};
+ghost use Rattle.standing.specs.Words.{standsIn};
+ghost use Rattle.mender.specs.Words.{cellCount, allCount, tableWith, listWith, CellsCounted};
+ghost use Rattle.mender.specs.Mend.{MendStands, listRoom, mendAnswer, mendTable, mendList};
 
 // What the mender answers: done, with the number of changes; 4, the table is short; 5, a cell's number and how many of its fragments found no room; 13, the
 // list is too short for so many changes; or what is wrong with the record.
@@ -29,157 +27,6 @@ pub enum MendAnswer {
     NoRoom(usize, usize),
     ListShort(usize),
     Refused(Fault),
-}
-
-// What stands once every cell has had its turn: the number of changes, or a cell's number and how many of its fragments found no room.
-enum Stood {
-    All(usize),
-    Short(usize, usize),
-}
-
-// Whether an old reservation is kept: no clashing cell stands there, and something of the load is left.
-fn keeps(shared: u32, byte: u8, left: usize) -> bool
-    ensures { λ r. ⌜ r ≡ (eqb shared 0 && sends byte && ltb 0 left) ⌝ }
-{
-    (shared == 0) & (byte == 1) & (0 < left)
-}
-
-// The bits where a cell is to stand, else 0.
-fn weight(is: bool, bits: u32) -> u32
-    ensures { λ r. ⌜ r ≡ pick is bits 0 ⌝ }
-{
-    if is {
-        return bits;
-    }
-    0
-}
-
-// 1 for an old reservation that is not kept, else 0.
-fn dropped(byte: u8, kept: bool) -> usize
-    ensures { λ r. ⌜ r ≡ bit (sends byte && not kept) ⌝ }
-{
-    ((byte == 1) & !kept) as usize
-}
-
-// What keeping leaves: the fragments still to be placed, and how many reservations are dropped.
-struct Kept {
-    left: usize,
-    dropped: usize,
-}
-
-// Keeps the first `load` reservations of a row, whose bytes begin at `from`, that are free of the clash row: the bit is joined to their words.
-fn keep_row(
-    words: &mut [u32],
-    table: &[u8],
-    from: usize,
-    n: usize,
-    load: usize,
-    bit: u32,
-    row: u32,
-) -> Kept
-    requires { ⌜ (n ≤ length (now words)) × (from + n ≤ length (now table)) ⌝ }
-    ensures words { λ _. ⌜ now (words .exit) ≡ joined (now (words .entry)) (keptIn (now (words .entry)) (now (table .entry)) from n load row) bit n ⌝ }
-    ensures left { λ r. ⌜ r .left ≡ load - count (λ k. freeAt (now (words .entry)) row k && oldAt (now (table .entry)) from k) n ⌝ }
-    ensures dropped { λ r. ⌜ r .dropped ≡ count (λ k. oldAt (now (table .entry)) from k && not (keptIn (now (words .entry)) (now (table .entry)) from n load row k)) n ⌝ }
-{
-    let mut left = load;
-    let mut gone: usize = 0;
-    for k in 0..n {
-        let byte = table[from + k];
-        let word = words[k];
-        let kept = keeps(word & row, byte, left);
-        words[k] = word | weight(kept, bit);
-        left -= kept as usize;
-        gone += dropped(byte, kept);
-    }
-    Kept {
-        left: left,
-        dropped: gone,
-    }
-}
-
-// Adds the first `load` positions that are free of the mask, in rising position: the bit is joined to their words. Answers how many fragments found no room.
-fn add_row(words: &mut [u32], n: usize, load: usize, bit: u32, mask: u32) -> usize
-    requires { ⌜ n ≤ length (now words) ⌝ }
-    ensures words { λ _. ⌜ now (words .exit) ≡ joined (now (words .entry)) (firstFew (freeAt (now (words .entry)) mask) load) bit n ⌝ }
-    ensures left { λ r. ⌜ r ≡ load - count (freeAt (now (words .entry)) mask) n ⌝ }
-{
-    let mut left = load;
-    let mut k: usize = 0;
-    while k < n {
-        if left == 0 {
-            return 0;
-        }
-        let word = words[k];
-        let free = (word & mask) == 0;
-        words[k] = word | weight(free, bit);
-        left -= free as usize;
-        k += 1;
-    }
-    left
-}
-
-// What a cell's turn comes to: the fragments that found no room, and the number of changes.
-struct Turn {
-    short: usize,
-    changes: usize,
-}
-
-// Cell i's turn, where the words have the cells below it: it keeps what it may, then adds what is lacking. The whole clash row may be asked, since no later cell
-// is in the words.
-fn stand_cell(words: &mut [u32], table: &[u8], n: usize, i: usize, load: usize, row: u32) -> Turn
-    requires { ⌜ (i < 32) × (n ≤ 2048) × (n ≤ length (now words)) × (i * n + n ≤ length (now table)) ⌝ }
-    requires { ⌜ Below n i (now words) ⌝ }
-    ensures words { λ _. ⌜ now (words .exit) ≡ joined (now (words .entry)) (cellStands (now (words .entry)) (now (table .entry)) n i load row) (2 ^ i) n ⌝ }
-    ensures short { λ r. ⌜ r .short ≡ load - count (cellStands (now (words .entry)) (now (table .entry)) n i load row) n ⌝ }
-    ensures changes { λ r. ⌜ r .changes ≡ count (λ k. differ (cellStands (now (words .entry)) (now (table .entry)) n i load row k) (reserved n (now (table .entry)) i k)) n ⌝ }
-{
-    let bit = 1u32 << i;
-    let kept = keep_row(words, table, i * n, n, load, bit, row);
-    let lacking = kept.left;
-    let short = add_row(words, n, lacking, bit, row | bit);
-    Turn {
-        short: short,
-        changes: kept.dropped + (lacking - short),
-    }
-}
-
-// The load of the cell at index i.
-fn load_of(loads: &[u16; 32], i: usize) -> u16
-    requires { ⌜ i < 32 ⌝ }
-    ensures { λ r. ⌜ r ≡ getD (now (loads .entry)) i 0 ⌝ }
-{
-    loads[i]
-}
-
-// The cells in rising number, each in its turn. The words and counts that are lent are 0; they come back with who stands where, and how many changes each cell has.
-fn stand_all(
-    words: &mut [u32],
-    counts: &mut [usize],
-    table: &[u8],
-    n: usize,
-    cells: usize,
-    loads: &[u16; 32],
-    clash: &[u32; 32],
-) -> Stood
-    requires { ⌜ (cells ≤ 32) × (n ≤ 2048) × (n ≤ length (now words)) × (cells ≤ length (now counts)) × (cells * n ≤ length (now table)) ⌝ }
-    requires { ⌜ Zeros n (now words) × TwoWay (now clash) ⌝ }
-    ensures answer { λ r. ⌜ r ≡ stoodBy cells n (now (loads .entry)) (now (clash .entry)) (now (table .entry)) ⌝ }
-    ensures says { λ _. ⌜ SaysBy cells n (now (loads .entry)) (now (clash .entry)) (now (table .entry)) (now (words .exit)) (now (counts .exit)) ⌝ }
-{
-    let mut number: usize = 0;
-    for i in 0..cells {
-        let load = load_of(loads, i) as usize;
-        let turn = stand_cell(words, table, n, i, load, clash[i]);
-        let short = turn.short;
-        if 0 < short {
-            return Stood::Short(i + 1, short);
-        }
-        let changes = turn.changes;
-        counts[i] = changes;
-        number += changes;
-    }
-    Stood::All(number)
 }
 
 // Whether one of the two is a reservation and the other silence.
@@ -241,7 +88,8 @@ fn list_cell(
 ) -> usize
     requires { ⌜ (i < 32) × (n ≤ 2048) × (n ≤ length (now words)) × (i * n + n ≤ length (now table)) ⌝ }
     requires { ⌜ (many ≡ cellCount n i (now words) (now table)) × (at + 4 * cellCount n i (now words) (now table) ≤ length (now list)) ⌝ }
-    ensures table { λ _. ⌜ now (table .exit) ≡ follow n (cellChanges (standsIn (now (words .entry))) (reserved n (now (table .entry))) i n) (now (table .entry)) ⌝ }
+    ensures table { λ _. ⌜ now (table .exit) ≡ follow n (cellChanges (standsIn (now (words .entry))) (reserved n (now (table .entry))) i n)
+        (now (table .entry)) ⌝ }
     ensures list { λ _. ⌜ now (list .exit) ≡ sets (now (list .entry)) at (cellChanges (standsIn (now (words .entry))) (reserved n (now (table .entry))) i n) ⌝ }
     ensures next { λ r. ⌜ r ≡ at + 4 * cellCount n i (now (words .entry)) (now (table .entry)) ⌝ }
 {
@@ -266,7 +114,7 @@ fn list_all(
     cells: usize,
 )
     requires { ⌜ (cells ≤ 32) × (n ≤ 2048) × (n ≤ length (now words)) × (cells ≤ length (now counts)) × (cells * n ≤ length (now table)) ⌝ }
-    requires { ⌜ Counted cells n (now words) (now table) (now counts) × (4 * allCount cells n (now words) (now table) ≤ length (now list)) ⌝ }
+    requires { ⌜ CellsCounted cells n (now words) (now table) (now counts) × (4 * allCount cells n (now words) (now table) ≤ length (now list)) ⌝ }
     ensures table { λ _. ⌜ now (table .exit) ≡ tableWith cells n (now (words .entry)) (now (table .entry)) ⌝ }
     ensures list { λ _. ⌜ now (list .exit) ≡ listWith cells n (now (words .entry)) (now (table .entry)) (now (list .entry)) ⌝ }
 {
@@ -286,7 +134,7 @@ fn store_all(
     cells: usize,
 )
     requires { ⌜ (cells ≤ 32) × (n ≤ 2048) × (n ≤ length (now words)) × (cells ≤ length (now counts)) × (cells * n ≤ length (now table)) ⌝ }
-    requires { ⌜ Counted cells n (now words) (now table) (now counts) × (4 * n ≤ length (now list)) ⌝ }
+    requires { ⌜ CellsCounted cells n (now words) (now table) (now counts) × (4 * n ≤ length (now list)) ⌝ }
     ensures { λ _. ⌜ now (table .exit) ≡ tableWith cells n (now (words .entry)) (now (table .entry)) ⌝ }
 {
     for j in 0..cells {
@@ -298,7 +146,7 @@ fn store_all(
 // come back with who stands where, and how many changes each cell has. The table is not written.
 fn stand_site(site: Site, table: &[u8], words: &mut [u32], counts: &mut [usize]) -> MendAnswer
     requires { ⌜ (2048 ≤ length (now words)) × (32 ≤ length (now counts)) × Zeros 2048 (now words) ⌝ }
-    ensures { λ r. ⌜ Stands r site (now (table .entry)) (now (words .exit)) (now (counts .exit)) ⌝ }
+    ensures { λ r. ⌜ MendStands r site (now (table .entry)) (now (words .exit)) (now (counts .exit)) ⌝ }
 {
     let fault = site.fault_in();
     let Fault::Fine = fault else {
@@ -311,7 +159,7 @@ fn stand_site(site: Site, table: &[u8], words: &mut [u32], counts: &mut [usize])
     }
     let loads = site.loads;
     let clash = site.clash_rows();
-    let stood = stand_all(words, counts, table, n, cells, &loads, &clash);
+    let stood = standing::stand_all(words, counts, table, n, cells, &loads, &clash);
     match stood {
         Stood::Short(cell, short) => MendAnswer::NoRoom(cell, short),
         Stood::All(number) => MendAnswer::Done(number),
@@ -342,8 +190,8 @@ pub fn mend(site: Site, table: &mut [u8], changes: &mut [u16]) -> MendAnswer
 
 // Mends the table as `mend` does where the list has room for every change, and lists nothing.
 pub fn mend_only(site: Site, table: &mut [u8]) -> MendAnswer
-    ensures answer { λ r. ⌜ r ≡ mendAnswer site (now (table .entry)) (roomFor site) ⌝ }
-    ensures table { λ _. ⌜ now (table .exit) ≡ mendTable site (now (table .entry)) (roomFor site) ⌝ }
+    ensures answer { λ r. ⌜ r ≡ mendAnswer site (now (table .entry)) (listRoom site) ⌝ }
+    ensures table { λ _. ⌜ now (table .exit) ≡ mendTable site (now (table .entry)) (listRoom site) ⌝ }
 {
     let mut words = [0u32; 2048];
     let mut counts = [0usize; 32];

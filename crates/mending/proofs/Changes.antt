@@ -1,4 +1,5 @@
--- The list of changes is exactly the changes, by cell, then position: the change at cell i and position k stands where the changes before it end, and there are no others.
+-- The list of changes is exactly the changes, by cell, then position:
+-- the change at cell i and position k stands where the changes before it end, and there are no others.
 --     cell-length, changes-length    four numbers a change
 --     changes-none                   none where the same is reserved
 --     changes-cong                   only what is reserved counts
@@ -22,9 +23,9 @@ use Rattle.laws.specs.Sum.{bit, sum, count}
 use Rattle.laws.proofs.Choice.{cases, order}
 use Rattle.laws.proofs.Sums.{sum-eq, sum-none, sum-up, sum-below, count-most}
 use Rattle.theory.specs.Net.{Reserved}
-use Rattle.mending.specs.Changes.{changed, entry, change, cellChanges, changes, changeCount}
+use Rattle.mending.specs.Changes.{changed, changeEntry, change, cellChanges, changes, changeCount}
 
--- "no entry says that nothing changed": what a change was is not what it is
+-- no entry says that nothing changed: what a change was is not what it is
 pub differs : (was is : Bool) → pick was (not is) is ≡ true → is ≡ not was
 differs true true e = absurd (false≢true e)
 differs true false e = refl
@@ -132,9 +133,9 @@ module _ (is was : Reserved) where
       ))
       (eq-or-lt-of-le (le-of-suc-le-suc l))
 
-  -- "The list is exact": a change stands at its number
+  -- The list is exact: a change stands at its number
   pub changes-at : (n c i k : ℕ) → i < c → k < n → changed is was i k ≡ true
-      → take 4 (drop (4 * place n i k) (changes is was n c)) ≡ entry (is i k) (was i k) i k
+      → take 4 (drop (4 * place n i k) (changes is was n c)) ≡ changeEntry (is i k) (was i k) i k
   changes-at n c i k l m h =
       let p = all-split n i c l in
       let q = cell-split i k n m in
@@ -143,7 +144,8 @@ module _ (is was : Reserved) where
       p .1
       ∙ ap (λ y. changes is was n i ++ (y ++ p .0)) (q .1)
       ∙ ap (λ y. changes is was n i ++ y)
-      (append-assoc (cellChanges is was i k) (change (is i k) (was i k) i k ++ q .0) (p .0) ∙ ap (λ y. cellChanges is was i k ++ y) (append-assoc (change (is i k) (was i k) i k) (q .0) (p .0)))
+      (append-assoc (cellChanges is was i k) (change (is i k) (was i k) i k ++ q .0) (p .0)
+      ∙ ap (λ y. cellChanges is was i k ++ y) (append-assoc (change (is i k) (was i k) i k) (q .0) (p .0)))
       ∙ sym (append-assoc (changes is was n i) (cellChanges is was i k) (change (is i k) (was i k) i k ++ (q .0 ++ p .0))) in
       let long : length front ≡ 4 * place n i k =
       omega (arith, length-append (changes is was n i) (cellChanges is was i k), changes-length n i, cell-length i k) in

@@ -31,7 +31,8 @@ follow-append n m (c ∷ k ∷ w ∷ x ∷ a) b u e = follow-append n (m - 1) a 
 
 module _ (is was : Reserved) (n : ℕ) where
   -- one position more
-  pub follow-more : (i k : ℕ) (u : List ℕ) → follow n (cellChanges is was i (suc k)) u ≡ follow n (change (is i k) (was i k) i k) (follow n (cellChanges is was i k) u)
+  pub follow-more : (i k : ℕ) (u : List ℕ) → follow n (cellChanges is was i (suc k)) u
+      ≡ follow n (change (is i k) (was i k) i k) (follow n (cellChanges is was i k) u)
   unfolding cellChanges
   follow-more i k u = follow-append n (count (changed is was i) k) (cellChanges is was i k) (change (is i k) (was i k) i k) u (cell-length is was i k)
 
@@ -41,7 +42,8 @@ module _ (is was : Reserved) (n : ℕ) where
   follow-cell c u = follow-append n (changeCount is was n c) (changes is was n c) (cellChanges is was c n) u (changes-length is was n c)
 
   -- what a store leaves alone
-  spared : (b : Bool) (i k x : ℕ) (u : List ℕ) → (i * n + k ≡ x → ⊥) → getD (follow n (pick b ((i + 1) ∷ k ∷ bit (was i k) ∷ bit (is i k) ∷ []) []) u) x 0 ≡ getD u x 0
+  spared : (b : Bool) (i k x : ℕ) (u : List ℕ) → (i * n + k ≡ x → ⊥) → getD (follow n (pick b ((i + 1) ∷ k ∷ bit (was i k) ∷ bit (is i k) ∷ []) []) u) x 0
+      ≡ getD u x 0
   unfolding follow
   spared true i k x u ne = let e : i + 1 - 1 ≡ i = omega arith in rw e (getD-set-other u (i * n + k) x (bit (is i k)) 0 (λ q. ne (sym q)))
   spared false i k x u ne = refl

@@ -44,9 +44,10 @@ module _ (s : Net) (u : List ℕ) where
 
   pub mended-valid : (t : List ℕ) → mend s u ≡ planned t → s .cells * s .width ≤ length u → Valid s (reserved (s .width) (overlay t u))
   mended-valid t e fits =
-      valid-agree s (reserved (s .width) t) (reserved (s .width) (overlay t u)) (overlay-reserved (s .cells) (s .width) t u (mend-size t e) fits) (stand-valid t e)
+      valid-agree s (reserved (s .width) t) (reserved (s .width) (overlay t u)) (overlay-reserved (s .cells) (s .width) t u (mend-size t e) fits)
+      (stand-valid t e)
 
-  -- "the changes listed, laid over the old table, give the new one"
+  -- the changes listed, laid over the old table, give the new one
   pub mended-follows : (t : List ℕ) → mend s u ≡ planned t
       → follow (s .width) (changes (reserved (s .width) t) (reserved (s .width) u) (s .width) (s .cells)) u ≡ overlay t u
   mended-follows t e =
@@ -170,7 +171,8 @@ valid-mends s u v =
 
 -- ---- least harm
 
--- A reservation of cell i that no longer stands, at a position that may be reserved: an earlier clashing cell stands there, or cell i has kept as many as its load below it.
+-- A reservation of cell i that no longer stands, at a position that may be reserved:
+-- an earlier clashing cell stands there, or cell i has kept as many as its load below it.
 module _ (s : Net) (u t : List ℕ) (e : mend s u ≡ planned t) (i k : ℕ) (l : i < s .cells) (w : k < s .width) where
   abbrev n : ℕ
   n = s .width
@@ -218,7 +220,8 @@ module _ (s : Net) (u t : List ℕ) (e : mend s u ≡ planned t) (i k : ℕ) (l 
         few-count wish (s .load i) k,
         sum-le (λ q. bit (keeps s u rows i q)) (λ q. bit (reserved n u i q && reserved n t i q)) k (λ q m. kept-both q (omega arith)),
       )))
-      (why (s .usable k) (taken s (reserved n rows) i k) (reserved n u i k) (ltb (count wish k) (s .load i)) (adds s u rows i k) (reserved n t i k) y o (stands k w) d)
+      (why (s .usable k) (taken s (reserved n rows) i k) (reserved n u i k) (ltb (count wish k) (s .load i)) (adds s u rows i k) (reserved n t i k) y o
+      (stands k w) d)
 
   -- A position of cell i that stands and was not reserved: it is free; the cell stands on every lower position that is; it gives up nothing that it may keep.
   free-same : (q : ℕ) → q < n → free s (reserved n rows) i q ≡ free s (reserved n t) i q

@@ -1,4 +1,5 @@
--- The mender's rule is fair, so all of `Run` holds of it: a row that stands has the first of the old reservations that are free, then the first of the other free positions.
+-- The mender's rule is fair, so all of `Run` holds of it: a row that stands has the first of the old reservations that are free,
+-- then the first of the other free positions.
 --     stand-one      which positions stand
 --     stand-fair     as the theory asks of a rule
 --     kept-all, add-lowest    something is added only where all that may be kept is kept, and where all that is free below it stands

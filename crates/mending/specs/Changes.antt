@@ -1,4 +1,5 @@
--- "The changes are listed by cell, then position: cell, position, what it was, what it is (1 reservation, 0 silence)." Four numbers a change; cells from 1, positions from 0.
+-- W7: "a list of changes by cell, then position: what it was, what it is, reservation or silence". Four numbers a change: the cell, the position, what it was,
+-- what it is. Cells go from 1, positions from 0; a reservation is 1, silence 0.
 use mathlib.Core.Bool.{Bool, not}
 use mathlib.Core.List.{List, [], _∷_, _++_}
 use Prim.Native.Nat.{ℕ, zero, suc, _+_, _-_, _*_}
@@ -12,12 +13,12 @@ abbrev pub differ : Bool → Bool → Bool
 differ is was = pick was (not is) is
 
 -- a change of cell i at position k, in four numbers
-abbrev pub entry : Bool → Bool → ℕ → ℕ → List ℕ
-entry is was i k = (i + 1) ∷ k ∷ bit was ∷ bit is ∷ []
+abbrev pub changeEntry : Bool → Bool → ℕ → ℕ → List ℕ
+changeEntry is was i k = (i + 1) ∷ k ∷ bit was ∷ bit is ∷ []
 
 -- and nothing where there is none
 abbrev pub change : Bool → Bool → ℕ → ℕ → List ℕ
-change is was i k = pick (differ is was) (entry is was i k) []
+change is was i k = pick (differ is was) (changeEntry is was i k) []
 
 -- what is reserved now, and what was before
 module _ (is was : Reserved) where

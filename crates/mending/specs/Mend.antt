@@ -1,5 +1,6 @@
--- W7's mender: "For each cell in rising number: keep its reservations in rising position where no kept or added reservation of an earlier clashing cell stands, until the
--- load is met; drop the rest; then add the lowest free positions until it is met." Keeping and adding are one rule for `run`, which gives a cell's row from the rows below.
+-- W7's mender: "For each cell in rising number: keep its reservations in rising position where no kept or added reservation of an earlier clashing cell stands,
+-- until the load is met; drop the rest; then add the lowest free positions until it is met."
+-- Keeping and adding are one rule for `run`, which gives a cell's row from the rows below.
 use mathlib.Core.Bool.{Bool, _&&_}
 use mathlib.Core.List.{List, [], _∷_}
 use Prim.Native.Nat.{ℕ}

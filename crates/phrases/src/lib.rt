@@ -3,7 +3,7 @@ use speech::say;
 ghost use mathlib.Core.Path.{_≡_};
 ghost use Prim.Native.Nat.{_+_, _*_, _≤_};
 ghost use lib.ListN.{length, take, drop};
-ghost use Rattle.phrases.specs.Phrases.{skip, upTo, rowIn, partIn, phraseIn};
+ghost use Rattle.phrases.specs.Phrases.{skip, upToBar, rowIn, partIn, phraseIn};
 ghost use Rattle.phrases.specs.Put.{Put, PutRow};
 
 // What is to be said: nothing, or a row of a table, counted from 0, with four values.
@@ -34,7 +34,7 @@ fn row_start(table: &[u8], row: usize) -> usize
 // Where the first row ends.
 fn row_end(table: &[u8]) -> usize
     ensures inside { λ r. ⌜ r ≤ length (now (table .entry)) ⌝ }
-    ensures end { λ r. ⌜ take r (now (table .entry)) ≡ upTo (now (table .entry)) ⌝ }
+    ensures end { λ r. ⌜ take r (now (table .entry)) ≡ upToBar (now (table .entry)) ⌝ }
 {
     let mut i = 0;
     while i < table.len() {

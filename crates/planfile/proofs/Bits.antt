@@ -156,7 +156,14 @@ whole-step s t j m h =
     let e : 8 * (m - j) ≡ 8 + 8 * (m - (j + 1)) = omega arith in
     let f : 8 * (j + 1) ≡ 8 * j + 8 = omega arith in
     let g : bitsFrom (getD s j 0 ∷ []) 0 8 ≡ bitsFrom s (8 * j) 8 = sym (byte-bits s j 8 0 (omega arith)) ∙ rw (add-zero (8 * j)) in
-    rw (e, f, g, bits-split s 8 (8 * (m - (j + 1))) (8 * j), sets-append t (8 * j) (bitsFrom s (8 * j) 8) (bitsFrom s (8 * j + 8) (8 * (m - (j + 1)))), length-bits s 8 (8 * j))
+    rw (
+      e,
+      f,
+      g,
+      bits-split s 8 (8 * (m - (j + 1))) (8 * j),
+      sets-append t (8 * j) (bitsFrom s (8 * j) 8) (bitsFrom s (8 * j + 8) (8 * (m - (j + 1)))),
+      length-bits s 8 (8 * j),
+    )
 
 pub whole-end : (s t : List ℕ) (j m : ℕ) → m ≤ j → sets t (8 * j) (bitsFrom s (8 * j) (8 * (m - j))) ≡ t
 unfolding bitsFrom
@@ -180,7 +187,8 @@ rest-end s t k n h =
     rw e
 
 -- the whole bytes and the rest
-pub bits-parts : (s t : List ℕ) (n : ℕ) → sets (sets t 0 (bitsFrom s 0 (8 * (n / 8)))) (8 * (n / 8)) (bitsFrom s (8 * (n / 8)) (n - 8 * (n / 8))) ≡ sets t 0 (bitsFrom s 0 n)
+pub bits-parts : (s t : List ℕ) (n : ℕ) → sets (sets t 0 (bitsFrom s 0 (8 * (n / 8)))) (8 * (n / 8)) (bitsFrom s (8 * (n / 8)) (n - 8 * (n / 8)))
+    ≡ sets t 0 (bitsFrom s 0 n)
 bits-parts s t n =
     let m = 8 * (n / 8) in
     let e : n ≡ m + (n - m) = omega arith in

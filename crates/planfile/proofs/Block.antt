@@ -12,8 +12,9 @@ use lib.Seq.{sets, ext-getD, getD-take, getD-set-same, getD-set-other, length-ta
 use borrow.Author.Count.{below-more}
 use Rattle.laws.proofs.Stores.{sets-append}
 use Rattle.planfile.specs.Bits.{one, ones, packedFrom}
-use Rattle.planfile.specs.Block.{Runs, Below, Joined}
+use Rattle.planfile.specs.Block.{Runs, Joined}
 use Rattle.planfile.proofs.Bits.{ones-lt, ones-both, length-packed, packed-at}
+use Rattle.laws.specs.Part.{Below}
 
 -- a turn of a pass: what holds of the numbers before i, and of the one stored there
 pub more :

@@ -46,8 +46,25 @@ refused-zeros s t n at e = rw (sym (answer-is s t) ∙ e) refl
 
 -- no refusal has the number 0
 some-plan : (s t : List ℕ) → Some (planReasons s t)
-some-plan s t =
-    (omega arith, (omega arith, (omega arith, (omega arith, (omega arith, (omega arith, (omega arith, (omega arith, (omega arith, (omega arith, (omega arith, (omega arith, tt))))))))))))
+some-plan s t = (
+  omega arith,
+  (
+    omega arith,
+    (
+      omega arith,
+      (
+        omega arith,
+        (
+          omega arith,
+          (
+            omega arith,
+            (omega arith, (omega arith, (omega arith, (omega arith, (omega arith, (omega arith, tt)))))),
+          ),
+        ),
+      ),
+    ),
+  ),
+)
 
 pub refused-some : (s t : List ℕ) (n at : ℕ) → readPlan s t .answer ≡ Refused n at → 1 ≤ n
 unfolding planReadAnswer

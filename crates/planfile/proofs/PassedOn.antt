@@ -1,12 +1,12 @@
--- The writer passes on the record's own fault, exactly where there is one: the lemmas of crate `site`, since a file that is written, a table that is short, or a file that
--- does not fit, is no refusal of the record. Assumes nothing.
+-- The writer passes on the record's own fault, exactly where there is one: the lemmas of crate `site`, since a file that is written, a table that is short,
+-- or a file that does not fit, is no refusal of the record. Assumes nothing.
 use Prim.Native.Nat.{ℕ}
 use mathlib.Core.Path.{_≡_, refl}
 use mathlib.Core.Bool.{Bool, true, false}
 use mathlib.Core.List.{List}
 use mathlib.Core.Logic.{_↔_}
 use native.Mathlib.Omega.{arith}
-use lib.Dec.{ltb}
+use lib.Dec.{ltb, leb}
 use lib.ListN.{length}
 use Rattle.laws.specs.Choice.{pick}
 use Rattle.site.specs.Record.{size, isFine, faultOf}
@@ -17,8 +17,8 @@ use Rattle.planfile.specs.Write.{planFile, planWritten}
 use Rattle.planfile.specs.Given.{planWrittenProper}
 use Rattle.planfile.specs.declared.PlanWritten.the-variants.{Done, TableShort, OutShort, Refused}
 
-no-refusal : (short over : Bool) (n : ℕ) (f : Fault) → pick short TableShort (pick over (OutShort n) (Done n)) ≡ Refused f → ⊥
-no-refusal true over n f e = let z : _≡_ {A = ℕ} 0 1 = cc in omega arith
+no-refusal : (short fits : Bool) (n : ℕ) (f : Fault) → pick short TableShort (pick fits (Done n) (OutShort n)) ≡ Refused f → ⊥
+no-refusal true fits n f e = let z : _≡_ {A = ℕ} 0 1 = cc in omega arith
 no-refusal false true n f e = let z : _≡_ {A = ℕ} 0 1 = cc in omega arith
 no-refusal false false n f e = let z : _≡_ {A = ℕ} 0 1 = cc in omega arith
 
@@ -27,7 +27,7 @@ module _ (s : Site) (t out : List ℕ) where
   unfolding planWritten
   plan-written-refused =
       let n = length (planFile s t) in
-      passed-on Refused (λ f g e. cc) (faultOf s) _ (no-refusal (ltb (length t) (size s)) (ltb (length out) n) n)
+      passed-on Refused (λ f g e. cc) (faultOf s) _ (no-refusal (ltb (length t) (size s)) (leb n (length out)) n)
 
   pub plan-written-proper : planWrittenProper (planWritten s t out) ≡ true
   unfolding planWritten
@@ -35,4 +35,4 @@ module _ (s : Site) (t out : List ℕ) where
       let n = length (planFile s t) in
       proper-call planWrittenProper Refused (λ g. refl) (faultOf s) _
       (proper-either planWrittenProper (ltb (length t) (size s)) TableShort _ refl
-      (proper-either planWrittenProper (ltb (length out) n) (OutShort n) (Done n) refl refl))
+      (proper-either planWrittenProper (leb n (length out)) (Done n) (OutShort n) refl refl))

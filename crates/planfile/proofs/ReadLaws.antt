@@ -14,7 +14,7 @@ use Rattle.site.proofs.Faults.{few-bytes}
 use Rattle.records.specs.Bytes.{le16}
 use Rattle.records.specs.Opener.{openAt}
 use Rattle.records.specs.Reasons.{Reason, reason, firstReason, recordReasons, endReason}
-use Rattle.records.specs.Head.{headSize, cellsIn, slotsIn, channelsIn, entriesIn, headReasons, headAnswer}
+use Rattle.records.specs.Head.{headSize, cellsOfHead, slotsOfHead, channelsOfHead, entriesOfHead, headReasons, headAnswer}
 use Rattle.records.specs.declared.Length.the-variants.{Exact}
 use Rattle.records.specs.declared.Opened.the-variants.{Body, Refused as NotOpened}
 use Rattle.records.specs.declared.ReadAnswer.{ReadAnswer}
@@ -29,13 +29,13 @@ use Rattle.planfile.proofs.Bits.{length-bits}
 
 -- the plan record's own reasons, and those past it: "plan 14. Then 12, then 4."
 abbrev pub openReasons : List ℕ → List Reason
-openReasons s = recordReasons s (planAt s) 4 (Exact (2 + bytesFor (entriesIn s)))
+openReasons s = recordReasons s (planAt s) 4 (Exact (2 + bytesFor (entriesOfHead s)))
 
 abbrev pub contentReasons : List ℕ → List ℕ → List Reason
 contentReasons s t =
-    reason (leftOver (bodyIn s) (entriesIn s)) 14 (planAt s)
+    reason (leftOver (bodyIn s) (entriesOfHead s)) 14 (planAt s)
     ∷ endReason s (endIn s)
-    ∷ reason (ltb (length t) (entriesIn s)) 4 0
+    ∷ reason (ltb (length t) (entriesOfHead s)) 4 0
     ∷ []
 
 module _ (s t : List ℕ) where
@@ -57,21 +57,21 @@ module _ (s t : List ℕ) where
   past-head e = plan-parts ∙ ap (λ (a : ReadAnswer). andThen a (andThen (firstReason (openReasons s)) (firstReason (contentReasons s t)))) e
 
   module _ (i a f : ℕ) (head : HeadRead s i a f) where
-    pub entries-are : entries i a f ≡ entriesIn s
+    pub entries-are : entries i a f ≡ entriesOfHead s
     entries-are = rw (head .cells-are, head .slots-are, head .channels-are)
 
-    pub few : entriesIn s ≤ 65536
+    pub few : entriesOfHead s ≤ 65536
     few = few-bytes (head-sizes s (head .read))
 
     pub due : headSize ≡ planAt s
     due = omega (arith, head-read s (head .read) .eight)
 
-    pub body-stop : (n at : ℕ) → openAt s (planAt s) 4 (Exact (2 + bytesFor (entriesIn s))) ≡ NotOpened n at → planReadAnswer s t ≡ Refused n at
+    pub body-stop : (n at : ℕ) → openAt s (planAt s) 4 (Exact (2 + bytesFor (entriesOfHead s))) ≡ NotOpened n at → planReadAnswer s t ≡ Refused n at
     body-stop n at e =
         past-head (head .read) ∙ ap (λ (x : ReadAnswer). andThen x (firstReason (contentReasons s t))) (records.not-opened s (planAt s) 4 _ n at e)
 
-    module _ (start len : ℕ) (found : openAt s (planAt s) 4 (Exact (2 + bytesFor (entriesIn s))) ≡ Body start len) where
-      opening : records.Opening s (planAt s) 4 (Exact (2 + bytesFor (entriesIn s))) start len
+    module _ (start len : ℕ) (found : openAt s (planAt s) 4 (Exact (2 + bytesFor (entriesOfHead s))) ≡ Body start len) where
+      opening : records.Opening s (planAt s) 4 (Exact (2 + bytesFor (entriesOfHead s))) start len
       opening = records.opened s (planAt s) 4 _ start len found
 
       -- where the body stands
@@ -84,42 +84,43 @@ module _ (s t : List ℕ) where
       pub body-is : take (start + len - start) (drop start s) ≡ bodyIn s
       body-is = records.body-is s (planAt s) 4 _ start len opening
 
-      pub body-long : length (bodyIn s) ≡ bytesFor (entriesIn s)
+      pub body-long : length (bodyIn s) ≡ bytesFor (entriesOfHead s)
       body-long =
-          let w = records.exact (2 + bytesFor (entriesIn s)) (le16 s (planAt s)) (opening .fits) in
-          length-take-le (le16 s (planAt s) - 2) (drop (planAt s + 4) s) (rw (length-drop (planAt s + 4) s) (omega (arith, within, opening .starts, opening .size)))
+          let w = records.exact (2 + bytesFor (entriesOfHead s)) (le16 s (planAt s)) (opening .fits) in
+          length-take-le (le16 s (planAt s) - 2) (drop (planAt s + 4) s) (rw (length-drop (planAt s + 4) s)
+          (omega (arith, within, opening .starts, opening .size)))
           ∙ omega arith
 
       tail-first : planReadAnswer s t ≡ firstReason (contentReasons s t)
       tail-first =
           past-head (head .read) ∙ ap (λ (x : ReadAnswer). andThen x (firstReason (contentReasons s t))) (records.opened-done s (planAt s) 4 _ start len found)
 
-      pub left-stop : leftOver (bodyIn s) (entriesIn s) ≡ true → planReadAnswer s t ≡ Refused 14 (planAt s)
+      pub left-stop : leftOver (bodyIn s) (entriesOfHead s) ≡ true → planReadAnswer s t ≡ Refused 14 (planAt s)
       unfolding firstReason
       left-stop e = tail-first ∙ rw e refl
 
-      module _ (none : leftOver (bodyIn s) (entriesIn s) ≡ false) where
+      module _ (none : leftOver (bodyIn s) (entriesOfHead s) ≡ false) where
         pub more-stop : endIn s < length s → planReadAnswer s t ≡ Refused 12 (endIn s)
         unfolding firstReason
         more-stop h = tail-first ∙ rw (none, lt-ltb (endIn s) (length s) h) refl
 
         module _ (whole : length s ≤ endIn s) where
-          pub short-stop : length t < entriesIn s → planReadAnswer s t ≡ Refused 4 0
+          pub short-stop : length t < entriesOfHead s → planReadAnswer s t ≡ Refused 4 0
           unfolding firstReason
-          short-stop h = tail-first ∙ rw (none, le-ltb (endIn s) (length s) whole, lt-ltb (length t) (entriesIn s) h) refl
+          short-stop h = tail-first ∙ rw (none, le-ltb (endIn s) (length s) whole, lt-ltb (length t) (entriesOfHead s) h) refl
 
-          pub read-done : entriesIn s ≤ length t → planReadAnswer s t ≡ Done
+          pub read-done : entriesOfHead s ≤ length t → planReadAnswer s t ≡ Done
           unfolding firstReason
-          read-done h = tail-first ∙ rw (none, le-ltb (endIn s) (length s) whole, le-ltb (length t) (entriesIn s) h) refl
+          read-done h = tail-first ∙ rw (none, le-ltb (endIn s) (length s) whole, le-ltb (length t) (entriesOfHead s) h) refl
 
 -- what a done read gives back and leaves
 pub accept :
-    (s t : List ℕ) → planReadAnswer s t ≡ Done → entriesIn s ≤ length t →
-    (record { cells = cellsIn s; slots = slotsIn s; channels = channelsIn s; answer = Done } ≡ readPlan s t)
-    × (sets t 0 (bitsFrom (bodyIn s) 0 (entriesIn s)) ≡ planTableRead s t)
+    (s t : List ℕ) → planReadAnswer s t ≡ Done → entriesOfHead s ≤ length t →
+    (record { cells = cellsOfHead s; slots = slotsOfHead s; channels = channelsOfHead s; answer = Done } ≡ readPlan s t)
+    × (sets t 0 (bitsFrom (bodyIn s) 0 (entriesOfHead s)) ≡ planTableRead s t)
 unfolding readPlan planReadOf planTableRead
 accept s t e h =
-    let l = length-bits (bodyIn s) (entriesIn s) 0 in (
+    let l = length-bits (bodyIn s) (entriesOfHead s) 0 in (
       rw e refl,
-      rw e (sets-front t (bitsFrom (bodyIn s) 0 (entriesIn s)) (rw l h) ∙ ap (λ (k : ℕ). bitsFrom (bodyIn s) 0 (entriesIn s) ++ drop k t) l),
+      rw e (sets-front t (bitsFrom (bodyIn s) 0 (entriesOfHead s)) (rw l h) ∙ ap (λ (k : ℕ). bitsFrom (bodyIn s) 0 (entriesOfHead s) ++ drop k t) l),
     )

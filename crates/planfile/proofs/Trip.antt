@@ -9,8 +9,8 @@ use native.Mathlib.Nat.{zero-add}
 use native.Mathlib.Omega.{arith}
 use lib.ListN.{length, getD, take, drop, length-append, length-drop, length-map, drop-of-length-le, List·getD-eq-default, List·getD-map}
 use lib.Seq.{length-take-le, take-at, ext-getD}
-use lib.Dec.{ltb, eqb}
-use borrow.Author.Tests.{le-ltb, ltb-true, ltb-false}
+use lib.Dec.{ltb, leb, eqb}
+use borrow.Author.Tests.{le-ltb, ltb-true, ltb-false, leb-true, le-leb}
 use Rattle.laws.specs.Choice.{pick}
 use Rattle.laws.proofs.Choice.{cases}
 use Rattle.laws.proofs.Any.{any-none, none-any}
@@ -19,10 +19,10 @@ use Rattle.site.specs.Record.{entries, size, sizeOk, isFine, faultOf}
 use Rattle.site.specs.declared.Site.{Site}
 use Rattle.site.specs.declared.Fault.the-variants.{Fine, Size}
 use Rattle.site.proofs.Faults.{fine-is, took-first}
-use Rattle.records.specs.Bytes.{Bytes, le16, words}
+use Rattle.records.specs.Bytes.{Bytes, le16, twoBytesEach}
 use Rattle.records.specs.Layout.{recordOf}
 use Rattle.records.specs.Reasons.{firstReason}
-use Rattle.records.specs.Head.{headRecord, cellsIn, slotsIn, channelsIn, entriesIn, headAnswer}
+use Rattle.records.specs.Head.{headRecord, cellsOfHead, slotsOfHead, channelsOfHead, entriesOfHead, headAnswer}
 use Rattle.records.specs.declared.Length.the-variants.{Exact}
 use Rattle.records.specs.declared.ReadAnswer.{ReadAnswer}
 use Rattle.records.specs.declared.ReadAnswer.the-variants.{Done}
@@ -137,47 +137,47 @@ module _ (i a f : ℕ) (t : List ℕ) where
   head-here = refl
 
   plan-here : drop (planAt B) B ≡ recordOf 4 P ++ []
-  plan-here = rest-back B 0 1 (words (i ∷ a ∷ f ∷ [])) (recordOf 4 P) head-here ∙ sym (append-nil (recordOf 4 P))
+  plan-here = rest-back B 0 1 (twoBytesEach (i ∷ a ∷ f ∷ [])) (recordOf 4 P) head-here ∙ sym (append-nil (recordOf 4 P))
 
   no-more : length B - endIn B ≡ 0
   no-more = sym (length-drop (endIn B) B) ∙ ap length (rest-back B (planAt B) 4 P [] plan-here)
 
-  cells-back : cellsIn B ≡ i
+  cells-back : cellsOfHead B ≡ i
   unfolding planBytes
   cells-back = omega arith
 
-  slots-back : slotsIn B ≡ a
+  slots-back : slotsOfHead B ≡ a
   unfolding planBytes
   slots-back = omega arith
 
-  channels-back : channelsIn B ≡ f
+  channels-back : channelsOfHead B ≡ f
   unfolding planBytes
   channels-back = omega arith
 
-  entries-back : entriesIn B ≡ entries i a f
+  entries-back : entriesOfHead B ≡ entries i a f
   entries-back = λ j. entries (cells-back j) (slots-back j) (channels-back j)
 
   body-back : bodyIn B ≡ P
   body-back = record-body B (planAt B) 4 P [] plan-here
 
   module _ (ok : sizeOk i a f ≡ true) (enough : entries i a f ≤ length t) where
-    left-back : leftOver (bodyIn B) (entriesIn B) ≡ false
+    left-back : leftOver (bodyIn B) (entriesOfHead B) ≡ false
     left-back = (λ j. leftOver (body-back j) (entries-back j)) ∙ packed-left (take (entries i a f) t) (entries i a f) (length-take-le (entries i a f) t enough)
 
     head-good : headAnswer B ≡ Done
     head-good =
-        head-done B (record-back B 0 1 (words (i ∷ a ∷ f ∷ [])) (recordOf 4 P) head-here (Exact 8) (exact-true 8 (omega arith)))
+        head-done B (record-back B 0 1 (twoBytesEach (i ∷ a ∷ f ∷ [])) (recordOf 4 P) head-here (Exact 8) (exact-true 8 (omega arith)))
         ((λ j. sizeOk (cells-back j) (slots-back j) (channels-back j)) ∙ ok)
 
     plan-good : firstReason (openReasons B) ≡ Done
     plan-good =
-        let n : 2 + length P ≡ 2 + bytesFor (entriesIn B) = ap (λ (k : ℕ). 2 + k) p-length ∙ ap (λ (k : ℕ). 2 + bytesFor k) (sym entries-back) in
-        record-back B (planAt B) 4 P [] plan-here (Exact (2 + bytesFor (entriesIn B))) (rw n (exact-true (2 + bytesFor (entriesIn B)) (omega arith)))
+        let n : 2 + length P ≡ 2 + bytesFor (entriesOfHead B) = ap (λ (k : ℕ). 2 + k) p-length ∙ ap (λ (k : ℕ). 2 + bytesFor k) (sym entries-back) in
+        record-back B (planAt B) 4 P [] plan-here (Exact (2 + bytesFor (entriesOfHead B))) (rw n (exact-true (2 + bytesFor (entriesOfHead B)) (omega arith)))
 
     content-good : (u : List ℕ) → entries i a f ≤ length u → firstReason (contentReasons B u) ≡ Done
     unfolding firstReason
     content-good u h =
-        rw (left-back, le-ltb (endIn B) (length B) (omega (arith, no-more)), le-ltb (length u) (entriesIn B) (rw entries-back h)) refl
+        rw (left-back, le-ltb (endIn B) (length B) (omega (arith, no-more)), le-ltb (length u) (entriesOfHead B) (rw entries-back h)) refl
 
     done-back : (u : List ℕ) → entries i a f ≤ length u → planReadAnswer B u ≡ Done
     done-back u h =
@@ -204,10 +204,10 @@ module _ (i a f : ℕ) (t : List ℕ) where
 -- what an accepted file is
 pub record Accepted (s t : List ℕ) : Type 0 where
   pub head : HeadGood s
-  pub plan : Opening s (planAt s) 4 (Exact (2 + bytesFor (entriesIn s))) (planAt s + 4) (le16 s (planAt s) - 2)
-  pub no-left-over : leftOver (bodyIn s) (entriesIn s) ≡ false
+  pub plan : Opening s (planAt s) 4 (Exact (2 + bytesFor (entriesOfHead s))) (planAt s + 4) (le16 s (planAt s) - 2)
+  pub no-left-over : leftOver (bodyIn s) (entriesOfHead s) ≡ false
   pub whole : length s ≤ endIn s
-  pub room : entriesIn s ≤ length t
+  pub room : entriesOfHead s ≤ length t
 
 pub accepted : (s t : List ℕ) → readPlan s t .answer ≡ Done → Accepted s t
 accepted s t e =
@@ -216,49 +216,49 @@ accepted s t e =
     let n = done-none (contentReasons s t) (p .1) in
     record {
       head = head-read s (h .0);
-      plan = record-open s (planAt s) 4 (Exact (2 + bytesFor (entriesIn s))) (p .0);
+      plan = record-open s (planAt s) 4 (Exact (2 + bytesFor (entriesOfHead s))) (p .0);
       no-left-over = n .0;
       whole = ltb-false (endIn s) (length s) (n .1 .0);
-      room = ltb-false (length t) (entriesIn s) (n .1 .1 .0);
+      room = ltb-false (length t) (entriesOfHead s) (n .1 .1 .0);
     }
 
 module _ (s t : List ℕ) (done : readPlan s t .answer ≡ Done) (bytes : Bytes s) where
   ok : Accepted s t
   ok = accepted s t done
 
-  table-is : planTableRead s t ≡ bitsFrom (bodyIn s) 0 (entriesIn s) ++ drop (entriesIn s) t
+  table-is : planTableRead s t ≡ bitsFrom (bodyIn s) 0 (entriesOfHead s) ++ drop (entriesOfHead s) t
   unfolding planTableRead
   table-is = rw (sym (answer-is s t) ∙ done) refl
 
   -- the read table is long enough to be written again
-  pub table-long : entriesIn s ≤ length (planTableRead s t)
-  table-long = rw (table-is, length-append) (omega (arith, length-bits (bodyIn s) (entriesIn s) 0))
+  pub table-long : entriesOfHead s ≤ length (planTableRead s t)
+  table-long = rw (table-is, length-append) (omega (arith, length-bits (bodyIn s) (entriesOfHead s) 0))
 
   body-bytes : Bytes (bodyIn s)
   body-bytes = bytes-take (le16 s (planAt s) - 2) (drop (planAt s + 4) s) (bytes-drop (planAt s + 4) s bytes)
 
-  body-long : length (bodyIn s) ≡ bytesFor (entriesIn s)
+  body-long : length (bodyIn s) ≡ bytesFor (entriesOfHead s)
   body-long =
-      body-length s bytes (planAt s) 4 (Exact (2 + bytesFor (entriesIn s))) _ _ (ok .plan)
-      ∙ omega (arith, exact (2 + bytesFor (entriesIn s)) (le16 s (planAt s)) (ok .plan .fits))
+      body-length s bytes (planAt s) 4 (Exact (2 + bytesFor (entriesOfHead s))) _ _ (ok .plan)
+      ∙ omega (arith, exact (2 + bytesFor (entriesOfHead s)) (le16 s (planAt s)) (ok .plan .fits))
 
-  packed-again : packed (planTableRead s t) (entriesIn s) ≡ bodyIn s
+  packed-again : packed (planTableRead s t) (entriesOfHead s) ≡ bodyIn s
   packed-again =
-      ap (λ (l : List ℕ). packedFrom (take (entriesIn s) l) 0 (bytesFor (entriesIn s))) table-is
-      ∙ ap (λ (l : List ℕ). packedFrom l 0 (bytesFor (entriesIn s)))
-      (take-at (bitsFrom (bodyIn s) 0 (entriesIn s)) (drop (entriesIn s) t) (entriesIn s) (length-bits (bodyIn s) (entriesIn s) 0))
-      ∙ bits-packed (bodyIn s) (entriesIn s) body-long body-bytes (ok .no-left-over)
+      ap (λ (l : List ℕ). packedFrom (take (entriesOfHead s) l) 0 (bytesFor (entriesOfHead s))) table-is
+      ∙ ap (λ (l : List ℕ). packedFrom l 0 (bytesFor (entriesOfHead s)))
+      (take-at (bitsFrom (bodyIn s) 0 (entriesOfHead s)) (drop (entriesOfHead s) t) (entriesOfHead s) (length-bits (bodyIn s) (entriesOfHead s) 0))
+      ∙ bits-packed (bodyIn s) (entriesOfHead s) body-long body-bytes (ok .no-left-over)
 
   -- an accepted file, read and written again, is the same bytes
-  pub read-written : planBytes (cellsIn s) (slotsIn s) (channelsIn s) (planTableRead s t) ≡ s
+  pub read-written : planBytes (cellsOfHead s) (slotsOfHead s) (channelsOfHead s) (planTableRead s t) ≡ s
   unfolding planBytes
   read-written =
-      let last : recordOf 4 (packed (planTableRead s t) (entriesIn s)) ≡ drop (planAt s) s =
+      let last : recordOf 4 (packed (planTableRead s t) (entriesOfHead s)) ≡ drop (planAt s) s =
       ap (recordOf 4) packed-again
       ∙ sym (append-nil (recordOf 4 (bodyIn s)))
       ∙ ap (λ (l : List ℕ). recordOf 4 (bodyIn s) ++ l) (sym (drop-of-length-le s {i = endIn s} (ok .whole)))
-      ∙ record-again s bytes (planAt s) 4 (Exact (2 + bytesFor (entriesIn s))) _ _ (ok .plan) in
-      ap (λ (l : List ℕ). headRecord (cellsIn s) (slotsIn s) (channelsIn s) ++ l) last ∙ head-again s bytes (ok .head)
+      ∙ record-again s bytes (planAt s) 4 (Exact (2 + bytesFor (entriesOfHead s))) _ _ (ok .plan) in
+      ap (λ (l : List ℕ). headRecord (cellsOfHead s) (slotsOfHead s) (channelsOfHead s) ++ l) last ∙ head-again s bytes (ok .head)
 
 -- ---- the calls
 
@@ -277,12 +277,12 @@ written-tells s t out m e = go _ _ _ refl refl refl e
     n = size s
 
     go :
-        (x y z : Bool) → isFine (faultOf s) ≡ x → ltb (length t) n ≡ y → ltb (length out) (length (planFile s t)) ≡ z →
-        pick x (pick y TableShort (pick z (OutShort (length (planFile s t))) (Written (length (planFile s t))))) (Faulty (faultOf s)) ≡ Written m →
+        (x y z : Bool) → isFine (faultOf s) ≡ x → ltb (length t) n ≡ y → leb (length (planFile s t)) (length out) ≡ z →
+        pick x (pick y TableShort (pick z (Written (length (planFile s t))) (OutShort (length (planFile s t))))) (Faulty (faultOf s)) ≡ Written m →
         WrittenDone s t out m
-    go true false false p q r e =
-        record { fine = fine-is (faultOf s) p; enough = ltb-false (length t) n q; fits = ltb-false (length out) (length (planFile s t)) r; count = cc }
-    go true false true p q r e = let o : _≡_ {A = ℕ} 0 1 = cc in absurd (omega arith)
+    go true false true p q r e =
+        record { fine = fine-is (faultOf s) p; enough = ltb-false (length t) n q; fits = leb-true (length (planFile s t)) (length out) r; count = cc }
+    go true false false p q r e = let o : _≡_ {A = ℕ} 0 1 = cc in absurd (omega arith)
     go true true z p q r e = let o : _≡_ {A = ℕ} 0 1 = cc in absurd (omega arith)
     go false y z p q r e = let o : _≡_ {A = ℕ} 0 1 = cc in absurd (omega arith)
 
@@ -309,12 +309,12 @@ pub calls-read-written :
 unfolding readPlan planReadOf planWritten
 calls-read-written s t done bytes x fine i a f out h =
     let p : planReadAnswer s t ≡ Done = sym (answer-is s t) ∙ done in
-    let ci : x .cells ≡ cellsIn s = rw p at i in
-    let ca : x .slots ≡ slotsIn s = rw p at a in
-    let cf : x .channels ≡ channelsIn s = rw p at f in
-    let n : size x ≡ entriesIn s = (λ j. entries (ci j) (ca j) (cf j)) in
+    let ci : x .cells ≡ cellsOfHead s = rw p at i in
+    let ca : x .slots ≡ slotsOfHead s = rw p at a in
+    let cf : x .channels ≡ channelsOfHead s = rw p at f in
+    let n : size x ≡ entriesOfHead s = (λ j. entries (ci j) (ca j) (cf j)) in
     let file : planFile x (planTableRead s t) ≡ s = (λ j. planBytes (ci j) (ca j) (cf j) (planTableRead s t)) ∙ read-written s t done bytes in
     let enough : size x ≤ length (planTableRead s t) = rw n (table-long s t done bytes) in
     let room = le-ltb (length (planTableRead s t)) (size x) enough in
-    let fits = le-ltb (length out) (length s) h in
+    let fits = le-leb (length s) (length out) h in
     (rw (fine, room, file, fits) refl, out-done x (planTableRead s t) out fine enough (rw file h) ∙ ap (λ (l : List ℕ). l ++ drop (length l) out) file)

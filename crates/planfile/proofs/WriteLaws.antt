@@ -8,12 +8,12 @@ use native.Mathlib.Omega.{arith}
 use lib.ListN.{length, take, drop, length-append}
 use lib.Seq.{sets}
 use lib.Dec.{ltb}
-use borrow.Author.Tests.{lt-ltb, le-ltb, le-leb}
+use borrow.Author.Tests.{lt-ltb, le-ltb, lt-leb, le-leb}
 use Rattle.laws.proofs.Stores.{sets-append, sets-front}
 use Rattle.site.specs.Record.{entries, size, isFine, faultOf}
 use Rattle.site.specs.declared.Site.{Site}
 use Rattle.site.specs.declared.Fault.the-variants.{Fine}
-use Rattle.records.specs.Bytes.{words}
+use Rattle.records.specs.Bytes.{twoBytesEach}
 use Rattle.records.specs.Layout.{recordOf}
 use Rattle.records.specs.Head.{headRecord, headSize}
 use Rattle.records.specs.Write.{laidOver}
@@ -49,7 +49,7 @@ module _ (s : Site) (t out : List ℕ) where
       unfolding planWritten planOut
       out-short need q h =
           let l : length (planFile s t) ≡ need = file-length (s .cells) (s .slots) (s .channels) t ∙ sym q in
-          let e = lt-ltb (length out) need h in
+          let e = lt-leb need (length out) h in
           (rw (fine, test, l, e) refl, laid-short (planFile s t) out (rw l h) ∙ sym (rw (fine, test) refl))
 
       pub out-done : length (planFile s t) ≤ length out → planOut s t out ≡ planFile s t ++ drop (length (planFile s t)) out
@@ -59,21 +59,25 @@ module _ (s : Site) (t out : List ℕ) where
       pub all-done :
           (need : ℕ) → need ≡ headSize + 4 + bytesFor (size s) → need ≤ length out →
           (Done need ≡ planWritten s t out)
-          × (sets (sets (sets out 0 (headRecord (s .cells) (s .slots) (s .channels))) headSize (words ((2 + bytesFor (size s)) ∷ 4 ∷ []))) (headSize + 4) (packed t (size s))
+          × (sets (sets (sets out 0 (headRecord (s .cells) (s .slots) (s .channels))) headSize (twoBytesEach ((2 + bytesFor (size s)) ∷ 4 ∷ [])))
+          (headSize + 4) (packed t (size s))
           ≡ planOut s t out)
       unfolding planWritten
       all-done need q h =
           let l : length (planFile s t) ≡ need = file-length (s .cells) (s .slots) (s .channels) t ∙ sym q in
-          let e = le-ltb (length out) need h in (
+          let e = le-leb need (length out) h in (
             rw (fine, test, l, e) refl,
             parts ∙ sets-front out (planFile s t) (rw l h) ∙ sym (out-done (rw l h)),
           )
         where
           parts :
-              sets (sets (sets out 0 (headRecord (s .cells) (s .slots) (s .channels))) headSize (words ((2 + bytesFor (size s)) ∷ 4 ∷ []))) (headSize + 4) (packed t (size s))
+              sets (sets (sets out 0 (headRecord (s .cells) (s .slots) (s .channels))) headSize (twoBytesEach ((2 + bytesFor (size s)) ∷ 4 ∷ [])))
+              (headSize + 4) (packed t (size s))
               ≡ sets out 0 (planFile s t)
           parts =
               unfold planBytes in
               let head = headRecord (s .cells) (s .slots) (s .channels) in
-              let n : 2 + bytesFor (size s) ≡ 2 + length (packed t (size s)) = ap (λ (k : ℕ). 2 + k) (sym (length-packed (take (size s) t) (bytesFor (size s)) 0)) in
-              record-put (sets out 0 head) headSize 4 (2 + bytesFor (size s)) (packed t (size s)) n ∙ sym (sets-append out 0 head (recordOf 4 (packed t (size s))))
+              let n : 2 + bytesFor (size s) ≡ 2 + length (packed t (size s)) = ap (λ (k : ℕ). 2 + k)
+              (sym (length-packed (take (size s) t) (bytesFor (size s)) 0)) in
+              record-put (sets out 0 head) headSize 4 (2 + bytesFor (size s)) (packed t (size s)) n
+              ∙ sym (sets-append out 0 head (recordOf 4 (packed t (size s))))

@@ -9,10 +9,6 @@ use Rattle.planfile.specs.Bits.{ones}
 abbrev pub Runs : List ℕ → ℕ → ℕ → ℕ → List ℕ → Type 0
 Runs t k c n v = (i : ℕ) → i < n → getD v i 0 ≡ ones t (k + c * i) c
 
--- the first n numbers of v are below b
-abbrev pub Below : ℕ → ℕ → List ℕ → Type 0
-Below b n v = (i : ℕ) → i < n → getD v i 0 < b
-
 -- v starts with n numbers, each of two neighbours in u, the second with weight w
 abbrev pub Joined : ℕ → ℕ → List ℕ → List ℕ → Type 0
 Joined w n u v = (i : ℕ) → i < n → getD v i 0 ≡ getD u (2 * i) 0 + w * getD u (2 * i + 1) 0

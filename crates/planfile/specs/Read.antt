@@ -1,4 +1,5 @@
--- The plan file as it is read. "A plan file is kinds 1, 4." Its reader's refusals stand in one list, in the order of document 01; the answer is the first that applies.
+-- The plan file as it is read. "A plan file is kinds 1, 4." Its reader's refusals stand in one list, in the order of document 01;
+-- the answer is the first that applies.
 use Prim.Native.Nat.{ℕ, _+_}
 use mathlib.Core.List.{List, [], _∷_, _++_}
 use lib.ListN.{length, drop}
@@ -6,7 +7,7 @@ use lib.Dec.{ltb}
 use Rattle.laws.specs.Choice.{pick}
 use Rattle.records.specs.Layout.{bodyAt, recordEnd}
 use Rattle.records.specs.Reasons.{Reason, reason, firstReason, isDone, recordReasons, endReason}
-use Rattle.records.specs.Head.{cellsIn, slotsIn, channelsIn, entriesIn, afterHead, headReasons}
+use Rattle.records.specs.Head.{cellsOfHead, slotsOfHead, channelsOfHead, entriesOfHead, afterHead, headReasons}
 use Rattle.records.specs.declared.Length.the-variants.{Exact}
 use Rattle.records.specs.declared.ReadAnswer.{ReadAnswer}
 use Rattle.records.specs.declared.ReadAnswer.the-variants.{Done, Refused}
@@ -23,11 +24,11 @@ bodyIn s = bodyAt s (planAt s)
 abbrev pub endIn : List ℕ → ℕ
 endIn s = recordEnd s (planAt s)
 
--- "4 plan: one bit per cell and position", length "2 + IN/8 rounded up"; "plan 14"
+-- kind 4, "plan": "one bit per cell and position", length "2 + IN/8 rounded up"; "plan 14"
 abbrev pub bodyReasons : List ℕ → List Reason
 bodyReasons s =
-    recordReasons s (planAt s) 4 (Exact (2 + bytesFor (entriesIn s)))
-    ++ (reason (leftOver (bodyIn s) (entriesIn s)) 14 (planAt s) ∷ [])
+    recordReasons s (planAt s) 4 (Exact (2 + bytesFor (entriesOfHead s)))
+    ++ (reason (leftOver (bodyIn s) (entriesOfHead s)) 14 (planAt s) ∷ [])
 
 -- "record by record .. Then 12, then 4." "4 from the plan reader: 0"
 abbrev pub planReasons : List ℕ → List ℕ → List Reason
@@ -35,7 +36,7 @@ planReasons s table =
     headReasons s
     ++ (bodyReasons s
     ++ (endReason s (endIn s)
-    ∷ reason (ltb (length table) (entriesIn s)) 4 0
+    ∷ reason (ltb (length table) (entriesOfHead s)) 4 0
     ∷ []))
 
 unfoldable pub planReadAnswer : List ℕ → List ℕ → ReadAnswer
@@ -50,9 +51,9 @@ planReadOf cells slots channels Done = record { cells = cells; slots = slots; ch
 planReadOf cells slots channels (Refused number at) = refusedPlan (Refused number at)
 
 unfoldable pub readPlan : List ℕ → List ℕ → PlanRead
-readPlan s table = planReadOf (cellsIn s) (slotsIn s) (channelsIn s) (planReadAnswer s table)
+readPlan s table = planReadOf (cellsOfHead s) (slotsOfHead s) (channelsOfHead s) (planReadAnswer s table)
 
 -- the table afterwards: the bits, and "Table bytes past IN .. are never written"; refused, as it was
 unfoldable pub planTableRead : List ℕ → List ℕ → List ℕ
 planTableRead s table =
-    pick (isDone (planReadAnswer s table)) (bitsFrom (bodyIn s) 0 (entriesIn s) ++ drop (entriesIn s) table) table
+    pick (isDone (planReadAnswer s table)) (bitsFrom (bodyIn s) 0 (entriesOfHead s) ++ drop (entriesOfHead s) table) table

@@ -2,7 +2,7 @@
 use Prim.Native.Nat.{ℕ}
 use mathlib.Core.List.{List, _++_}
 use lib.ListN.{length}
-use lib.Dec.{ltb}
+use lib.Dec.{ltb, leb}
 use Rattle.laws.specs.Choice.{pick}
 use Rattle.records.specs.Layout.{recordOf}
 use Rattle.records.specs.Head.{headRecord}
@@ -26,7 +26,7 @@ unfoldable pub planWritten : Site → List ℕ → List ℕ → PlanWritten
 planWritten s table out =
     pick (isFine (faultOf s))
     (pick (ltb (length table) (size s)) TableShort
-    (pick (ltb (length out) (length (planFile s table))) (OutShort (length (planFile s table))) (Done (length (planFile s table)))))
+    (pick (leb (length (planFile s table)) (length out)) (Done (length (planFile s table))) (OutShort (length (planFile s table)))))
     (Refused (faultOf s))
 
 -- "no other refusal writes"

@@ -9,7 +9,7 @@ use records::open;
 use records::opened_answer;
 use records::put_head;
 use records::put_start;
-use records::word;
+use records::two_bytes;
 use site::Fault;
 use site::Site;
 ghost use mathlib.Core.Path.{_≡_};
@@ -19,10 +19,11 @@ ghost use lib.ListN.{length, take};
 ghost use lib.Seq.{sets};
 ghost use Rattle.site.specs.Record.{entries};
 ghost use Rattle.planfile.specs.Bits.{bytesFor, one, bitsFrom, leftOver, ones, packedFrom};
-ghost use Rattle.planfile.specs.Block.{Runs, Below, Joined};
+ghost use Rattle.planfile.specs.Block.{Runs, Joined};
 ghost use Rattle.planfile.specs.Read.{refusedPlan, readPlan, planTableRead};
 ghost use Rattle.planfile.specs.Loop.{HeadRead};
 ghost use Rattle.planfile.specs.Write.{planWritten, planOut};
+ghost use Rattle.laws.specs.Part.{Below};
 
 // What a plan read gives: I, T and F, or three zeros beside a refusal.
 pub struct PlanRead {
@@ -320,9 +321,9 @@ pub fn read_plan(bytes: &[u8], table: &mut [u8]) -> PlanRead
     let ReadAnswer::Done = head else {
         return refused(head);
     };
-    let cells = word(bytes, 4);
-    let slots = word(bytes, 6);
-    let channels = word(bytes, 8);
+    let cells = two_bytes(bytes, 4);
+    let slots = two_bytes(bytes, 6);
+    let channels = two_bytes(bytes, 8);
     read_body(bytes, table, cells, slots, channels)
 }
 

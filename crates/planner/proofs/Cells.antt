@@ -1,5 +1,5 @@
--- A cell more of the greedy run, over a table whose first rows are its rows so far: the run goes on with the table, or ends short. Where it is done, the rows that it
--- began with stand as they were. Assumes nothing.
+-- A cell more of the greedy run, over a table whose first rows are its rows so far: the run goes on with the table, or ends short.
+-- Where it is done, the rows that it began with stand as they were. Assumes nothing.
 use mathlib.Core.Bool.{Bool}
 use mathlib.Core.Path.{_≡_, refl, sym, ap, _∙_}
 use mathlib.Core.List.{List, _++_}
@@ -17,13 +17,14 @@ use Rattle.theory.proofs.Row.{row-length, row-short}
 use Rattle.theory.proofs.Run.{run-begins}
 use Rattle.theory.proofs.Exact.{greedy-fair}
 use Rattle.planner.specs.Plan.{tableOf}
-use Rattle.planner.specs.Loop.{netBy, marksIn, rowPlanned, rowShort, PlannedTo}
+use Rattle.planner.specs.Loop.{marksIn, rowPlanned, rowShort, PlannedTo}
 use Rattle.planner.proofs.Marked.{marked-take, marked-alike}
+use Rattle.site.specs.Reach.{netIn}
 
 -- cell i, with its load, over the table t
 module _ (cells n : ℕ) (loads : List ℕ) (clash : ℕ → ℕ → Bool) (i : ℕ) (t : List ℕ) (fits : i * n + n ≤ length t) {load : ℕ} (own : load ≡ getD loads i 0) where
   abbrev net : Net
-  net = netBy cells n loads clash
+  net = netIn cells n loads clash unblocked
 
   abbrev marks : List ℕ
   marks = marksIn n clash t i
@@ -52,12 +53,12 @@ module _ (cells n : ℕ) (loads : List ℕ) (clash : ℕ → ℕ → Bool) (i : 
     more-take : take ((i + 1) * n) u ≡ take (i * n) t ++ row net (take (i * n) t) i
     more-take = rw (add-one, suc-mul, is, take-put-end (i * n) n _ t filled-long fits, same-row) refl
 
-    module _ (so-far : PlannedTo (netBy cells n loads clash) i t) {short : ℕ}
+    module _ (so-far : PlannedTo (netIn cells n loads clash unblocked) i t) {short : ℕ}
         (over : short ≡ rowShort n clash i load t) where
-      pub more-planned : short ≡ 0 → PlannedTo (netBy cells n loads clash) (i + 1) u
+      pub more-planned : short ≡ 0 → PlannedTo (netIn cells n loads clash unblocked) (i + 1) u
       more-planned z = run-next net (row net) i (take (i * n) t) so-far (omega (arith, lacks)) ∙ ap planned (sym more-take)
 
-      pub more-short : 0 < short → (k : ℕ) → i < k → run (netBy cells n loads clash) (row (netBy cells n loads clash)) k ≡ noRoom i short
+      pub more-short : 0 < short → (k : ℕ) → i < k → run (netIn cells n loads clash unblocked) (row (netIn cells n loads clash unblocked)) k ≡ noRoom i short
       more-short h k below =
           let e : short ≡ getD loads i 0 - held n (row net (take (i * n) t) i) = over ∙ lacks in
           run-stays net (row net) (i + 1) i short

@@ -15,7 +15,7 @@ use Rattle.laws.proofs.Grid.{row-before}
 use Rattle.theory.specs.Net.{Net, unblocked}
 use Rattle.theory.specs.Greedy.{forbid, marked, fill, unmet}
 use Rattle.theory.proofs.Row.{marked-length}
-use Rattle.planner.specs.Loop.{netBy}
+use Rattle.site.specs.Reach.{netIn}
 
 -- only the rows before are looked at
 pub marked-take : (s : Net) (i : ℕ) (t : List ℕ) → i * s .width ≤ length t → (j : ℕ) → j ≤ i → marked s (take (i * s .width) t) i j ≡ marked s t i j
@@ -29,7 +29,7 @@ marked-take s i t fits (suc j) h =
 
 -- marking looks at no load
 pub marked-alike : (cells n : ℕ) (loads : List ℕ) (clash : ℕ → ℕ → Bool) (t : List ℕ) (i j : ℕ)
-    → marked (netBy 0 n [] clash) t i j ≡ marked (netBy cells n loads clash) t i j
+    → marked (netIn 0 n [] clash unblocked) t i j ≡ marked (netIn cells n loads clash unblocked) t i j
 unfolding marked
 marked-alike cells n loads clash t i zero = refl
 marked-alike cells n loads clash t i (suc j) =

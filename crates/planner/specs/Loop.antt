@@ -9,13 +9,9 @@ use Rattle.theory.specs.Net.{Net, unblocked}
 use Rattle.theory.specs.Greedy.{marked, fill, unmet, row, run, planned}
 use Rattle.site.specs.Reach.{netIn}
 
--- the planning problem of so many cells and positions, with these loads and who clashes: no position is blocked
-abbrev pub netBy : ℕ → ℕ → List ℕ → (ℕ → ℕ → Bool) → Net
-netBy cells n loads clash = netIn cells n loads clash unblocked
-
 -- row i of t as the earlier clashing rows leave it, all idle at first: n positions, by who clashes
 abbrev pub marksIn : ℕ → (ℕ → ℕ → Bool) → List ℕ → ℕ → List ℕ
-marksIn n clash t i = marked (netBy 0 n [] clash) t i i
+marksIn n clash t i = marked (netIn 0 n [] clash unblocked) t i i
 
 -- t with row i planned: "Each takes its idle positions in rising position until its load is met"
 abbrev pub rowPlanned : ℕ → (ℕ → ℕ → Bool) → ℕ → ℕ → List ℕ → List ℕ

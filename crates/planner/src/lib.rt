@@ -8,8 +8,10 @@ ghost use Rattle.laws.specs.Bits.{bitIn};
 ghost use Rattle.laws.specs.Part.{part, put};
 ghost use Rattle.theory.specs.Greedy.{greedy};
 ghost use Rattle.planner.specs.Plan.{planAnswer, planTable, answerOf, leaves};
-ghost use Rattle.planner.specs.Loop.{netBy, marksIn, rowPlanned, rowShort, PlannedTo};
+ghost use Rattle.planner.specs.Loop.{marksIn, rowPlanned, rowShort, PlannedTo};
 ghost use Rattle.planner.specs.declared.PlanAnswer.the-variants.{Done};
+ghost use Rattle.site.specs.Reach.{netIn};
+ghost use Rattle.theory.specs.Net.{unblocked};
 
 // What the planner answers: done; 4, the table is short; 5, a cell's number and how many of its fragments found no room; or what is wrong with the record.
 pub enum PlanAnswer {
@@ -82,9 +84,10 @@ fn plan_from(
 ) -> PlanAnswer
     requires { ⌜ (first ≤ cells) × (cells ≤ 32) × (channels ≤ 16) ⌝ }
     requires { ⌜ cells * (slots * channels) ≤ length (now table) ⌝ }
-    requires { ⌜ PlannedTo (netBy cells (slots * channels) (now loads) (bitIn (now clash))) first (now table) ⌝ }
-    ensures answer { λ r. ⌜ r ≡ answerOf (greedy (netBy cells (slots * channels) (now (loads .entry)) (bitIn (now (clash .entry))))) ⌝ }
-    ensures table { λ _. ⌜ now (table .exit) ≡ leaves (netBy cells (slots * channels) (now (loads .entry)) (bitIn (now (clash .entry)))) (now (table .entry)) ⌝ }
+    requires { ⌜ PlannedTo (netIn cells (slots * channels) (now loads) (bitIn (now clash)) unblocked) first (now table) ⌝ }
+    ensures answer { λ r. ⌜ r ≡ answerOf (greedy (netIn cells (slots * channels) (now (loads .entry)) (bitIn (now (clash .entry))) unblocked)) ⌝ }
+    ensures table { λ _. ⌜ now (table .exit) ≡ leaves (netIn cells (slots * channels) (now (loads .entry)) (bitIn (now (clash .entry))) unblocked)
+        (now (table .entry)) ⌝ }
     ensures kept { λ r. ⌜ (r ≡ Done → take (first * (slots * channels)) (now (table .exit)) ≡ take (first * (slots * channels)) (now (table .entry))) ⌝ }
 {
     for i in first..cells {

@@ -1,5 +1,5 @@
--- Document 02, W5, which flows to admit: over what the calls answer, in the documents' numbers. A set is allowed exactly where the public load test holds for the site that it makes,
--- whose loads are the public shares of its flows. The laws are those of crates `bestset` and `admission`.
+-- Document 02, W5, which flows to admit: over what the calls answer, in the documents' numbers. A set is allowed exactly where the public load test holds for
+-- the site that it makes, whose loads are the public shares of its flows. The laws are those of crates `bestset` and `admission`.
 -- Assumes nothing.
 use mathlib.Core.Path.{_≡_, refl, sym, ap, subst, _∙_}
 use mathlib.Core.Bool.{true, false, true≢false}
@@ -98,11 +98,15 @@ module _ (s : Site) (fs : List Flow) (x : ℕ) (e : admitGiven (admitAnswer s fs
   admission-plans t long =
       let fine = laden-fine s fs settled x in
       let plans : Plans (netOf (ladenSite s fs x))
-      = subst Plans (ap (laden (netOf s) (flowsOf s fs)) (sym (went .1)) ∙ sym (laden-net s fs settled x)) (best-planned (netOf s) (flowsOf s fs)) in
-      (accepted-number (ladenSite s fs x) .1 fine, allowed-is-public x .0 (admitted-allowed .1), plan-number (ladenSite s fs x) t .1 (done-means (ladenSite s fs x) t .1 (fine, long, plans)))
+      = subst Plans (ap (laden (netOf s) (flowsOf s fs)) (sym (went .1)) ∙ sym (laden-net s fs settled x)) (best-planned (netOf s) (flowsOf s fs)) in (
+        accepted-number (ladenSite s fs x) .1 fine,
+        allowed-is-public x .0 (admitted-allowed .1),
+        plan-number (ladenSite s fs x) t .1 (done-means (ladenSite s fs x) t .1 (fine, long, plans)),
+      )
 
   -- no set that any valid table carries is worth more
-  pub no-carried-better : (y : ℕ) → y < 2 ^ length fs → (res : Reserved) → Valid (netOf (ladenSite s fs y)) res → worth (flowsOf s fs) y ≤ worth (flowsOf s fs) x
+  pub no-carried-better : (y : ℕ) → y < 2 ^ length fs → (res : Reserved) → Valid (netOf (ladenSite s fs y)) res
+      → worth (flowsOf s fs) y ≤ worth (flowsOf s fs) x
   no-carried-better y l res v =
       rw (went .1)
       (best-of-carried (netOf s) (flowsOf s fs) (chained-class (netOf s) everyone (settled .looked .chain)) y l res

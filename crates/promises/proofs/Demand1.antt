@@ -1,12 +1,11 @@
--- Demand 1, what a call leaves in lent memory, by the number it gives back. Answer and memory go the same way through the same tests, so each is read off at the values of
--- the tests. And the verdicts refuse only as the record's fault says. Assumes nothing.
+-- Demand 1, what a call leaves in lent memory, by the number it gives back. Answer and memory go the same way through the same tests,
+-- so each is read off at the values of the tests. And the verdicts refuse only as the record's fault says. Assumes nothing.
 use mathlib.Core.Path.{_≡_, refl, ap}
-use mathlib.Core.Bool.{Bool, true, false, not}
+use mathlib.Core.Bool.{Bool, true, false}
 use mathlib.Core.List.{List, [], _∷_, _++_}
 use Prim.Native.Nat.{ℕ, _≤_}
 use native.Mathlib.Omega.{arith}
 use lib.Dec.{ltb, leb}
-use borrow.Author.Tests.{ltb-true, ltb-false, le-leb, lt-leb}
 use lib.ListN.{length, drop, replicate}
 use lib.Seq.{drop-at}
 use Rattle.laws.specs.Choice.{pick}
@@ -26,17 +25,16 @@ use Rattle.judges.specs.Judges.{counted, loadOf, loadAnswer, chainOf, chainAnsw
 use Rattle.judges.specs.Given.{loadGiven, chainGiven}
 use Rattle.judges.specs.declared.LoadAnswer.the-variants as load
 use Rattle.judges.specs.declared.ChainAnswer.the-variants as chain
-use Rattle.records.specs.Given.{readGiven}
-use Rattle.records.specs.Write.{laidOver}
+use Rattle.records.specs.Given.{readGiven, writtenGiven}
+use Rattle.records.specs.Write.{written, laidOver}
 use Rattle.records.specs.declared.ReadAnswer.{ReadAnswer}
 use Rattle.records.specs.declared.ReadAnswer.the-variants as read
-use Rattle.sitefile.specs.Given.{siteWrittenGiven}
-use Rattle.sitefile.specs.Write.{siteBytes, written, siteWritten, siteOut}
-use Rattle.sitefile.specs.declared.SiteWritten.the-variants as site
+use Rattle.records.specs.declared.Written.the-variants as wrote
+use Rattle.sitefile.specs.Write.{siteBytes, siteWritten, siteOut}
 use Rattle.planfile.specs.Bits.{bitsFrom}
 use Rattle.planfile.specs.Given.{planWrittenGiven}
 use Rattle.records.specs.Reasons.{isDone}
-use Rattle.records.specs.Head.{cellsIn, slotsIn, channelsIn, entriesIn}
+use Rattle.records.specs.Head.{cellsOfHead, slotsOfHead, channelsOfHead, entriesOfHead}
 use Rattle.planfile.specs.Read.{bodyIn, planReadAnswer, planReadOf, readPlan, planTableRead}
 use Rattle.planfile.specs.Write.{planFile, planWritten, planOut}
 use Rattle.planfile.specs.declared.PlanWritten.the-variants as plan
@@ -76,56 +74,60 @@ unfolding planReadOf
 read-left read.Done bits t n i o u h = record { if-done = λ _. drop-at bits (drop n t) n h; if-refused = λ z. absurd (z refl) }
 read-left (read.Refused number at) bits t n i o u h = record { if-done = λ _. refl; if-refused = λ _. refl }
 
-pub plan-read-leaves : (file t : List ℕ) → ReaderLeaves (entriesIn file) t (readGiven (readPlan file t .answer) .number) (planTableRead file t)
+pub plan-read-leaves : (file t : List ℕ) → ReaderLeaves (entriesOfHead file) t (readGiven (readPlan file t .answer) .number) (planTableRead file t)
 unfolding readPlan planTableRead
 plan-read-leaves file t =
-    read-left (planReadAnswer file t) (bitsFrom (bodyIn file) 0 (entriesIn file)) t (entriesIn file) (cellsIn file) (slotsIn file) (channelsIn file)
-    (length-bits (bodyIn file) (entriesIn file) 0)
+    read-left (planReadAnswer file t) (bitsFrom (bodyIn file) 0 (entriesOfHead file)) t (entriesOfHead file)
+    (cellsOfHead file) (slotsOfHead file) (channelsOfHead file)
+    (length-bits (bodyIn file) (entriesOfHead file) 0)
 
 -- ---- the writers
 
 module _ (file out : List ℕ) where
   -- done, with the file's length, and the file in front of the output
-  pub did-write : WriterLeaves file out (doneWith (length file ∷ [])) (file ++ drop (length file) out)
+  did-write : WriterLeaves file out (doneWith (length file ∷ [])) (file ++ drop (length file) out)
   did-write = record { if-done = λ _. (refl, refl); if-refused = λ z. absurd (z refl) }
 
   -- any number but 0, and the output as it was
-  pub out-untouched : (g : Given) → (g .number ≡ 0 → ⊥) → WriterLeaves file out g out
+  out-untouched : (g : Given) → (g .number ≡ 0 → ⊥) → WriterLeaves file out g out
   out-untouched g z = record { if-done = λ e. absurd (z e); if-refused = λ _. refl }
 
-  site-left : (f : Fault) (fits : Bool)
-      → WriterLeaves file out (siteWrittenGiven (pick (isFine f) (pick fits (site.Done (length file)) (site.OutShort (length file))) (site.Refused f)))
+  -- a site file, or a sheet
+  pub file-left : (f : Fault) (fits : Bool)
+      → WriterLeaves file out (writtenGiven (pick (isFine f) (pick fits (wrote.Done (length file)) (wrote.OutShort (length file))) (wrote.Refused f)))
       (pick (isFine f) (pick fits (file ++ drop (length file) out) out) out)
-  site-left Fine true = did-write
-  site-left Fine false = out-untouched _ (λ e. omega arith)
-  site-left Size fits = out-untouched _ (λ e. omega arith)
-  site-left (Load k) fits = out-untouched _ (λ e. omega arith)
-  site-left (Reach k) fits = out-untouched _ (λ e. omega arith)
+  file-left Fine true = did-write
+  file-left Fine false = out-untouched _ (λ e. omega arith)
+  file-left Size fits = out-untouched _ (λ e. omega arith)
+  file-left (Load k) fits = out-untouched _ (λ e. omega arith)
+  file-left (Reach k) fits = out-untouched _ (λ e. omega arith)
 
-  plan-file-left : (f : Fault) (short room : Bool) → leb (length file) (length out) ≡ not room
+  plan-file-left : (f : Fault) (short fits : Bool)
       → WriterLeaves file out
-      (planWrittenGiven (pick (isFine f) (pick short plan.TableShort (pick room (plan.OutShort (length file)) (plan.Done (length file)))) (plan.Refused f)))
-      (pick (isFine f) (pick short out (pick (leb (length file) (length out)) (file ++ drop (length file) out) out)) out)
-  plan-file-left Fine true room e = out-untouched _ (λ e′. omega arith)
-  plan-file-left Fine false true e = rw e (out-untouched _ (λ e′. omega arith))
-  plan-file-left Fine false false e = rw e did-write
-  plan-file-left Size short room e = out-untouched _ (λ e′. omega arith)
-  plan-file-left (Load k) short room e = out-untouched _ (λ e′. omega arith)
-  plan-file-left (Reach k) short room e = out-untouched _ (λ e′. omega arith)
+      (planWrittenGiven (pick (isFine f) (pick short plan.TableShort (pick fits (plan.Done (length file)) (plan.OutShort (length file)))) (plan.Refused f)))
+      (pick (isFine f) (pick short out (pick fits (file ++ drop (length file) out) out)) out)
+  plan-file-left Fine true fits = out-untouched _ (λ e. omega arith)
+  plan-file-left Fine false true = did-write
+  plan-file-left Fine false false = out-untouched _ (λ e. omega arith)
+  plan-file-left Size short fits = out-untouched _ (λ e. omega arith)
+  plan-file-left (Load k) short fits = out-untouched _ (λ e. omega arith)
+  plan-file-left (Reach k) short fits = out-untouched _ (λ e. omega arith)
 
-pub site-write-leaves : (s : Site) (out : List ℕ) → WriterLeaves (siteBytes s) out (siteWrittenGiven (siteWritten s out)) (siteOut s out)
+-- what a writer that is done was given
+pub wrote-fine : (f : Fault) (fits : Bool) (n : ℕ)
+    → writtenGiven (pick (isFine f) (pick fits (wrote.Done n) (wrote.OutShort n)) (wrote.Refused f)) .number ≡ 0 → f ≡ Fine
+wrote-fine Fine fits n e = refl
+wrote-fine Size fits n e = absurd (omega arith)
+wrote-fine (Load k) fits n e = absurd (omega arith)
+wrote-fine (Reach k) fits n e = absurd (omega arith)
+
+pub site-write-leaves : (s : Site) (out : List ℕ) → WriterLeaves (siteBytes s) out (writtenGiven (siteWritten s out)) (siteOut s out)
 unfolding siteWritten siteOut written laidOver
-site-write-leaves s out = site-left (siteBytes s) out (faultOf s) (leb (length (siteBytes s)) (length out))
-
-fits-or-not : (a b : ℕ) (t : Bool) → ltb b a ≡ t → leb a b ≡ not t
-fits-or-not a b true e = lt-leb a b (ltb-true b a e)
-fits-or-not a b false e = le-leb a b (ltb-false b a e)
+site-write-leaves s out = file-left (siteBytes s) out (faultOf s) (leb (length (siteBytes s)) (length out))
 
 pub plan-write-leaves : (s : Site) (t out : List ℕ) → WriterLeaves (planFile s t) out (planWrittenGiven (planWritten s t out)) (planOut s t out)
 unfolding planWritten planOut laidOver
-plan-write-leaves s t out =
-    plan-file-left (planFile s t) out (faultOf s) (ltb (length t) (size s)) (ltb (length out) (length (planFile s t)))
-    (fits-or-not (length (planFile s t)) (length out) (ltb (length out) (length (planFile s t))) refl)
+plan-write-leaves s t out = plan-file-left (planFile s t) out (faultOf s) (ltb (length t) (size s)) (leb (length (planFile s t)) (length out))
 
 -- ---- "Load test and chain judge are verdicts; they refuse only with 1 to 3."
 

@@ -29,7 +29,7 @@ use Rattle.promises.specs.Numbers.{done, runGiven}
 use Rattle.promises.specs.Demands.{Accepted, LongEnough, DefinitionOne}
 use Rattle.promises.proofs.Numbers.{accepted-number, plan-number, run-number, check-number, load-number, chain-number}
 
--- "The plan equals the paper's greedy schedule, mark for mark": answer and table are those of Figure 1, and the bytes past the site's part are as they were.
+-- The plan equals the paper's greedy schedule, mark for mark: answer and table are those of Figure 1, and the bytes past the site's part are as they were.
 pub plan-is-figure : (s : Site) (t : List ℕ) → Accepted s → LongEnough s t
     → (planGiven (planAnswer s t) ≡ runGiven (figureOne (netOf s) (s .slots) (s .channels)))
     × (planTable s t ≡ tableOf (size s) (figureOne (netOf s) (s .slots) (s .channels)) ++ drop (size s) t)
@@ -55,7 +55,7 @@ valid-is-definition-one s t = (
   },
 )
 
--- "The checker says yes exactly to the paper's valid schedules."
+-- The checker says yes exactly to the paper's valid schedules.
 pub check-is-valid : (s : Site) (t : List ℕ)
     → checkGiven (checkAnswer s t) ≡ done ↔ ((Accepted s) × (LongEnough s t) × (Valid (netOf s) (reserved (positions s) t)))
 check-is-valid s t = (
@@ -70,7 +70,7 @@ pub load-above-refused : (s : Site) (i : ℕ) → i < s .cells → positions s <
 load-above-refused s i l above t e =
     omega (arith, done-valid s t (plan-number s t .0 e) .exact i l, count-most (reserved (positions s) (planTable s t) i) (positions s))
 
--- "The load test is the paper's." W2: it "skips cells with load 0".
+-- The load test is the paper's. W2: it "skips cells with load 0".
 pub load-is-C1 : (s : Site) → loadGiven (loadAnswer s) ≡ done ↔ ((Accepted s) × (LoadTest (netOf s) (counted s)))
 load-is-C1 s = (
   λ e.

@@ -1,5 +1,5 @@
--- Demand 3, over two accepted site records and over tables as the checker reads them. The theory's demand 3 is about problems; here the premises and the answer are what
--- the public calls say, in the document's numbers. Assumes nothing.
+-- Demand 3, over two accepted site records and over tables as the checker reads them. The theory's demand 3 is about problems;
+-- here the premises and the answer are what the public calls say, in the document's numbers. Assumes nothing.
 use mathlib.Core.Path.{_≡_, refl, sym, ap, _∙_}
 use mathlib.Core.List.{List, [], _∷_}
 use mathlib.Core.Logic.{_↔_}
@@ -37,7 +37,7 @@ eases second first h = record {
   sparser = λ a c l m. h .no-new-clash a c (omega arith) m;
 }
 
--- "If any valid plan of the first exists, however found, the planner plans the second." Over the valid-table definition.
+-- If any valid plan of the first exists, however found, the planner plans the second. Over the valid-table definition.
 pub demand-three-sites : (first second : Site) → Accepted second → Easier second first → Chained (netOf second) (counted second)
     → (found : List ℕ) → Valid (netOf first) (reserved (positions first) found)
     → (lent : List ℕ) → LongEnough second lent → planGiven (planAnswer second lent) ≡ done
@@ -58,7 +58,7 @@ demand-three-calls first second easier ch found ok lent long =
     let v = check-is-valid first found .0 ok in
     demand-three-sites first second (c .0) easier (c .1) found (v .2) lent long
 
--- "On a chained site the load test holds exactly when the planner plans"
+-- On a chained site the load test holds exactly when the planner plans
 pub chained-exact : (s : Site) → chainGiven (chainAnswer s) ≡ done → (lent : List ℕ) → LongEnough s lent
     → loadGiven (loadAnswer s) ≡ done ↔ planGiven (planAnswer s lent) ≡ done
 chained-exact s ch lent long =
@@ -68,7 +68,7 @@ chained-exact s ch lent long =
       λ e. load-is-C1 s .1 (c .0, x .1 (done-means s lent .0 (plan-number s lent .0 e) .2)),
     )
 
--- "on any site a load test that holds means a plan"
+-- on any site a load test that holds means a plan
 pub holds-plans : (s : Site) → loadGiven (loadAnswer s) ≡ done → (lent : List ℕ) → LongEnough s lent → planGiven (planAnswer s lent) ≡ done
 holds-plans s e lent long =
     let h = load-is-C1 s .0 e in
@@ -80,11 +80,17 @@ holds-plans s e lent long =
 pub chained-full : (s : Site) → chainGiven (chainAnswer s) ≡ done → (lent : List ℕ) → LongEnough s lent
     → (cell short : ℕ) → planGiven (planAnswer s lent) ≡ refused 5 (cell ∷ short ∷ []) → (any : List ℕ) → checkGiven (checkAnswer s any) ≡ done → ⊥
 chained-full s ch lent long cell short five any ok =
-    let yes = demand-three-calls s s (record { same-cells = refl; as-many-channel-slots = le-refl _; no-greater-load = λ i _. le-refl _; no-new-clash = λ a c _ _ e. e }) ch any ok lent long in
+    let yes = demand-three-calls s s (record {
+      same-cells = refl;
+      as-many-channel-slots = le-refl _;
+      no-greater-load = λ i _. le-refl _;
+      no-new-clash = λ a c _ _ e. e;
+    }) ch any ok lent long in
     let z : _≡_ {A = ℕ} 5 0 = ap (λ (g : Given). g .number) (sym five ∙ yes) in
     omega arith
 
--- Why it is full: the cell that the load test names, with its lower clashing loaded cells, all clash with one another, and their loads come to more than the positions there are.
+-- Why it is full: the cell that the load test names, with its lower clashing loaded cells, all clash with one another,
+-- and their loads come to more than the positions there are.
 pub chained-why : (s : Site) → chainGiven (chainAnswer s) ≡ done → (cell m : ℕ) → loadGiven (loadAnswer s) ≡ doneWith (cell ∷ m ∷ [])
     → (i : ℕ) × (cell ≡ i + 1) × (Mutual (netOf s) (around (netOf s) i)) × (positions s < weight (netOf s) (around (netOf s) i))
 chained-why s ch cell m e =

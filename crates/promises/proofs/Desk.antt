@@ -6,7 +6,8 @@ use Rattle.laws.specs.Sum.{sum, any}
 use Rattle.laws.specs.Most.{most}
 use Rattle.laws.specs.Part.{part, listOf}
 use Rattle.theory.specs.Greedy.{forbid, marked, fill, unmet, run}
-use Rattle.theory.specs.Verdict.{overloaded, lowestOver, loadVerdict, mostDemand, gap, breaks, breakOf, firstBreak, chainVerdict, secondAt, clashesAt, firstAt, lowestClash, wrongIn, lowestWrong, tableVerdict}
+use Rattle.theory.specs.Verdict.{overloaded, lowestOver, loadVerdict, mostDemand, gap, breaks, breakOf, firstBreak, chainVerdict}
+use Rattle.theory.specs.Verdict.{secondAt, clashesAt, firstAt, lowestClash, wrongIn, lowestWrong, tableVerdict}
 use Rattle.site.specs.Record.{upTo, sizeOk, rowBad, extraLoad, badRow, faultOf}
 use Rattle.site.specs.Reach.{reaches, clashIn}
 use Rattle.planner.specs.Plan.{planAnswer, planTable}
@@ -27,6 +28,7 @@ use Rattle.promises.specs.Desk.{withZeros, deskTable}
 pub desk-holds : map (λ l. l .asked) deskTable ≡ map (λ l. l .said) deskTable
 unfolding withZeros firstOf sum any most part listOf forbid marked fill unmet run overloaded lowestOver loadVerdict mostDemand gap breaks breakOf
     firstBreak chainVerdict secondAt clashesAt firstAt lowestClash wrongIn lowestWrong tableVerdict upTo sizeOk rowBad extraLoad badRow faultOf
-    reaches clashIn planAnswer planTable loadAnswer chainAnswer leastAnswer bestOf mutualIn heaviestIn heaviestOf verdictOf checkAnswer wordOf bytesOf planWordsAnswer planWords
+    reaches clashIn planAnswer planTable loadAnswer chainAnswer leastAnswer bestOf mutualIn heaviestIn heaviestOf verdictOf checkAnswer wordOf bytesOf
+    planWordsAnswer planWords
     checkWordsAnswer formAnswer toWords toBytes stand overlay cellChanges changes mendAnswer mendTable mendList
 desk-holds = refl

@@ -1,31 +1,25 @@
--- Demand 2, the files: "A site written and read back is the same site; an accepted file written again is the same bytes." Over what the calls answer and leave, with any output.
+-- Demand 2, the files: a site written and read back is the same site; an accepted file written again is the same bytes.
+-- Over what the calls answer and leave, with any output.
 -- The trips are those of the file crates. Assumes nothing.
-use mathlib.Core.Path.{_≡_, refl, sym, ap, _∙_}
-use mathlib.Core.Bool.{Bool}
+use mathlib.Core.Path.{_≡_, sym, ap, _∙_}
 use mathlib.Core.List.{List, [], _∷_, _++_, map}
 use Prim.Native.Nat.{ℕ, _+_, _≤_}
-use native.Mathlib.Omega.{arith}
 use lib.Dec.{leb}
 use lib.ListN.{length, take, drop}
 use lib.Seq.{take-at}
 use borrow.Author.Tests.{le-leb}
-use Rattle.laws.specs.Choice.{pick}
 use Rattle.records.specs.Bytes.{Bytes, le16}
-use Rattle.records.specs.Given.{readGiven}
+use Rattle.records.specs.Given.{readGiven, writtenGiven}
 use Rattle.records.proofs.Given.{read-apart}
-use Rattle.records.specs.Write.{laidOver}
+use Rattle.records.specs.Write.{written, laidOver}
 use Rattle.records.specs.declared.ReadAnswer.the-variants as read
-use Rattle.site.specs.Record.{size, faultOf, isFine}
+use Rattle.site.specs.Record.{size, faultOf}
 use Rattle.site.specs.declared.Site.{Site}
-use Rattle.site.specs.declared.Fault.{Fault}
-use Rattle.site.specs.declared.Fault.the-variants.{Fine, Size, Load, Reach}
-use Rattle.site.specs.Given.{Given, faultGiven}
-use Rattle.sitefile.specs.Held.{Held}
+use Rattle.site.specs.Given.{Given}
+use Rattle.site.specs.Held.{Held}
 use Rattle.sitefile.specs.Read.{siteDone, readSite}
-use Rattle.sitefile.specs.Write.{siteBytes, written, siteWritten, siteOut}
-use Rattle.sitefile.specs.Given.{siteWrittenGiven}
+use Rattle.sitefile.specs.Write.{siteBytes, siteWritten, siteOut}
 use Rattle.sitefile.specs.declared.SiteRead.{SiteRead}
-use Rattle.sitefile.specs.declared.SiteWritten.the-variants as site
 use Rattle.records.specs.declared.Length.the-variants.{Pairs}
 use Rattle.records.proofs.Laws.{length-least}
 use Rattle.sitefile.specs.Reasons.{reachAt}
@@ -43,25 +37,18 @@ use Rattle.planfile.proofs.Trip.{calls-written-read, calls-read-written}
 use Rattle.promises.specs.Numbers.{done, doneWith}
 use Rattle.promises.specs.Demands.{Accepted}
 use Rattle.promises.proofs.Numbers.{accepted-number}
-use Rattle.promises.proofs.Demand1.{site-write-leaves}
-
-accepted-at : (f : Fault) (fits : Bool) (n : ℕ)
-    → siteWrittenGiven (pick (isFine f) (pick fits (site.Done n) (site.OutShort n)) (site.Refused f)) .number ≡ 0 → faultGiven f ≡ done
-accepted-at Fine fits n e = refl
-accepted-at Size fits n e = absurd (omega arith)
-accepted-at (Load k) fits n e = absurd (omega arith)
-accepted-at (Reach k) fits n e = absurd (omega arith)
+use Rattle.promises.proofs.Demand1.{wrote-fine, site-write-leaves}
 
 -- what a writer that is done was given
-pub site-accepted : (s : Site) (out : List ℕ) → siteWrittenGiven (siteWritten s out) .number ≡ 0 → Accepted s
+pub site-accepted : (s : Site) (out : List ℕ) → writtenGiven (siteWritten s out) .number ≡ 0 → Accepted s
 unfolding siteWritten written
-site-accepted s out e = accepted-at (faultOf s) (leb (length (siteBytes s)) (length out)) (length (siteBytes s)) e
+site-accepted s out e = accepted-number s .1 (wrote-fine (faultOf s) (leb (length (siteBytes s)) (length out)) (length (siteBytes s)) e)
 
--- "A site written and read back is the same site": `read_site` of what `write_site` wrote
-pub site-written-read : (s : Site) → Held s → (out : List ℕ) (n : ℕ) → siteWrittenGiven (siteWritten s out) ≡ doneWith (n ∷ [])
+-- A site written and read back is the same site: `read_site` of what `write_site` wrote
+pub site-written-read : (s : Site) → Held s → (out : List ℕ) (n : ℕ) → writtenGiven (siteWritten s out) ≡ doneWith (n ∷ [])
     → (readGiven (readSite (take n (siteOut s out)) .answer) ≡ done) × (readSite (take n (siteOut s out)) .site ≡ s)
 site-written-read s held out n e =
-    let zero : siteWrittenGiven (siteWritten s out) .number ≡ 0 = ap (λ (g : Given). g .number) e in
+    let zero : writtenGiven (siteWritten s out) .number ≡ 0 = ap (λ (g : Given). g .number) e in
     let w = site-write-leaves s out .if-done zero in
     let m : length (siteBytes s) ∷ [] ≡ n ∷ [] = sym (w .0) ∙ ap (λ (g : Given). g .values) e in
     let count : length (siteBytes s) ≡ n = cc in
@@ -69,14 +56,15 @@ site-written-read s held out n e =
     let is : readSite (take n (siteOut s out)) ≡ siteDone s = ap readSite file ∙ written-then-read s held (accepted-number s .0 (site-accepted s out zero)) in
     (ap (λ (r : SiteRead). readGiven (r .answer)) is, ap (λ (r : SiteRead). r .site) is)
 
--- "an accepted file written again is the same bytes": `write_site` of what `read_site` read
+-- an accepted file written again is the same bytes: `write_site` of what `read_site` read
 pub site-read-written : (file : List ℕ) → Bytes file → readGiven (readSite file .answer) ≡ done → (out : List ℕ) → length file ≤ length out
-    → (siteWrittenGiven (siteWritten (readSite file .site) out) ≡ doneWith (length file ∷ [])) × (siteOut (readSite file .site) out ≡ file ++ drop (length file) out)
+    → (writtenGiven (siteWritten (readSite file .site) out) ≡ doneWith (length file ∷ []))
+    × (siteOut (readSite file .site) out ≡ file ++ drop (length file) out)
 unfolding written laidOver
 site-read-written file bytes ok out fits =
     let w = written-again file bytes (read-apart (readSite file .answer) read.Done ok) out in
     let room = le-leb (length file) (length out) fits in
-    (ap siteWrittenGiven (w .0) ∙ rw room, w .1 ∙ rw room)
+    (ap writtenGiven (w .0) ∙ rw room, w .1 ∙ rw room)
 
 -- ---- plan files
 

@@ -1,4 +1,5 @@
--- The sheet of flows: what `read_flows` answers and gives, with any input, in the documents' numbers and over the format. The laws are those of crate `flowsheet`.
+-- The sheet of flows: what `read_flows` answers and gives, with any input, in the documents' numbers and over the format.
+-- The laws are those of crate `flowsheet`.
 -- Assumes nothing.
 use mathlib.Core.Path.{_≡_, refl, sym, ap, _∙_}
 use mathlib.Core.List.{List, [], _∷_}
@@ -6,12 +7,12 @@ use mathlib.Core.Logic.{_↔_}
 use Prim.Native.Nat.{ℕ}
 use native.Mathlib.Omega.{arith}
 use lib.ListN.{length, replicate}
-use Rattle.flowlist.specs.List.{none, noFlows, gathered}
+use Rattle.flowlist.specs.List.{zeroFlow, noFlows, gathered}
 use Rattle.flowlist.specs.declared.Flow.{Flow}
 use Rattle.flowlist.specs.declared.FlowList.{FlowList}
 use Rattle.flowlist.proofs.Laws.{gathered-apart}
 use Rattle.flowsheet.specs.Read.{readFlows}
-use Rattle.flowsheet.specs.Means.{FlowsOf, FirstBad, Over}
+use Rattle.flowsheet.specs.Means.{FlowsOf, FirstBadOfFlows, TooManyFlows}
 use Rattle.flowsheet.specs.Given.{flowsGiven}
 use Rattle.flowsheet.specs.declared.FlowsRead.{FlowsRead}
 use Rattle.flowsheet.specs.declared.FlowsAnswer.the-variants.{Done, BadLine, TooMany}
@@ -20,15 +21,15 @@ use Rattle.flowsheet.proofs.Answers.{first-told, over-told, flows-given, bad-fi
 use Rattle.promises.specs.Numbers.{done, refused}
 
 module _ (b : List ℕ) where
-  -- "17 gives the first line that is not so, from 1."
-  pub flows-seventeen : (l : ℕ) → flowsGiven (readFlows b .answer) ≡ refused 17 (l ∷ []) ↔ FirstBad b l
+  -- 17 gives the first line that is not so, from 1.
+  pub flows-seventeen : (l : ℕ) → flowsGiven (readFlows b .answer) ≡ refused 17 (l ∷ []) ↔ FirstBadOfFlows b l
   flows-seventeen l = (
     λ e. bad-first b l (flows-apart (readFlows b .answer) (BadLine l) e),
     λ f. ap (λ (r : FlowsRead). flowsGiven (r .answer)) (first-told b l f),
   )
 
-  -- "A line after the sixteenth flow's is 18, whatever stands in it."
-  pub flows-eighteen : flowsGiven (readFlows b .answer) ≡ refused 18 [] ↔ Over b
+  -- A line after the sixteenth flow's is 18, whatever stands in it.
+  pub flows-eighteen : flowsGiven (readFlows b .answer) ≡ refused 18 [] ↔ TooManyFlows b
   flows-eighteen = (
     λ e. over-is b (flows-apart (readFlows b .answer) TooMany e),
     λ o. ap (λ (r : FlowsRead). flowsGiven (r .answer)) (over-told b o),
@@ -48,7 +49,7 @@ module _ (b : List ℕ) where
   )
 
   -- no flows stand beside a refusal: none are counted, and all 16 places are zeros
-  pub flows-refused-none : (flowsGiven (readFlows b .answer) ≡ done → ⊥) → (readFlows b .flows .count ≡ 0) × (readFlows b .flows .list ≡ replicate 16 none)
+  pub flows-refused-none : (flowsGiven (readFlows b .answer) ≡ done → ⊥) → (readFlows b .flows .count ≡ 0) × (readFlows b .flows .list ≡ replicate 16 zeroFlow)
   unfolding noFlows
   flows-refused-none n =
       let e = none-beside b (λ q. n (ap flowsGiven q)) in

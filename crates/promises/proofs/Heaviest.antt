@@ -51,7 +51,7 @@ module _ (site : Site) (load cells : ℕ) (e : heaviestGiven (heaviestOf site) �
   heaviest-enough n c = done-enough site load cells (heaviest-number site load cells .0 e) n (enough-number site n .0 c)
 
   module _ (other : Site) (ok : Accepted other) (alike : Alike other site) where
-    -- "a site with the same cells, loads and reach" has the same answer, whatever its slots and channels
+    -- a site with the same cells, loads and reach has the same answer, whatever its slots and channels
     pub heaviest-alike : heaviestGiven (heaviestOf other) ≡ doneWith (load ∷ cells ∷ [])
     heaviest-alike =
         let h = heaviest-exact site load cells .0 e in

@@ -1,5 +1,6 @@
--- What the desk may sell: the least number of channel-slots that do, over what the calls say, in the document's numbers. The greatest demand depends on cells, loads and reach
--- alone, so that it is that of every site with the same; and the load test, exact on the chain, holds where there are so many channel-slots. Assumes nothing.
+-- What the desk may sell: the least number of channel-slots that do, over what the calls say, in the document's numbers.
+-- The greatest demand depends on cells, loads and reach alone, so that it is that of every site with the same; and the load test, exact on the chain,
+-- holds where there are so many channel-slots. Assumes nothing.
 use mathlib.Core.Path.{_≡_, refl, _∙_}
 use mathlib.Core.List.{List, [], _∷_}
 use mathlib.Core.Logic.{_↔_}
@@ -20,10 +21,10 @@ use Rattle.planner.specs.Given.{planGiven}
 use Rattle.judges.specs.Judges.{counted, loadAnswer, chainAnswer, leastAnswer}
 use Rattle.judges.specs.Given.{loadGiven, chainGiven, leastGiven}
 use Rattle.judges.proofs.Meaning.{least-means, enough-means}
-use Rattle.why.specs.Words.{fewest}
+use Rattle.say_why.specs.Said.{fewest}
 use Rattle.site.specs.Alike.{Alike}
-use Rattle.why.proofs.Numbers.{same-demand}
-use Rattle.why.proofs.Sizes.{fewest-exact}
+use Rattle.say_why.proofs.Numbers.{same-demand}
+use Rattle.say_why.proofs.Sizes.{fewest-exact}
 use Rattle.checker.specs.Check.{checkAnswer}
 use Rattle.checker.specs.Given.{checkGiven}
 use Rattle.promises.specs.Numbers.{done, doneWith}
@@ -66,7 +67,7 @@ module _ (site : Site) (n : ℕ) (e : leastGiven (leastAnswer site) ≡ doneWith
   chained-too : chainGiven (chainAnswer other) ≡ done
   chained-too = judge-is-chained other .1 (ok, same-chain other site alike (least-means site n .0 (least-number site n .0 e) .1))
 
-  -- "on a chained site .. a site with the same cells, loads and reach is planned exactly when its channel-slots are at least that many"
+  -- on a chained site: a site with the same cells, loads and reach is planned exactly when its channel-slots are at least that many
   pub least-exact : (lent : List ℕ) → LongEnough other lent → planGiven (planAnswer other lent) ≡ done ↔ n ≤ positions other
   least-exact lent long =
       let m = least-means site n .0 (least-number site n .0 e) in
@@ -74,7 +75,7 @@ module _ (site : Site) (n : ℕ) (e : leastGiven (leastAnswer site) ≡ doneWith
       let x = chained-exact other chained-too lent long in
       (λ h. t .1 (x .1 h), λ h. x .0 (t .0 h))
 
-  -- "and so the least slots": with its channels, the slots that it takes
+  -- and so the least slots: with its channels, the slots that it takes
   pub least-slots : (lent : List ℕ) → LongEnough other lent → planGiven (planAnswer other lent) ≡ done ↔ fewest n (other .channels) ≤ other .slots
   least-slots lent long =
       let z = fine-sized other (accepted-number other .0 ok) in
@@ -82,7 +83,7 @@ module _ (site : Site) (n : ℕ) (e : leastGiven (leastAnswer site) ≡ doneWith
       let x = least-exact lent long in
       (λ h. f .0 (x .0 h), λ h. x .1 (f .1 h))
 
-  -- "and the least channels": with its slots, the channels that it takes
+  -- and the least channels: with its slots, the channels that it takes
   pub least-channels : (lent : List ℕ) → LongEnough other lent → planGiven (planAnswer other lent) ≡ done ↔ fewest n (other .slots) ≤ other .channels
   least-channels lent long =
       let z = fine-sized other (accepted-number other .0 ok) in
@@ -94,15 +95,21 @@ module _ (site : Site) (n : ℕ) (e : leastGiven (leastAnswer site) ≡ doneWith
   -- with fewer no plan exists: no table at all is valid
   pub least-full : positions other < n → (any : List ℕ) → checkGiven (checkAnswer other any) ≡ done → ⊥
   least-full few any v =
-      let same : Easier other other = record { same-cells = refl; as-many-channel-slots = le-refl _; no-greater-load = λ i _. le-refl _; no-new-clash = λ a c _ _ q. q } in
+      let same : Easier other other = record {
+        same-cells = refl;
+        as-many-channel-slots = le-refl _;
+        no-greater-load = λ i _. le-refl _;
+        no-new-clash = λ a c _ _ q. q;
+      } in
       let lent : List ℕ = replicate (size other) 0 in
       let long : LongEnough other lent = omega (arith, length-replicate {A = ℕ} (size other) 0) in
       omega (arith, least-exact lent long .0 (demand-three-calls other other same chained-too any v lent long))
 
 -- ---- a site that is not chained
 
--- "so many are enough"; on the chain `least-exact` says more
-pub enough-plans : (site : Site) (n : ℕ) → leastGiven (leastAnswer site) ≡ doneWith (n ∷ 1 ∷ []) → (other : Site) → Accepted other → Alike other site → n ≤ positions other
+-- so many are enough; on the chain `least-exact` says more
+pub enough-plans : (site : Site) (n : ℕ) → leastGiven (leastAnswer site) ≡ doneWith (n ∷ 1 ∷ []) → (other : Site) → Accepted other → Alike other site
+    → n ≤ positions other
     → (lent : List ℕ) → LongEnough other lent → planGiven (planAnswer other lent) ≡ done
 enough-plans site n e other ok alike h lent long =
     let m = enough-means site n .0 (enough-number site n .0 e) in

@@ -1,5 +1,5 @@
--- W7, over the public calls and in the document's numbers: what a fitter may rely on who mends a table from another planner. Crate `mender` proves what its answers mean and
--- crate `mending` what the rule gives; here they stand beside the checker and the judges. Assumes nothing.
+-- W7, over the public calls and in the document's numbers: what a fitter may rely on who mends a table from another planner.
+-- Crate `mender` proves what its answers mean and crate `mending` what the rule gives; here they stand beside the checker and the judges. Assumes nothing.
 use mathlib.Core.Path.{_≡_, refl, sym, ap, _∙_}
 use mathlib.Core.Bool.{Bool, true, false, _&&_, not}
 use mathlib.Core.List.{List, [], _∷_}
@@ -32,19 +32,19 @@ use Rattle.judges.proofs.Meaning.{chained-means}
 use Rattle.checker.specs.Check.{checkAnswer}
 use Rattle.checker.specs.Given.{checkGiven}
 use Rattle.mending.specs.Mend.{stand, overlay}
-use Rattle.mending.specs.Changes.{changed, entry, changes, changeCount, follow}
+use Rattle.mending.specs.Changes.{changed, changeEntry, changes, changeCount, follow}
 use Rattle.mending.proofs.Changes as list
 use Rattle.mending.proofs.Overlay.{overlay-length, overlay-reserved}
 use Rattle.mending.proofs.Mended as rule
-use Rattle.mender.specs.Mend.{mendAnswer, mendTable, mendList, roomFor}
+use Rattle.mender.specs.Mend.{mendAnswer, mendTable, mendList, listRoom}
 use Rattle.mender.specs.Given.{mendGiven}
 use Rattle.mender.specs.declared.MendAnswer.the-variants.{Done, NoRoom, ListShort}
 use Rattle.mender.proofs.Given.{mend-apart, mend-proper}
 use Rattle.mender.proofs.Meaning as means
 use Rattle.mender.proofs.Ends.{refused-ends, short-ends}
 use Rattle.mender.proofs.Room.{any-room}
-use Rattle.changewords.specs.Words.{changeWords, allWords}
-use Rattle.changewords.proofs.Words.{said-all}
+use Rattle.say_changes.specs.Said.{changesSaid, allSaid}
+use Rattle.say_changes.proofs.Said.{said-all}
 use Rattle.promises.specs.Numbers.{done, doneWith, refused}
 use Rattle.promises.specs.Demands.{Accepted, LongEnough}
 use Rattle.promises.proofs.Numbers.{accepted-number, chain-number}
@@ -68,13 +68,17 @@ module _ (s : Site) (u l : List ℕ) where
   mended-long : (n : ℕ) → MendedBy n → length (mendTable s u l) ≡ length u
   mended-long n e = let d = went n e in ap length (d .table) ∙ overlay-length (d .stands) u
 
-  -- "The mended table is valid (the checker says so)."
+  -- The mended table is valid (the checker says so).
   pub mended-checks : (n : ℕ) → MendedBy n → checkGiven (checkAnswer s (mendTable s u l)) ≡ done
   mended-checks n e =
       let d = went n e in
-      check-is-valid s (mendTable s u l) .1 (accepted-number s .1 (d .fine), omega (arith, d .long, mended-long n e), means.done-valid s u l n (done-number n e))
+      check-is-valid s (mendTable s u l) .1 (
+        accepted-number s .1 (d .fine),
+        omega (arith, d .long, mended-long n e),
+        means.done-valid s u l n (done-number n e),
+      )
 
-  -- "A valid table yields no change": with a list of any length, and byte for byte
+  -- "a valid table yields no change": with a list of any length, and byte for byte
   pub valid-unchanged : checkGiven (checkAnswer s u) ≡ done → MendedBy 0 × (mendTable s u l ≡ u) × (mendList s u l ≡ l)
   valid-unchanged e =
       let v = check-is-valid s u .0 e in
@@ -93,9 +97,12 @@ module _ (s : Site) (u l : List ℕ) where
   mended-only e n m =
       let d = went n m in
       let c = chained-means s .0 (chain-number s .0 e) in
-      load-is-C1 s .1 (accepted-number s .1 (d .fine), rule.mends-test (netOf s) u (counted s) (covers-loaded (netOf s)) (chained-class (netOf s) (counted s) (c .1)) (d .stands) (d .mends))
+      load-is-C1 s .1 (
+        accepted-number s .1 (d .fine),
+        rule.mends-test (netOf s) u (counted s) (covers-loaded (netOf s)) (chained-class (netOf s) (counted s) (c .1)) (d .stands) (d .mends),
+      )
 
-  -- "all of them, 5 too, leave table and list untouched"
+  -- "all, 5 too, leave table and list untouched"
   pub refused-untouched : (mendGiven (mendAnswer s u l) .number ≡ 0 → ⊥) → (mendTable s u l ≡ u) × (mendList s u l ≡ l)
   refused-untouched h = means.untouched s u l (λ n e. h (ap (λ a. mendGiven a .number) e))
 
@@ -106,12 +113,12 @@ module _ (s : Site) (u l : List ℕ) where
   pub four-of-mend : Accepted s → length u < size s → mendGiven (mendAnswer s u l) ≡ refused 4 []
   four-of-mend ok h = ap mendGiven (sym (short-ends s u l (accepted-number s .0 ok) h .0))
 
-  -- "then 5 (cell, fragments short)": the first cell whose load can't be met
+  -- "then 5": the first cell whose load can't be met
   pub five-of-mend : (cell short : ℕ) → mendGiven (mendAnswer s u l) ≡ refused 5 (cell ∷ short ∷ [])
       → (k : ℕ) × ((cell ≡ k + 1) × Fails (netOf s) (stand (netOf s) u) (s .cells) k short)
   five-of-mend cell short e = means.short-means s u l cell short (mend-apart (mendAnswer s u l) (NoRoom cell short) (mend-proper s u l) refl e) .2
 
-  -- "then 13 with the number of changes where the list is too short": a list of four times that many is long enough
+  -- "then 13 with the number of changes if the list is too short": a list of four times that many is long enough
   pub thirteen-of-mend : (n : ℕ) → mendGiven (mendAnswer s u l) ≡ refused 13 (n ∷ [])
       → (length l < 4 * n) × ((m : List ℕ) → 4 * n ≤ length m → mendGiven (mendAnswer s u m) ≡ doneWith (n ∷ []))
   thirteen-of-mend n e =
@@ -158,34 +165,37 @@ module _ (s : Site) (u l : List ℕ) where
         ∙ take-sets (4 * n) (changes is was (positions s) (s .cells)) l
         (list.changes-length is was (positions s) (s .cells) ∙ ap (λ m. 4 * m) (sym list-counts)) (d .room)
 
-    -- "the changes listed, laid over the old table, give the new one"
+    -- the changes listed, laid over the old table, give the new one
     pub list-gives : follow (positions s) (take (4 * n) (mendList s u l)) u ≡ mendTable s u l
     list-gives =
-        ap (λ z. follow (positions s) z u) (listed-are ∙ sym (list.changes-cong (reserved (positions s) (d .stands)) is was was (positions s) (s .cells) now-is (λ i k _ _. refl)))
+        ap (λ z. follow (positions s) z u) (listed-are ∙ sym (list.changes-cong (reserved (positions s) (d .stands)) is was was (positions s) (s .cells) now-is
+        (λ i k _ _. refl)))
         ∙ rule.mended-follows (netOf s) u (d .stands) (d .mends)
         ∙ sym (d .table)
 
     -- a change at cell i and position k stands in the list, at its number
     pub list-has : (i k : ℕ) → i < s .cells → k < positions s → changed (reserved (positions s) (mendTable s u l)) (reserved (positions s) u) i k ≡ true
-        → take 4 (drop (4 * list.place is was (positions s) i k) (take (4 * n) (mendList s u l))) ≡ entry (is i k) (was i k) i k
-    list-has i k h w c = ap (λ z. take 4 (drop (4 * list.place is was (positions s) i k) z)) listed-are ∙ list.changes-at is was (positions s) (s .cells) i k h w c
+        → take 4 (drop (4 * list.place is was (positions s) i k) (take (4 * n) (mendList s u l))) ≡ changeEntry (is i k) (was i k) i k
+    list-has i k h w c = ap (λ z. take 4 (drop (4 * list.place is was (positions s) i k) z)) listed-are
+        ∙ list.changes-at is was (positions s) (s .cells) i k h w c
 
-    -- and each of its n entries is a change: "no entry says that nothing changed"
+    -- and each of its n entries is a change: no entry says that nothing changed
     pub list-only : (m : ℕ) → m < n
         → (i : ℕ) × (k : ℕ) × (i < s .cells) × (k < positions s) × (is i k ≡ not (was i k)) × (list.place is was (positions s) i k ≡ m)
     list-only m h =
         let r = list.changes-each is was (positions s) (s .cells) m (omega (arith, list-counts)) in
         (r .0, r .1, r .2, r .3, list.differs (was (r .0) (r .1)) (is (r .0) (r .1)) (r .4), r .5)
 
-    -- "by cell, then position, strictly rising"
-    pub list-rises : (i k j q : ℕ) → k < positions s → q < positions s → list.place is was (positions s) i k < list.place is was (positions s) j q → Rising i j (k < q)
+    -- "by cell, then position", strictly rising
+    pub list-rises : (i k j q : ℕ) → k < positions s → q < positions s → list.place is was (positions s) i k < list.place is was (positions s) j q
+        → Rising i j (k < q)
     list-rises = list.changes-rise is was (positions s)
 
-    -- "each change in words": the words of the old table and the new one, slot by slot, are those of the list
-    pub list-said : allWords u (mendTable s u l) (s .slots) (s .channels) (s .cells) ≡ changeWords (s .channels) (take (4 * n) (mendList s u l))
-    list-said = said-all u (mendTable s u l) (s .slots) (s .channels) (s .cells) ∙ sym (ap (changeWords (s .channels)) listed-are)
+    -- each change in words: the words of the old table and the new one, slot by slot, are those of the list
+    pub list-said : allSaid u (mendTable s u l) (s .slots) (s .channels) (s .cells) ≡ changesSaid (s .channels) (take (4 * n) (mendList s u l))
+    list-said = said-all u (mendTable s u l) (s .slots) (s .channels) (s .cells) ∙ sym (ap (changesSaid (s .channels)) listed-are)
 
-    -- ---- "Least harm": a reservation of a cell is dropped only where an earlier clashing cell stands or the load is met
+    -- ---- Least harm: a reservation of a cell is dropped only where an earlier clashing cell stands or the load is met
 
     taken-same : (i k : ℕ) → i < s .cells → k < positions s → taken (netOf s) (reserved (positions s) (d .stands)) i k ≡ taken (netOf s) is i k
     taken-same i k h w =
@@ -203,7 +213,8 @@ module _ (s : Site) (u l : List ℕ) where
         inr (omega (
           arith,
           y,
-          sum-eq (λ q. bit (was i q && reserved (positions s) (d .stands) i q)) (λ q. bit (was i q && is i q)) k (λ q m. ap (λ b. bit (was i q && b)) (now-is i q h (omega arith))),
+          sum-eq (λ q. bit (was i q && reserved (positions s) (d .stands) i q)) (λ q. bit (was i q && is i q)) k
+              (λ q m. ap (λ b. bit (was i q && b)) (now-is i q h (omega arith))),
         )))
         (rule.dropped-why (netOf s) u (d .stands) (d .mends) i k h w refl o (now-is i k h w ∙ c))
 
@@ -225,7 +236,7 @@ module _ (s : Site) (u l : List ℕ) where
           λ q m y z. sym (now-is i q h m) ∙ r .2 q m (free-same i q h m y) z,
         )
 
-  -- no change is said of a valid table alone: what the desk is told as "valid as it is"
+  -- no change is said of a valid table alone: what the desk is told as `valid as it is`
   pub unchanged-valid : MendedBy 0 → checkGiven (checkAnswer s u) ≡ done
   unfolding follow
   unchanged-valid e = let same : u ≡ mendTable s u l = list-gives 0 e in ap (λ t. checkGiven (checkAnswer s t)) same ∙ mended-checks 0 e
@@ -255,8 +266,8 @@ module _ (s : Site) (u : List ℕ) (e : loadGiven (loadAnswer s) ≡ done) (long
       (cases (ltb (length l) (4 * r .0)))
 
 -- mended without a list, the words are those of the list that `mend` writes where it is lent one with room for every change
-pub only-said : (s : Site) (u : List ℕ) (n : ℕ) → MendedBy s u (roomFor s) n → (l : List ℕ) → 4 * size s ≤ length l
-    → allWords u (mendTable s u (roomFor s)) (s .slots) (s .channels) (s .cells) ≡ changeWords (s .channels) (take (4 * n) (mendList s u l))
+pub only-said : (s : Site) (u : List ℕ) (n : ℕ) → MendedBy s u (listRoom s) n → (l : List ℕ) → 4 * size s ≤ length l
+    → allSaid u (mendTable s u (listRoom s)) (s .slots) (s .channels) (s .cells) ≡ changesSaid (s .channels) (take (4 * n) (mendList s u l))
 only-said s u n e l room =
     let same = any-room s u l room in
-    ap (λ t. allWords u t (s .slots) (s .channels) (s .cells)) (same .1) ∙ list-said s u l n (ap mendGiven (sym (same .0)) ∙ e)
+    ap (λ t. allSaid u t (s .slots) (s .channels) (s .cells)) (same .1) ∙ list-said s u l n (ap mendGiven (sym (same .0)) ∙ e)

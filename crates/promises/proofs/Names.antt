@@ -1,4 +1,5 @@
--- What the values beside a number name, as document 01's last column says. Each crate proves it of its own answers; here it is said of the numbers. Assumes nothing.
+-- What the values beside a number name, as document 01's last column says. Each crate proves it of its own answers; here it is said of the numbers.
+-- Assumes nothing.
 use mathlib.Core.Path.{_≡_}
 use mathlib.Core.List.{List, [], _∷_}
 use Prim.Native.Nat.{ℕ, _+_}
@@ -28,17 +29,17 @@ pub triple-names : (s : Site) (a b c : ℕ) → chainGiven (chainAnswer s) ≡ d
     → (x y z : ℕ) × (a ≡ x + 1) × (b ≡ y + 1) × (c ≡ z + 1) × FirstBreaks (netOf s) (counted s) x y z
 triple-names s a b c e = broken-means s a b c (broken-number s a b c e) .1
 
--- "5 planner finds no room: cell, fragments short"
+-- 5, "planner finds no room": "cell, fragments short"
 pub five-names : (s : Site) (t : List ℕ) (cell short : ℕ) → planGiven (planAnswer s t) ≡ refused 5 (cell ∷ short ∷ [])
     → (k : ℕ) × (cell ≡ k + 1) × Fails (netOf s) (row (netOf s)) (s .cells) k short
 five-names s t cell short e = short-means s t cell short (no-room-number s t cell short e)
 
--- "6 clash in a table: lowest position; there the pair with the lowest first cell, then second"
+-- 6, "clash in a table": "lowest position; there the pair with the lowest first cell, then second"
 pub six-names : (s : Site) (t : List ℕ) (p a c : ℕ) → checkGiven (checkAnswer s t) ≡ refused 6 (p ∷ a ∷ c ∷ [])
     → (x z : ℕ) × (a ≡ x + 1) × (c ≡ z + 1) × FirstClash (netOf s) (reserved (positions s) t) p x z
 six-names s t p a c e = clash-means s t p a c (clash-number s t p a c e)
 
--- "7 wrong number of reservations: lowest cell, its count"
+-- 7, "wrong number of reservations": "lowest cell, its count"
 pub seven-names : (s : Site) (t : List ℕ) (cell n : ℕ) → checkGiven (checkAnswer s t) ≡ refused 7 (cell ∷ n ∷ [])
     → (i : ℕ) × (cell ≡ i + 1) × FirstWrong (netOf s) (reserved (positions s) t) i n
 seven-names s t cell n e = count-means s t cell n (count-number s t cell n e)

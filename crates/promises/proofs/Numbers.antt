@@ -1,4 +1,5 @@
--- From the numbers given back to the calls' answers and back: each crate proves that its numbers tell its answers apart, so each good answer is one number and its values.
+-- From the numbers given back to the calls' answers and back: each crate proves that its numbers tell its answers apart,
+-- so each good answer is one number and its values.
 -- Also what the record's fault may be. Assumes nothing.
 use mathlib.Core.Path.{_≡_, refl, ap}
 use mathlib.Core.List.{List, [], _∷_}

@@ -1,4 +1,5 @@
--- What the command's sentence of a wrong count says is true: the cell sends so often, and the load that is named is its own and another number. Assumes nothing.
+-- What the command's sentence of a wrong count says is true: the cell sends so often, and the load that is named is its own and another number.
+-- Assumes nothing.
 use Prim.Native.Nat.{ℕ, _+_, _-_, _≤_, _<_}
 use mathlib.Core.List.{List}
 use mathlib.Core.Path.{_≡_, refl, sym, ap, _∙_}
@@ -18,7 +19,7 @@ use Rattle.checker.specs.Check.{checkAnswer}
 use Rattle.checker.specs.declared.CheckAnswer.{CheckAnswer}
 use Rattle.checker.specs.declared.CheckAnswer.the-variants.{Count, Refused}
 use Rattle.checker.proofs.Meaning.{count-means}
-use Rattle.verdicts.specs.Words.{loadOf, countLine, checkWords}
+use Rattle.say_verdicts.specs.Said.{loadNamed, countLine, checkSaid}
 
 -- a count is answered of a record without a fault
 accepted : (f : Fault) (o : CheckAnswer) (i n : ℕ) → pick (isFine f) o (Refused f) ≡ Count i n → f ≡ Fine
@@ -27,7 +28,7 @@ accepted Size o i n e = let z : _≡_ {A = ℕ} 0 1 = cc in absurd (omega arith)
 accepted (Load k) o i n e = let z : _≡_ {A = ℕ} 0 1 = cc in absurd (omega arith)
 accepted (Reach k) o i n e = let z : _≡_ {A = ℕ} 0 1 = cc in absurd (omega arith)
 
--- "cell i sends n times in a superframe, and its load is l": a cell of the site, its own count and its own load, which differ
+-- `cell i sends n times in a superframe, and its load is l`: a cell of the site, its own count and its own load, which differ
 pub record CountSaid (s : Site) (t : List ℕ) (i n l : ℕ) : Type 0 where
   pub inside : UpTo (s .cells) i
   pub sends : n ≡ count (reserved (positions s) t (i - 1)) (positions s)
@@ -35,8 +36,8 @@ pub record CountSaid (s : Site) (t : List ℕ) (i n l : ℕ) : Type 0 where
   pub differ : n ≡ l → ⊥
 
 pub count-said : (s : Site) (t : List ℕ) (i n : ℕ) → checkAnswer s t ≡ Count i n
-    → (l : ℕ) × CountSaid s t i n l × (checkWords s (Count i n) ≡ countLine i n l)
-unfolding checkAnswer loadOf
+    → (l : ℕ) × CountSaid s t i n l × (checkSaid s (Count i n) ≡ countLine i n l)
+unfolding checkAnswer loadNamed
 count-said s t i n e =
     let m = count-means s t i n e in
     let k = m .0 in

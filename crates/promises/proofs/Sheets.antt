@@ -1,4 +1,5 @@
--- Document 02, W1, the range sheets: over what the calls answer and leave, with any input and any output, in the documents' numbers. The laws are those of crate `sheet`.
+-- Document 02, W1, the range sheets: over what the calls answer and leave, with any input and any output, in the documents' numbers.
+-- The laws are those of crate `sheet`.
 -- Assumes nothing.
 use mathlib.Core.Path.{_≡_, refl, sym, ap, _∙_}
 use mathlib.Core.Bool.{Bool, true, false, true≢false}
@@ -10,10 +11,10 @@ use lib.Dec.{leb}
 use lib.ListN.{length, take, drop, getD}
 use lib.Seq.{take-at}
 use borrow.Author.Tests.{le-leb, lt-leb}
-use Rattle.laws.specs.Choice.{pick}
 use Rattle.laws.specs.Sum.{bit}
-use Rattle.records.specs.Write.{laidOver}
-use Rattle.site.specs.Record.{loadAt, zeroSite, faultOf, isFine}
+use Rattle.records.specs.Given.{writtenGiven}
+use Rattle.records.specs.Write.{written, laidOver}
+use Rattle.site.specs.Record.{zeroSite, faultOf}
 use Rattle.site.specs.Reach.{reaches}
 use Rattle.site.specs.Means.{UpTo}
 use Rattle.site.specs.Given.{Given, faultGiven}
@@ -21,15 +22,14 @@ use Rattle.site.specs.declared.Site.{Site}
 use Rattle.site.specs.declared.Fault.{Fault}
 use Rattle.site.specs.declared.Fault.the-variants.{Fine, Size, Load, Reach}
 use Rattle.site.proofs.Given.{fault-apart}
-use Rattle.sitefile.specs.Held.{Held}
+use Rattle.site.specs.Held.{Held}
 use Rattle.sheet.specs.Sheet.{sheetBytes}
 use Rattle.sheet.specs.Read.{judged, readSheet}
-use Rattle.sheet.specs.Write.{written, sheetWritten, sheetOut}
-use Rattle.sheet.specs.Means.{FirstBad, SheetOf, sheetFault, MarksItself, markPlace}
-use Rattle.sheet.specs.Given.{sheetGiven, sheetWrittenGiven}
+use Rattle.sheet.specs.Write.{sheetWritten, sheetOut}
+use Rattle.sheet.specs.Means.{FirstBadOfSheet, SheetOf, sheetFault, MarksItself, markPlace}
+use Rattle.sheet.specs.Given.{sheetGiven}
 use Rattle.sheet.specs.declared.SheetRead.{SheetRead}
 use Rattle.sheet.specs.declared.SheetAnswer.the-variants as read
-use Rattle.sheet.specs.declared.SheetWritten.the-variants as sheet
 use Rattle.sheet.proofs.Given.{sheet-apart, sheet-proper}
 use Rattle.sheet.proofs.Trip.{fine-fits, written-then-read}
 use Rattle.sheet.proofs.Answers.{bad-first, first-told, no-bad-line, sheet-read, refused-zeros, accepted-is, sheet-accepted}
@@ -38,26 +38,16 @@ use Rattle.promises.specs.Numbers.{done, doneWith, refused}
 use Rattle.promises.specs.Demands.{Accepted}
 use Rattle.promises.specs.Leaves.{WriterLeaves}
 use Rattle.promises.proofs.Numbers.{accepted-number}
-use Rattle.promises.proofs.Demand1.{did-write, out-untouched}
+use Rattle.promises.proofs.Demand1.{file-left, wrote-fine}
 
 -- ---- the writer: 1, 2, 3, then 13; nothing written on a refusal, nothing past the sheet
 
-module _ (file out : List ℕ) where
-  left : (f : Fault) (fits : Bool)
-      → WriterLeaves file out (sheetWrittenGiven (pick (isFine f) (pick fits (sheet.Done (length file)) (sheet.OutShort (length file))) (sheet.Refused f)))
-      (pick (isFine f) (pick fits (file ++ drop (length file) out) out) out)
-  left Fine true = did-write file out
-  left Fine false = out-untouched file out _ (λ e. omega arith)
-  left Size fits = out-untouched file out _ (λ e. omega arith)
-  left (Load k) fits = out-untouched file out _ (λ e. omega arith)
-  left (Reach k) fits = out-untouched file out _ (λ e. omega arith)
-
-pub sheet-write-leaves : (s : Site) (out : List ℕ) → WriterLeaves (sheetBytes s) out (sheetWrittenGiven (sheetWritten s out)) (sheetOut s out)
+pub sheet-write-leaves : (s : Site) (out : List ℕ) → WriterLeaves (sheetBytes s) out (writtenGiven (sheetWritten s out)) (sheetOut s out)
 unfolding sheetWritten sheetOut written laidOver
-sheet-write-leaves s out = left (sheetBytes s) out (faultOf s) (leb (length (sheetBytes s)) (length out))
+sheet-write-leaves s out = file-left (sheetBytes s) out (faultOf s) (leb (length (sheetBytes s)) (length out))
 
 module _ (s : Site) (out : List ℕ) where
-  fault-first : (f : Fault) → faultOf s ≡ f → (f ≡ Fine → ⊥) → sheetWrittenGiven (sheetWritten s out) ≡ faultGiven f
+  fault-first : (f : Fault) → faultOf s ≡ f → (f ≡ Fine → ⊥) → writtenGiven (sheetWritten s out) ≡ faultGiven f
   unfolding sheetWritten
   fault-first Fine q n = absurd (n refl)
   fault-first Size q n = rw q
@@ -65,44 +55,37 @@ module _ (s : Site) (out : List ℕ) where
   fault-first (Reach k) q n = rw q
 
   -- a record that is not accepted is refused with its fault, 1, 2 or 3
-  pub sheet-written-fault : (Accepted s → ⊥) → sheetWrittenGiven (sheetWritten s out) ≡ faultGiven (faultOf s)
+  pub sheet-written-fault : (Accepted s → ⊥) → writtenGiven (sheetWritten s out) ≡ faultGiven (faultOf s)
   sheet-written-fault n = fault-first (faultOf s) refl (λ e. n (accepted-number s .1 e))
 
-  -- "13, lent output too short for the file: bytes needed"
-  pub sheet-written-short : Accepted s → length out < length (sheetBytes s) → sheetWrittenGiven (sheetWritten s out) ≡ refused 13 (length (sheetBytes s) ∷ [])
+  -- 13, "lent output too short for the file": "bytes needed"
+  pub sheet-written-short : Accepted s → length out < length (sheetBytes s) → writtenGiven (sheetWritten s out) ≡ refused 13 (length (sheetBytes s) ∷ [])
   unfolding sheetWritten written
   sheet-written-short ok h = rw (accepted-number s .0 ok, lt-leb (length (sheetBytes s)) (length out) h)
 
   -- "A writer that is done answers the number of bytes written."
-  pub sheet-written-done : Accepted s → length (sheetBytes s) ≤ length out → sheetWrittenGiven (sheetWritten s out) ≡ doneWith (length (sheetBytes s) ∷ [])
+  pub sheet-written-done : Accepted s → length (sheetBytes s) ≤ length out → writtenGiven (sheetWritten s out) ≡ doneWith (length (sheetBytes s) ∷ [])
   unfolding sheetWritten written
   sheet-written-done ok h = rw (accepted-number s .0 ok, le-leb (length (sheetBytes s)) (length out) h)
 
-fault-was : (f : Fault) (fits : Bool) (n : ℕ)
-    → sheetWrittenGiven (pick (isFine f) (pick fits (sheet.Done n) (sheet.OutShort n)) (sheet.Refused f)) .number ≡ 0 → f ≡ Fine
-fault-was Fine fits n e = refl
-fault-was Size fits n e = absurd (omega arith)
-fault-was (Load k) fits n e = absurd (omega arith)
-fault-was (Reach k) fits n e = absurd (omega arith)
-
-written-fine : (s : Site) (out : List ℕ) → sheetWrittenGiven (sheetWritten s out) .number ≡ 0 → faultOf s ≡ Fine
+written-fine : (s : Site) (out : List ℕ) → writtenGiven (sheetWritten s out) .number ≡ 0 → faultOf s ≡ Fine
 unfolding sheetWritten written
-written-fine s out e = fault-was (faultOf s) (leb (length (sheetBytes s)) (length out)) (length (sheetBytes s)) e
+written-fine s out e = wrote-fine (faultOf s) (leb (length (sheetBytes s)) (length out)) (length (sheetBytes s)) e
 
 -- ---- the round trips
 
 -- "Reading a written sheet gives the site": `read_sheet` of what `write_sheet` wrote, with the site's slots and channels
-pub sheet-written-read : (s : Site) → Held s → ((k : ℕ) → loadAt s k ≤ 65535) → (out : List ℕ) (n : ℕ) → sheetWrittenGiven (sheetWritten s out) ≡ doneWith (n ∷ [])
+pub sheet-written-read : (s : Site) → Held s → (out : List ℕ) (n : ℕ) → writtenGiven (sheetWritten s out) ≡ doneWith (n ∷ [])
     → let back = readSheet (take n (sheetOut s out)) (s .slots) (s .channels) in (sheetGiven (back .answer) ≡ done) × (back .site ≡ s)
-sheet-written-read s held few out n e =
-    let zero : sheetWrittenGiven (sheetWritten s out) .number ≡ 0 = ap (λ (g : Given). g .number) e in
+sheet-written-read s held out n e =
+    let zero : writtenGiven (sheetWritten s out) .number ≡ 0 = ap (λ (g : Given). g .number) e in
     let w = sheet-write-leaves s out .if-done zero in
     let m : length (sheetBytes s) ∷ [] ≡ n ∷ [] = sym (w .0) ∙ ap (λ (g : Given). g .values) e in
     let count : length (sheetBytes s) ≡ n = cc in
     let file : take n (sheetOut s out) ≡ sheetBytes s = rw (w .1) (take-at (sheetBytes s) (drop (length (sheetBytes s)) out) n count) in
     let is : readSheet (take n (sheetOut s out)) (s .slots) (s .channels) ≡ record { site = s; answer = read.Done } =
     ap (λ (b : List ℕ). readSheet b (s .slots) (s .channels)) file
-    ∙ written-then-read s (fine-fits s held few (written-fine s out zero)) (written-fine s out zero) in
+    ∙ written-then-read s (fine-fits s held (written-fine s out zero)) (written-fine s out zero) in
     (ap (λ (r : SheetRead). sheetGiven (r .answer)) is, ap (λ (r : SheetRead). r .site) is)
 
 module _ (b : List ℕ) (slots channels : ℕ) where
@@ -111,7 +94,7 @@ module _ (b : List ℕ) (slots channels : ℕ) where
 
   -- "an accepted sheet written again is the same bytes": `write_sheet` of what `read_sheet` read
   pub sheet-read-written : sheetGiven (readSheet b slots channels .answer) ≡ done → (out : List ℕ) → length b ≤ length out
-      → (sheetWrittenGiven (sheetWritten (readSheet b slots channels .site) out) ≡ doneWith (length b ∷ []))
+      → (writtenGiven (sheetWritten (readSheet b slots channels .site) out) ≡ doneWith (length b ∷ []))
       × (sheetOut (readSheet b slots channels .site) out ≡ b ++ drop (length b) out)
   unfolding sheetWritten sheetOut written laidOver
   sheet-read-written ok out fits =
@@ -134,14 +117,14 @@ module _ (b : List ℕ) (slots channels : ℕ) where
   )
 
   -- "17, sheet malformed, with its first bad line (from 1; missing and extra lines count)"
-  pub seventeen : (l : ℕ) → sheetGiven (readSheet b slots channels .answer) ≡ refused 17 (l ∷ []) ↔ FirstBad b l
+  pub seventeen : (l : ℕ) → sheetGiven (readSheet b slots channels .answer) ≡ refused 17 (l ∷ []) ↔ FirstBadOfSheet b l
   seventeen l = (
     λ e. bad-first b slots channels l (sheet-apart (readSheet b slots channels .answer) (read.BadLine l) (sheet-proper b slots channels) refl e),
     λ f. ap sheetGiven (first-told b slots channels l f),
   )
 
   -- bytes with no bad line are the sheet of a record
-  pub sheet-or-bad : ((l : ℕ) → FirstBad b l → ⊥) → (s : Site) × SheetOf b slots channels s
+  pub sheet-or-bad : ((l : ℕ) → FirstBadOfSheet b l → ⊥) → (s : Site) × SheetOf b slots channels s
   sheet-or-bad none = no-bad-line b slots channels none
 
   judged-number : (s : Site) (f : Fault) → faultOf s ≡ f → sheetGiven (judged s .answer) ≡ faultGiven f
@@ -181,7 +164,7 @@ module _ (b : List ℕ) (slots channels : ℕ) where
   pub sheet-refused-zeros : (sheetGiven (readSheet b slots channels .answer) ≡ done → ⊥) → readSheet b slots channels .site ≡ zeroSite
   sheet-refused-zeros n = refused-zeros b slots channels (λ e. n (ap sheetGiven e))
 
--- "`1` for \"reaches\" and `0` for not": the byte of the written sheet at the mark of b in the line of a is the digit 1 exactly where a reaches b
+-- `1` where it reaches and `0` where not: the byte of the written sheet at the mark of b in the line of a is the digit 1 exactly where a reaches b
 pub mark-means : (s : Site) (a b : ℕ) → a < s .cells → b < s .cells → getD (sheetBytes s) (markPlace s a b) 0 ≡ 49 ↔ reaches (s .reach) a b ≡ true
 mark-means s a b p q = go (reaches (s .reach) a b) (marks-reach s a b p q)
   where

@@ -15,8 +15,7 @@ use Rattle.judges.specs.Given.{loadGiven, chainGiven}
 use Rattle.planner.specs.Plan.{planAnswer, planTable}
 use Rattle.planner.specs.Given.{planGiven}
 use Rattle.planner.proofs.Meaning.{done-means}
-use Rattle.records.specs.Given.{readGiven}
-use Rattle.sitefile.specs.Given.{siteWrittenGiven}
+use Rattle.records.specs.Given.{readGiven, writtenGiven}
 use Rattle.sitefile.specs.Read.{readSite}
 use Rattle.sitefile.specs.Write.{siteWritten}
 use Rattle.promises.specs.Numbers.{done, doneWith}
@@ -85,7 +84,7 @@ demand-two = record {
     λ h. load-is-C1 site .1 (h .0, claim-one site .0 (h .1)),
   );
   written-then-read = λ site held out out′ wrote w n e read r.
-      let ok : siteWrittenGiven (siteWritten site out) ≡ doneWith (n ∷ []) = rw (w .answer) at e in
+      let ok : writtenGiven (siteWritten site out) ≡ doneWith (n ∷ []) = rw (w .answer) at e in
       rw (r .answer, w .out-after) (site-written-read site held out n ok);
   read-then-written = λ file bytes read r ok out out′ wrote fits w.
       let is : readGiven (readSite file .answer) ≡ done = rw (r .answer) at ok in

@@ -1,5 +1,5 @@
--- Document 02, W6, one word for each position: over what the calls answer and leave, with any words and any table, in the documents' numbers. The laws are those of crate
--- `wordtable`, and demand 3 over the word calls is demand 3 over the byte calls, cited. Assumes nothing.
+-- Document 02, W6, one word for each position: over what the calls answer and leave, with any words and any table, in the documents' numbers.
+-- The laws are those of crate `wordtable`, and demand 3 over the word calls is demand 3 over the byte calls, cited. Assumes nothing.
 use mathlib.Core.Path.{_≡_, refl, sym, ap, _∙_}
 use mathlib.Core.Bool.{Bool, true, false}
 use mathlib.Core.List.{List, [], _++_}
@@ -54,26 +54,30 @@ use Rattle.promises.proofs.Demand3.{demand-three-calls}
 -- ---- the two forms say the same, for every record; of the refusals only 4 is about what is lent
 
 module _ (s : Site) (words table : List ℕ) (enough : WordsEnough s words) (long : LongEnough s table) where
-  -- "`plan_words` gives the same answer as `plan` over a long enough byte table, and its words are those of that plan, forbidden marks gone"
+  -- "each gives the same answer as over the byte table, with forbidden marks gone": `plan_words` that of `plan` over a long enough
+  -- table, and its words are those of that plan
   pub plan-words-same : (planGiven (planWordsAnswer s words) ≡ planGiven (planAnswer s table)) × (planWords s words ≡ toWords s (planTable s table) words)
   plan-words-same = (ap planGiven (plan-answer-same s table words long enough), plan-words-are s table words long enough)
 
-  -- "`check_words` gives the same answer as `check` over the bytes of the words", and over a table of which they are the words
+  -- and `check_words` that of `check` over the bytes of the words, and over a table of which they are the words
   pub check-words-same : (checkGiven (checkWordsAnswer s words) ≡ checkGiven (checkAnswer s (toBytes s words table)))
       × (checkGiven (checkWordsAnswer s (toWords s table words)) ≡ checkGiven (checkAnswer s table))
   check-words-same = (ap checkGiven (check-bytes s table words long enough), ap checkGiven (check-table s table words long enough))
 
-  -- "Changing form and back keeps every reservation, other bytes 0": and leaves what is past them
+  -- "changing form and back keeps every reservation, other bytes 0": and leaves what is past them
   pub table-there-and-back : Accepted s → (lent : List ℕ) → LongEnough s lent
-      → ((i k : ℕ) → i < s .cells → k < positions s → getD (toBytes s (toWords s table words) lent) (i * positions s + k) 0 ≡ bit (reserved (positions s) table i k))
+      → ((i k : ℕ) → i < s .cells → k < positions s → getD (toBytes s (toWords s table words) lent) (i * positions s + k) 0
+      ≡ bit (reserved (positions s) table i k))
       × (drop (size s) (toBytes s (toWords s table words) lent) ≡ drop (size s) lent)
   table-there-and-back ok lent h =
       let e = there-and-back s table words long enough (accepted-number s .0 ok) lent h in (
-        λ i k l m. ap (λ (x : List ℕ). getD x (i * positions s + k) 0) e ∙ bytes-at (s .cells) (positions s) (reserved (positions s) table) (drop (size s) lent) i k l m,
-        ap (drop (size s)) e ∙ drop-at (bytesOf (s .cells) (positions s) (reserved (positions s) table)) (drop (size s) lent) (size s) (bytes-long (s .cells) (positions s) (reserved (positions s) table)),
+        λ i k l m. ap (λ (x : List ℕ). getD x (i * positions s + k) 0) e ∙ bytes-at (s .cells) (positions s) (reserved (positions s) table)
+            (drop (size s) lent) i k l m,
+        ap (drop (size s)) e ∙ drop-at (bytesOf (s .cells) (positions s) (reserved (positions s) table)) (drop (size s) lent) (size s)
+            (bytes-long (s .cells) (positions s) (reserved (positions s) table)),
       )
 
-  -- "words to bytes and back gives the words with the bits above I gone"
+  -- words to bytes and back gives the words with the bits above I gone
   pub words-there-and-back : Accepted s → (lent : List ℕ) → WordsEnough s lent
       → toWords s (toBytes s words table) lent ≡ listOf (λ k. getD words k 0 % 2 ^ s .cells) (positions s) ++ drop (positions s) lent
   words-there-and-back ok lent h = back-and-there s table words long enough (accepted-number s .0 ok) lent h
@@ -110,7 +114,8 @@ above-silent s one other e same = (ap checkGiven (check-above s one other e same
 
 -- a record that is not accepted is refused with its fault, 1, 2 or 3, by all four, whatever is lent, and nothing is written
 pub words-fault : (s : Site) (words table : List ℕ) (f : Fault) → faultOf s ≡ f → (f ≡ Fine → ⊥)
-    → (planGiven (planWordsAnswer s words) ≡ faultGiven f) × (checkGiven (checkWordsAnswer s words) ≡ faultGiven f) × (formGiven (formAnswer s table words) ≡ faultGiven f)
+    → (planGiven (planWordsAnswer s words) ≡ faultGiven f) × (checkGiven (checkWordsAnswer s words) ≡ faultGiven f)
+    × (formGiven (formAnswer s table words) ≡ faultGiven f)
     × (planWords s words ≡ words) × (toWords s table words ≡ words) × (toBytes s words table ≡ table)
 unfolding planWordsAnswer checkWordsAnswer formAnswer planWords toWords toBytes
 words-fault s words table Fine e at-fault = absurd (at-fault refl)
@@ -118,9 +123,10 @@ words-fault s words table Size e at-fault = (rw e, rw e, rw e, rw e, rw e, rw e)
 words-fault s words table (Load k) e at-fault = (rw e, rw e, rw e, rw e, rw e, rw e)
 words-fault s words table (Reach k) e at-fault = (rw e, rw e, rw e, rw e, rw e, rw e)
 
--- "Refusal 4 when fewer than N words are lent", by all four, and nothing is written
+-- "Refusal 4 is given when fewer than N words are lent", by all four, and nothing is written
 pub words-four : (s : Site) (words table : List ℕ) → Accepted s → length words < positions s
-    → (planGiven (planWordsAnswer s words) ≡ refused 4 []) × (checkGiven (checkWordsAnswer s words) ≡ refused 4 []) × (formGiven (formAnswer s table words) ≡ refused 4 [])
+    → (planGiven (planWordsAnswer s words) ≡ refused 4 []) × (checkGiven (checkWordsAnswer s words) ≡ refused 4 [])
+    × (formGiven (formAnswer s table words) ≡ refused 4 [])
     × (planWords s words ≡ words) × (toWords s table words ≡ words) × (toBytes s words table ≡ table)
 unfolding planWordsAnswer checkWordsAnswer formAnswer planWords toWords toBytes
 words-four s words table ok h =
@@ -129,7 +135,7 @@ words-four s words table ok h =
     let either : lentShort s table words ≡ true = words-short s table words h in
     (rw (e, short), rw (e, short), rw (e, either), rw (e, short), rw (e, either), rw (e, either))
 
--- "the changes of form: also when fewer than IN bytes are"
+-- 4 of the changes of form also where fewer than IN bytes are lent
 pub forms-four : (s : Site) (words table : List ℕ) → Accepted s → length table < size s
     → (formGiven (formAnswer s table words) ≡ refused 4 []) × (toWords s table words ≡ words) × (toBytes s words table ≡ table)
 unfolding formAnswer toWords toBytes
@@ -144,24 +150,27 @@ out-long : (cells n : ℕ) (o : Outcome) → length (outWords cells n o) ≡ n
 out-long cells n (planned t) = length-list (wordAt cells (reserved n t)) n
 out-long cells n (noRoom c m) = length-replicate n 0
 
-past : (f : Fault) (short : Bool) (front lent : List ℕ) (n : ℕ) → length front ≡ n → drop n (pick (isFine f) (pick short lent (front ++ drop n lent)) lent) ≡ drop n lent
+past : (f : Fault) (short : Bool) (front lent : List ℕ) (n : ℕ) → length front ≡ n
+    → drop n (pick (isFine f) (pick short lent (front ++ drop n lent)) lent) ≡ drop n lent
 past Fine true front lent n e = refl
 past Fine false front lent n e = drop-at front (drop n lent) n e
 past Size short front lent n e = refl
 past (Load k) short front lent n e = refl
 past (Reach k) short front lent n e = refl
 
--- "words past N, and bytes past IN, are never written": for every record, and whatever is lent
+-- "words past N are never written", and bytes past IN neither: for every record, and whatever is lent
 pub past-untouched : (s : Site) (words table : List ℕ)
     → (drop (positions s) (planWords s words) ≡ drop (positions s) words)
     × (drop (positions s) (toWords s table words) ≡ drop (positions s) words)
     × (drop (size s) (toBytes s words table) ≡ drop (size s) table)
 unfolding planWords toWords toBytes
 past-untouched s words table = (
-  past (faultOf s) (ltb (length words) (positions s)) (outWords (s .cells) (positions s) (greedy (netOf s))) words (positions s) (out-long (s .cells) (positions s) (greedy (netOf s))),
+  past (faultOf s) (ltb (length words) (positions s)) (outWords (s .cells) (positions s) (greedy (netOf s))) words (positions s)
+      (out-long (s .cells) (positions s) (greedy (netOf s))),
   past (faultOf s) (lentShort s table words) (wordsOf (s .cells) (positions s) (reserved (positions s) table)) words (positions s)
       (length-list (wordAt (s .cells) (reserved (positions s) table)) (positions s)),
-  past (faultOf s) (lentShort s table words) (bytesOf (s .cells) (positions s) (sendsAt words)) table (size s) (bytes-long (s .cells) (positions s) (sendsAt words)),
+  past (faultOf s) (lentShort s table words) (bytesOf (s .cells) (positions s) (sendsAt words)) table (size s)
+      (bytes-long (s .cells) (positions s) (sendsAt words)),
 )
 
 -- ---- what is lent after a call, by the number given back
@@ -207,7 +216,8 @@ was-enough (Reach k) short o e = let z : _≡_ {A = ℕ} 0 1 = cc in absurd (ome
 valid-enough : (s : Site) (words : List ℕ) → checkGiven (checkWordsAnswer s words) ≡ done → WordsEnough s words
 unfolding checkWordsAnswer
 valid-enough s words ok =
-    ltb-false (length words) (positions s) (was-enough (faultOf s) (ltb (length words) (positions s)) _ (check-apart (checkWordsAnswer s words) check.Valid (check-words-proper s words) refl ok))
+    ltb-false (length words) (positions s) (was-enough (faultOf s) (ltb (length words) (positions s)) _
+    (check-apart (checkWordsAnswer s words) check.Valid (check-words-proper s words) refl ok))
 
 -- a table of bytes that is long enough
 room-for : (s : Site) → LongEnough s (replicate (size s) 0)

@@ -19,22 +19,22 @@ use Rattle.promises.specs.Numbers.{done}
 abbrev pub Accepted : Site → Type 0
 Accepted s = faultGiven (faultOf s) ≡ done
 
--- "a long enough table": a byte for each cell and position, or more
+-- a long enough table: a byte for each cell and position, or more
 abbrev pub LongEnough : Site → List ℕ → Type 0
 LongEnough s table = size s ≤ length table
 
--- the same of words: W6, "refusal 4 when fewer than N words are lent"
+-- the same of words: W6, "Refusal 4 is given when fewer than N words are lent"
 abbrev pub WordsEnough : Site → List ℕ → Type 0
 WordsEnough s words = positions s ≤ length words
 
--- "Definition 1 (Valid Schedule)" of 000, word for word over a site and its table. Condition 1: where a cell transmits, no cell that it clashes with does, whichever is the
--- lower. Condition 2: each cell transmits as often as its load says.
+-- Definition 1 (Valid Schedule) of 000, word for word over a site and its table. Condition 1: where a cell transmits, no cell that it clashes with does,
+-- whichever is the lower. Condition 2: each cell transmits as often as its load says.
 pub record DefinitionOne (s : Site) (t : List ℕ) : Type 0 where
   pub condition-one : (a c k : ℕ) → a < s .cells → c < s .cells → k < positions s → clashOf s a c ≡ true
       → reserved (positions s) t a k ≡ true → reserved (positions s) t c k ≡ true → ⊥
   pub condition-two : (i : ℕ) → i < s .cells → count (reserved (positions s) t i) (positions s) ≡ loadAt s i
 
--- "two accepted sites with the same cells, the second with at least as many channel-slots in all, no greater load in any cell, no clash the first lacks"
+-- two accepted sites with the same cells, the second with at least as many channel-slots in all, no greater load in any cell, no clash the first lacks
 pub record Easier (second first : Site) : Type 0 where
   pub same-cells : second .cells ≡ first .cells
   pub as-many-channel-slots : positions first ≤ positions second
@@ -51,6 +51,6 @@ ChainedSite s =
 abbrev pub ClaimOne : Site → Type 0
 ClaimOne s = (i : ℕ) → i < s .cells → 0 < loadAt s i → loadAt s i + sum (λ j. pick (clashOf s j i) (loadAt s j) 0) i ≤ positions s
 
--- "the paper's greedy schedule" (000, Figure 1) of a site: a table, or the cell that finds no room. Its lines stand in theory/specs/Figure.antt.
+-- the paper's greedy schedule (000, Figure 1) of a site: a table, or the cell that finds no room. Its lines stand in theory/specs/Figure.antt.
 abbrev pub greedySchedule : Site → Outcome
 greedySchedule s = figureOne (netOf s) (s .slots) (s .channels)

@@ -124,21 +124,22 @@ mendCall s table room =
 abbrev pub allIdle : Site → List ℕ
 allIdle s = replicate (size s) 0 ++ 9 ∷ []
 
-pub record Line : Type 0 where
+pub record DeskLine : Type 0 where
   pub asked : Reply
   pub said : Reply
 
 infix 70 _⇒_
-abbrev pub _⇒_ : Reply → Reply → Line
+abbrev pub _⇒_ : Reply → Reply → DeskLine
 a ⇒ b = record { asked = a; said = b }
 
-abbrev pub deskTable : List Line
+abbrev pub deskTable : List DeskLine
 deskTable =
     -- P1: rows 111110, 222221, 111102; chain yes, load holds
     planCall P1 ⇒ leaves done (1 ∷ 1 ∷ 1 ∷ 1 ∷ 1 ∷ 0 ∷ 2 ∷ 2 ∷ 2 ∷ 2 ∷ 2 ∷ 1 ∷ 1 ∷ 1 ∷ 1 ∷ 1 ∷ 0 ∷ 2 ∷ 9 ∷ [])
     ∷ chainCall P1 ⇒ gives done
     ∷ loadCall P1 ⇒ gives done
-    -- W2, P1 with a fourth cell, load 0, clashing with cell 1 alone: chained, as P1 is; the spare cell's row is marked all the same. Before W2: not chained 1 3 4
+    -- W2, P1 with a fourth cell, load 0, clashing with cell 1 alone: chained, as P1 is; the spare cell's row is marked all the same. Before W2:
+    -- not chained 1 3 4
     ∷ planCall P1spare ⇒ leaves done (1 ∷ 1 ∷ 1 ∷ 1 ∷ 1 ∷ 0 ∷ 2 ∷ 2 ∷ 2 ∷ 2 ∷ 2 ∷ 1 ∷ 1 ∷ 1 ∷ 1 ∷ 1 ∷ 0 ∷ 2 ∷ 2 ∷ 2 ∷ 2 ∷ 2 ∷ 2 ∷ 0 ∷ 9 ∷ [])
     ∷ chainCall P1spare ⇒ gives done
     ∷ loadCall P1spare ⇒ gives done
@@ -176,7 +177,8 @@ deskTable =
     ∷ planCall (alone 0) ⇒ leaves done (0 ∷ 9 ∷ [])
     ∷ planCall (alone 1) ⇒ leaves done (1 ∷ 9 ∷ [])
     ∷ planCall (alone 2) ⇒ leaves (refused 5 (1 ∷ 1 ∷ [])) (allIdle (alone 2))
-    -- how many channel-slots do: P1 has 6 and needs them all, its spare cell asks nothing; P2 needs 7; 3 are enough for P3, which is not chained, and it is planned with 2
+    -- how many channel-slots do: P1 has 6 and needs them all, its spare cell asks nothing; P2 needs 7;
+    -- 3 are enough for P3, which is not chained, and it is planned with 2
     ∷ leastCall P1 ⇒ gives (doneWith (6 ∷ 0 ∷ []))
     ∷ leastCall P1spare ⇒ gives (doneWith (6 ∷ 0 ∷ []))
     ∷ leastCall P2 ⇒ gives (doneWith (7 ∷ 0 ∷ []))

@@ -1,5 +1,5 @@
--- Demand 1, what lent memory holds after a call, by the number that the call gives back. "The planner's no-room refusal leaves the site's part of the lent table idle;
--- every other refusal leaves lent memory untouched." "Table bytes past IN and output bytes past the file are never written."
+-- Demand 1, what lent memory holds after a call, by the number that the call gives back. "The planner's refusal 5 leaves the first
+-- IN bytes 0; no other refusal writes. Table bytes past IN and output bytes past the file are never written."
 -- W6, of words: "5 leaves N words of 0; words past N are never written."
 use mathlib.Core.Path.{_≡_}
 use mathlib.Core.List.{List, [], _∷_, _++_}

@@ -13,7 +13,7 @@ use Rattle.judges.specs.declared.LoadAnswer.the-variants as load
 use Rattle.judges.specs.declared.ChainAnswer.{ChainAnswer}
 use Rattle.judges.specs.declared.ChainAnswer.the-variants as chain
 
--- the number of a cell then: "the cells after it move up by one"
+-- the number of a cell then: the cells after it move up by one
 unfoldable pub moved : ℕ → ℕ → ℕ
 moved p cell = pick (leb cell p) cell (cell + 1)
 

@@ -18,11 +18,10 @@ use Rattle.planner.specs.declared.PlanAnswer.{PlanAnswer}
 use Rattle.checker.specs.Given.{checkGiven}
 use Rattle.checker.specs.declared.CheckAnswer.{CheckAnswer}
 use Rattle.records.specs.Bytes.{Bytes}
-use Rattle.records.specs.Given.{readGiven}
-use Rattle.sitefile.specs.Held.{Held}
-use Rattle.sitefile.specs.Given.{siteWrittenGiven}
+use Rattle.records.specs.Given.{readGiven, writtenGiven}
+use Rattle.records.specs.declared.Written.{Written}
+use Rattle.site.specs.Held.{Held}
 use Rattle.sitefile.specs.declared.SiteRead.{SiteRead}
-use Rattle.sitefile.specs.declared.SiteWritten.{SiteWritten}
 use Rattle.planfile.specs.Given.{planWrittenGiven}
 use Rattle.planfile.specs.declared.PlanRead.{PlanRead}
 use Rattle.planfile.specs.declared.PlanWritten.{PlanWritten}
@@ -37,36 +36,36 @@ use Rattle.promises.specs.Demands.{Accepted, LongEnough, DefinitionOne, 
 use Rattle.promises.specs.Untouched.{IdleIfNoRoom, Untouched, UntouchedInC}
 
 -- That every function ends, and stays within what it is lent, is the prover's own. That no call of the product asks anything of its caller (a `requires`) is
--- held by tools/surface --check. "A refusal carries its number and place": that is the type of its answer; when it is which, docs/PROMISES.md maps.
+-- held by tools/surface --check. A refusal carries its number and place: that is the type of its answer; when it is which, docs/PROMISES.md maps.
 pub record DemandOne : Type 0 where
-  -- "Every call answers, for any file, record or table, with nothing checked beforehand by the caller": one answer and memory meet its contract, and no other
+  -- Every call answers, for any file, record or table, with nothing checked beforehand by the caller: one answer and memory meet its contract, and no other
   pub every-call-answers : EveryCall
-  -- "The planner's no-room refusal leaves the site's part of the lent table idle"
+  -- The planner's no-room refusal leaves the site's part of the lent table idle
   pub no-room-idle : IdleIfNoRoom
-  -- "every other refusal leaves lent memory untouched"
+  -- every other refusal leaves lent memory untouched
   pub others-untouched : Untouched
   pub others-untouched-in-c : UntouchedInC
 
 pub record DemandTwo : Type 0 where
-  -- "The plan equals the paper's greedy schedule, mark for mark": number, table, and the bytes past the site's part as they were
+  -- The plan equals the paper's greedy schedule, mark for mark: number, table, and the bytes past the site's part as they were
   pub plan-is-figure-one : (site : Site) → Accepted site
       → (lent left : List ℕ) (answer : PlanAnswer) → LongEnough site lent → Plan site lent answer left
       → (planGiven answer ≡ runGiven (greedySchedule site)) × (left ≡ tableOf (size site) (greedySchedule site) ++ drop (size site) lent)
-  -- "The checker says yes exactly to the paper's valid schedules."
+  -- The checker says yes exactly to the paper's valid schedules.
   pub yes-is-valid : (site : Site) (table : List ℕ) (answer : CheckAnswer) → Check site table answer
       → checkGiven answer ≡ done ↔ ((Accepted site) × (LongEnough site table) × (DefinitionOne site table))
-  -- "The load test is the paper's."
+  -- The load test is the paper's.
   pub load-test-is-claim-one : (site : Site) (answer : LoadAnswer) → LoadTest site answer
       → loadGiven answer ≡ done ↔ ((Accepted site) × (ClaimOne site))
-  -- "A site written and read back is the same site": `Held` is what the types of the code give of a record
+  -- A site written and read back is the same site: `Held` is what the types of the code give of a record
   pub written-then-read : (site : Site) → Held site
-      → (out out′ : List ℕ) (wrote : SiteWritten) → WriteSite site out wrote out′ → (n : ℕ) → siteWrittenGiven wrote ≡ doneWith (n ∷ [])
+      → (out out′ : List ℕ) (wrote : Written) → WriteSite site out wrote out′ → (n : ℕ) → writtenGiven wrote ≡ doneWith (n ∷ [])
       → (read : SiteRead) → ReadSite (take n out′) read → (readGiven (read .answer) ≡ done) × (read .site ≡ site)
-  -- "an accepted file written again is the same bytes": a site file
+  -- an accepted file written again is the same bytes: a site file
   pub read-then-written : (file : List ℕ) → Bytes file
       → (read : SiteRead) → ReadSite file read → readGiven (read .answer) ≡ done
-      → (out out′ : List ℕ) (wrote : SiteWritten) → length file ≤ length out → WriteSite (read .site) out wrote out′
-      → (siteWrittenGiven wrote ≡ doneWith (length file ∷ [])) × (out′ ≡ file ++ drop (length file) out)
+      → (out out′ : List ℕ) (wrote : Written) → length file ≤ length out → WriteSite (read .site) out wrote out′
+      → (writtenGiven wrote ≡ doneWith (length file ∷ [])) × (out′ ≡ file ++ drop (length file) out)
   -- and a plan file, beside any site of the size that it states
   pub plan-read-then-written : (file : List ℕ) → Bytes file
       → (lent left : List ℕ) (read : PlanRead) → ReadPlan file lent read left → readGiven (read .answer) ≡ done
@@ -75,20 +74,20 @@ pub record DemandTwo : Type 0 where
       → (planWrittenGiven wrote ≡ doneWith (length file ∷ [])) × (out′ ≡ file ++ drop (length file) out)
 
 pub record DemandThree : Type 0 where
-  -- "With a long enough table: take two accepted sites with the same cells, the second with at least as many channel-slots in all, no greater load in any
-  -- cell, no clash the first lacks, and chained. If any valid plan of the first exists, however found, the planner plans the second."
+  -- With a long enough table: take two accepted sites with the same cells, the second with at least as many channel-slots in all, no greater load in any
+  -- cell, no clash the first lacks, and chained. If any valid plan of the first exists, however found, the planner plans the second.
   -- The first need not even be accepted.
   pub planned-if-any-can : (first second : Site)
       → Accepted second → Easier second first → ChainedSite second
       → (found : List ℕ) → DefinitionOne first found
       → (lent left : List ℕ) (answer : PlanAnswer) → LongEnough second lent → Plan second lent answer left
       → (planGiven answer ≡ done) × (DefinitionOne second left)
-  -- "On a chained site the load test holds exactly when the planner plans"
+  -- On a chained site the load test holds exactly when the planner plans
   pub chained-exactly : (site : Site) → ChainedSite site
       → (verdict : LoadAnswer) → LoadTest site verdict
       → (lent left : List ℕ) (answer : PlanAnswer) → LongEnough site lent → Plan site lent answer left
       → loadGiven verdict ≡ done ↔ planGiven answer ≡ done
-  -- "on any site a load test that holds means a plan"
+  -- on any site a load test that holds means a plan
   pub holds-then-planned : (site : Site) (verdict : LoadAnswer) → LoadTest site verdict → loadGiven verdict ≡ done
       → (lent left : List ℕ) (answer : PlanAnswer) → LongEnough site lent → Plan site lent answer left
       → (planGiven answer ≡ done) × (DefinitionOne site left)

@@ -12,14 +12,11 @@ use Rattle.wordtable.specs.Given.{formGiven}
 use Rattle.wordtable.specs.declared.FormAnswer.{FormAnswer}
 use Rattle.mender.specs.Given.{mendGiven}
 use Rattle.mender.specs.declared.MendAnswer.{MendAnswer}
-use Rattle.records.specs.Given.{readGiven}
-use Rattle.sitefile.specs.Given.{siteWrittenGiven}
-use Rattle.sitefile.specs.declared.SiteWritten.{SiteWritten}
+use Rattle.records.specs.Given.{readGiven, writtenGiven}
+use Rattle.records.specs.declared.Written.{Written}
 use Rattle.planfile.specs.Given.{planWrittenGiven}
 use Rattle.planfile.specs.declared.PlanRead.{PlanRead}
 use Rattle.planfile.specs.declared.PlanWritten.{PlanWritten}
-use Rattle.sheet.specs.Given.{sheetWrittenGiven}
-use Rattle.sheet.specs.declared.SheetWritten.{SheetWritten}
 use Rattle.told.specs.declared.Answer.{Answer}
 use Rattle.told.specs.declared.PlanReadC.{PlanReadC}
 use Rattle.contracts.specs.PlannerSays.{Plan}
@@ -44,14 +41,14 @@ use Rattle.contracts.specs.CapiSays.{
 abbrev pub Idle : ℕ → List ℕ → List ℕ → Type 0
 Idle n before after = after ≡ replicate n 0 ++ drop n before
 
--- a refusal: any number but 0; and one that is not the planner's, "5 planner finds no room"
+-- a refusal: any number but 0; and one that is not the planner's, 5, "planner finds no room"
 abbrev pub Refused : ℕ → Type 0
 Refused number = number ≡ 0 → ⊥
 
 abbrev pub RefusedElse : ℕ → Type 0
 RefusedElse number = (Refused number) × (number ≡ 5 → ⊥)
 
--- "The planner's no-room refusal leaves the site's part of the lent table idle"; W6: "5 leaves N words of 0"
+-- The planner's no-room refusal leaves the site's part of the lent table idle; W6: "5 leaves N words of 0"
 pub record IdleIfNoRoom : Type 0 where
   pub plan : (site : Site) (table table′ : List ℕ) (r : PlanAnswer) → Plan site table r table′ → planGiven r .number ≡ 5 → Idle (size site) table table′
   pub plan-words : (site : Site) (words words′ : List ℕ) (r : PlanAnswer) → PlanWords site words r words′
@@ -60,7 +57,7 @@ pub record IdleIfNoRoom : Type 0 where
   pub plan-words-in-c : (site : Site) (words words′ : List ℕ) (r : Answer) → DuggPlanWords site words r words′
       → r .number ≡ 5 → Idle (positions site) words words′
 
--- "every other refusal leaves lent memory untouched"
+-- every other refusal leaves lent memory untouched
 pub record Untouched : Type 0 where
   pub plan : (site : Site) (table table′ : List ℕ) (r : PlanAnswer) → Plan site table r table′ → RefusedElse (planGiven r .number) → table′ ≡ table
   pub plan-words : (site : Site) (words words′ : List ℕ) (r : PlanAnswer) → PlanWords site words r words′ → RefusedElse (planGiven r .number) → words′ ≡ words
@@ -71,11 +68,11 @@ pub record Untouched : Type 0 where
   pub mend : (site : Site) (table changes table′ changes′ : List ℕ) (r : MendAnswer) → Mend site table changes r table′ changes′
       → Refused (mendGiven r .number) → (table′ ≡ table) × (changes′ ≡ changes)
   pub mend-only : (site : Site) (table table′ : List ℕ) (r : MendAnswer) → MendOnly site table r table′ → Refused (mendGiven r .number) → table′ ≡ table
-  pub write-site : (site : Site) (out out′ : List ℕ) (r : SiteWritten) → WriteSite site out r out′ → Refused (siteWrittenGiven r .number) → out′ ≡ out
+  pub write-site : (site : Site) (out out′ : List ℕ) (r : Written) → WriteSite site out r out′ → Refused (writtenGiven r .number) → out′ ≡ out
   pub read-plan : (bytes table table′ : List ℕ) (r : PlanRead) → ReadPlan bytes table r table′ → Refused (readGiven (r .answer) .number) → table′ ≡ table
   pub write-plan : (site : Site) (table out out′ : List ℕ) (r : PlanWritten) → WritePlan site table out r out′
       → Refused (planWrittenGiven r .number) → out′ ≡ out
-  pub write-sheet : (site : Site) (out out′ : List ℕ) (r : SheetWritten) → WriteSheet site out r out′ → Refused (sheetWrittenGiven r .number) → out′ ≡ out
+  pub write-sheet : (site : Site) (out out′ : List ℕ) (r : Written) → WriteSheet site out r out′ → Refused (writtenGiven r .number) → out′ ≡ out
 
 pub record UntouchedInC : Type 0 where
   pub plan : (site : Site) (table table′ : List ℕ) (r : Answer) → DuggPlan site table r table′ → RefusedElse (r .number) → table′ ≡ table

@@ -10,7 +10,7 @@ use Rattle.site.specs.Record.{sizeOk}
 use Rattle.site.proofs.Faults.{Sizes, sizes}
 use Rattle.records.specs.Bytes.{le16}
 use Rattle.records.specs.Reasons.{reason, firstReason, recordReasons}
-use Rattle.records.specs.Head.{headSize, cellsIn, slotsIn, channelsIn, headAnswer}
+use Rattle.records.specs.Head.{headSize, cellsOfHead, slotsOfHead, channelsOfHead, headAnswer}
 use Rattle.records.specs.declared.Length.the-variants.{Exact}
 use Rattle.records.specs.declared.ReadAnswer.the-variants.{Done, Refused}
 use Rattle.records.proofs.Laws.{Opening, record-open, exact}
@@ -19,28 +19,30 @@ use Rattle.records.proofs.Reasons.{andThen, first-append, both-done, do
 pub record HeadGood (s : List ℕ) : Type 0 where
   pub opening : Opening s 0 1 (Exact 8) 4 (le16 s 0 - 2)
   pub eight : le16 s 0 ≡ 8
-  pub range : sizeOk (cellsIn s) (slotsIn s) (channelsIn s) ≡ true
+  pub range : sizeOk (cellsOfHead s) (slotsOfHead s) (channelsOfHead s) ≡ true
   pub long : headSize ≤ length s
 
 module _ (s : List ℕ) where
   -- the record, and then its contents
   parts :
       headAnswer s
-      ≡ andThen (firstReason (recordReasons s 0 1 (Exact 8))) (firstReason (reason (not (sizeOk (cellsIn s) (slotsIn s) (channelsIn s))) 1 0 ∷ []))
+      ≡ andThen (firstReason (recordReasons s 0 1 (Exact 8))) (firstReason (reason (not (sizeOk (cellsOfHead s) (slotsOfHead s) (channelsOfHead s))) 1 0 ∷ []))
   unfolding headAnswer
-  parts = first-append (recordReasons s 0 1 (Exact 8)) (reason (not (sizeOk (cellsIn s) (slotsIn s) (channelsIn s))) 1 0 ∷ [])
+  parts = first-append (recordReasons s 0 1 (Exact 8)) (reason (not (sizeOk (cellsOfHead s) (slotsOfHead s) (channelsOfHead s))) 1 0 ∷ [])
 
   pub head-stop : (n at : ℕ) → firstReason (recordReasons s 0 1 (Exact 8)) ≡ Refused n at → headAnswer s ≡ Refused n at
   head-stop n at e = parts ∙ rw e refl
 
   module _ (opens : firstReason (recordReasons s 0 1 (Exact 8)) ≡ Done) where
-    pub head-size : sizeOk (cellsIn s) (slotsIn s) (channelsIn s) ≡ false → headAnswer s ≡ Refused 1 0
+    pub head-size : sizeOk (cellsOfHead s) (slotsOfHead s) (channelsOfHead s) ≡ false → headAnswer s ≡ Refused 1 0
     unfolding firstReason
-    head-size e = parts ∙ ap (λ a. andThen a (firstReason (reason (not (sizeOk (cellsIn s) (slotsIn s) (channelsIn s))) 1 0 ∷ []))) opens ∙ rw e refl
+    head-size e =
+        parts ∙ ap (λ a. andThen a (firstReason (reason (not (sizeOk (cellsOfHead s) (slotsOfHead s) (channelsOfHead s))) 1 0 ∷ []))) opens ∙ rw e refl
 
-    pub head-done : sizeOk (cellsIn s) (slotsIn s) (channelsIn s) ≡ true → headAnswer s ≡ Done
+    pub head-done : sizeOk (cellsOfHead s) (slotsOfHead s) (channelsOfHead s) ≡ true → headAnswer s ≡ Done
     unfolding firstReason
-    head-done e = parts ∙ ap (λ a. andThen a (firstReason (reason (not (sizeOk (cellsIn s) (slotsIn s) (channelsIn s))) 1 0 ∷ []))) opens ∙ rw e refl
+    head-done e =
+        parts ∙ ap (λ a. andThen a (firstReason (reason (not (sizeOk (cellsOfHead s) (slotsOfHead s) (channelsOfHead s))) 1 0 ∷ []))) opens ∙ rw e refl
 
   pub head-read : headAnswer s ≡ Done → HeadGood s
   head-read e =
@@ -50,9 +52,9 @@ module _ (s : List ℕ) where
       record {
         opening = o;
         eight = w;
-        range = not-false _ (done-none (reason (not (sizeOk (cellsIn s) (slotsIn s) (channelsIn s))) 1 0 ∷ []) (b .1) .0);
+        range = not-false _ (done-none (reason (not (sizeOk (cellsOfHead s) (slotsOfHead s) (channelsOfHead s))) 1 0 ∷ []) (b .1) .0);
         long = omega (arith, o .«end»);
       }
 
-  pub head-sizes : headAnswer s ≡ Done → Sizes (cellsIn s) (slotsIn s) (channelsIn s)
+  pub head-sizes : headAnswer s ≡ Done → Sizes (cellsOfHead s) (slotsOfHead s) (channelsOfHead s)
   head-sizes e = sizes _ _ _ (head-read e .range)

@@ -7,16 +7,16 @@ use mathlib.Core.List.{List, [], _∷_, _++_}
 use native.Mathlib.Omega.{arith}
 use lib.ListN.{length, take, drop, length-append, length-drop, take-append-drop}
 use lib.Seq.{drop-drop, take-at, drop-at, length-take-le}
-use Rattle.records.specs.Bytes.{Bytes, le16, words}
+use Rattle.records.specs.Bytes.{Bytes, le16, twoBytesEach}
 use Rattle.records.specs.Layout.{recordOf, bodyAt, recordEnd}
 use Rattle.records.specs.Reasons.{lengthOk, firstReason, recordReasons}
-use Rattle.records.specs.Head.{headRecord, cellsIn, slotsIn, channelsIn, afterHead}
+use Rattle.records.specs.Head.{headRecord, cellsOfHead, slotsOfHead, channelsOfHead, afterHead}
 use Rattle.records.specs.declared.Length.{Length}
 use Rattle.records.specs.declared.Length.the-variants.{Exact}
 use Rattle.records.specs.declared.ReadAnswer.the-variants.{Done}
 use Rattle.records.proofs.Laws.{Opening, open-record, length-least}
 use Rattle.records.proofs.Head.{HeadGood}
-use Rattle.records.proofs.Bytes.{wordsAt, words-at, le16-drop, le16-drop-two}
+use Rattle.records.proofs.Bytes.{numbersAt, numbers-at, le16-drop, le16-drop-two}
 
 -- a record that stands at an offset
 module _ (s : List ℕ) (at kind : ℕ) (body rest : List ℕ) (here : drop at s ≡ recordOf kind body ++ rest) where
@@ -64,22 +64,22 @@ module _ (s : List ℕ) (bytes : Bytes s) (at kind : ℕ) (rule : Length) (start
   body-length = length-take-le (le16 s at - 2) (drop (at + 4) s) (simp length-drop (omega (arith, least, o .«end»)))
 
   pub record-again : recordOf kind (bodyAt s at) ++ drop (recordEnd s at) s ≡ drop at s
-  unfolding wordsAt
+  unfolding numbersAt
   record-again =
       let n : 2 + length (bodyAt s at) ≡ le16 s at = omega (arith, body-length, least) in
-      let w : (2 + length (bodyAt s at)) ∷ kind ∷ [] ≡ wordsAt s at 2 = cc (n, o .same) in
+      let w : (2 + length (bodyAt s at)) ∷ kind ∷ [] ≡ numbersAt s at 2 = cc (n, o .same) in
       let e : recordEnd s at ≡ at + 4 + (le16 s at - 2) = omega (arith, least) in
       ap (λ (k : ℕ). recordOf kind (bodyAt s at) ++ drop k s) e
-      ∙ ap (λ (l : List ℕ). words l ++ (bodyAt s at ++ drop (at + 4 + (le16 s at - 2)) s)) w
-      ∙ ap (λ (l : List ℕ). words (wordsAt s at 2) ++ l) (join (le16 s at - 2) (at + 4))
-      ∙ ap (λ (l : List ℕ). l ++ drop (at + 4) s) (words-at s bytes 2 at (omega (arith, o .four)))
+      ∙ ap (λ (l : List ℕ). twoBytesEach l ++ (bodyAt s at ++ drop (at + 4 + (le16 s at - 2)) s)) w
+      ∙ ap (λ (l : List ℕ). twoBytesEach (numbersAt s at 2) ++ l) (join (le16 s at - 2) (at + 4))
+      ∙ ap (λ (l : List ℕ). l ++ drop (at + 4) s) (numbers-at s bytes 2 at (omega (arith, o .four)))
       ∙ join 4 at
 
 -- a good head, written again
-pub head-again : (s : List ℕ) → Bytes s → HeadGood s → headRecord (cellsIn s) (slotsIn s) (channelsIn s) ++ drop (afterHead s) s ≡ s
-unfolding wordsAt
+pub head-again : (s : List ℕ) → Bytes s → HeadGood s → headRecord (cellsOfHead s) (slotsOfHead s) (channelsOfHead s) ++ drop (afterHead s) s ≡ s
+unfolding numbersAt
 head-again s bytes h =
     let six : le16 s 0 - 2 ≡ 6 = omega (arith, h .eight) in
-    let body : words (cellsIn s ∷ slotsIn s ∷ channelsIn s ∷ []) ≡ bodyAt s 0 =
-    words-at s bytes 3 4 (omega (arith, h .long)) ∙ ap (λ (k : ℕ). take k (drop 4 s)) (sym six) in
+    let body : twoBytesEach (cellsOfHead s ∷ slotsOfHead s ∷ channelsOfHead s ∷ []) ≡ bodyAt s 0 =
+    numbers-at s bytes 3 4 (omega (arith, h .long)) ∙ ap (λ (k : ℕ). take k (drop 4 s)) (sym six) in
     ap (λ (l : List ℕ). recordOf 1 l ++ drop (afterHead s) s) body ∙ record-again s bytes 0 1 (Exact 8) _ _ (h .opening)

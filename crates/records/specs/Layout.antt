@@ -2,11 +2,11 @@
 use Prim.Native.Nat.{ℕ, _+_, _-_}
 use mathlib.Core.List.{List, [], _∷_, _++_}
 use lib.ListN.{length, take, drop}
-use Rattle.records.specs.Bytes.{le16, words}
+use Rattle.records.specs.Bytes.{le16, twoBytesEach}
 
 -- the record's bytes
 abbrev pub recordOf : ℕ → List ℕ → List ℕ
-recordOf kind body = words ((2 + length body) ∷ kind ∷ []) ++ body
+recordOf kind body = twoBytesEach ((2 + length body) ∷ kind ∷ []) ++ body
 
 -- of the record at an offset: its body, and where it ends
 abbrev pub bodyAt : List ℕ → ℕ → List ℕ

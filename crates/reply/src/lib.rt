@@ -1,5 +1,5 @@
-// How a program answers the script `duggfrask`, whose head says what stands on which descriptor: the result on standard output, words on standard error, and the status, one
-// byte, on descriptor 3. What is written is no value, so these functions have no contract but that they are safe.
+// How a program answers the script `duggfrask`, whose head says what stands on which descriptor: the result on standard output, words on standard error,
+// and the status, one byte, on descriptor 3. What is written is no value, so these functions have no contract but that they are safe.
 use inputs::Input;
 use libc::STDERR_FILENO;
 use libc::STDOUT_FILENO;
@@ -30,7 +30,7 @@ pub fn result(bytes: &[u8], end: usize) -> bool {
 }
 
 // The first bytes of a buffer, as words; whether all of them were written.
-pub fn words(text: &[u8], end: usize) -> bool {
+pub fn message(text: &[u8], end: usize) -> bool {
     put(STDERR_FILENO, text, end)
 }
 
@@ -39,19 +39,19 @@ pub fn words(text: &[u8], end: usize) -> bool {
 pub fn named(i: usize, input: &[u8], asked: Input) {
     let mut text = io::buffer();
     let n = os::arg(i, &mut text);
-    words(&text, n);
-    let end = inputs::file_words(&mut text, 0, inputs::input_of(input), asked);
-    words(&text, end);
+    message(&text, n);
+    let end = inputs::put_file(&mut text, 0, inputs::input_of(input), asked);
+    message(&text, end);
 }
 
 // Done, or yes.
-pub fn done() {
+pub fn fine() {
     put(STATUS, b"0", 1);
 }
 
-// No, or refused, and the words that say why.
+// No, or refused, and the text that says why.
 pub fn no(text: &[u8], end: usize) {
-    words(text, end);
+    message(text, end);
     put(STATUS, b"1", 1);
 }
 
@@ -60,11 +60,11 @@ pub fn unwritten() {
     no(b"duggfrask: the result could not be written\n", 43);
 }
 
-// Done, or yes, with a result and no words.
+// Done, or yes, with a result and no text.
 pub fn yes(bytes: &[u8], size: usize) {
     if !result(bytes, size) {
         unwritten();
         return;
     }
-    done();
+    fine();
 }

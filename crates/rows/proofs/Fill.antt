@@ -1,6 +1,6 @@
 -- A position of a row that is filled: its byte is raised by 1 where it is idle and by 0 where it is not, and so is what is taken from the load. What the row
--- will be, and what will be left over, does not change (`fill-turn`, `unmet-turn`). A stretch in which every idle position is reserved goes the same way, a byte
--- at a time (`done-more`). Assumes nothing.
+-- will be, and what will be left over, does not change (`fill-turn`, `unmet-turn`). A stretch in which every idle position is reserved goes the same way,
+-- a byte at a time (`done-more`). Assumes nothing.
 use mathlib.Core.Path.{_≡_, refl, sym}
 use mathlib.Core.Bool.{Bool, true, false}
 use mathlib.Core.List.{List, _++_}

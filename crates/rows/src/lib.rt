@@ -52,7 +52,8 @@ struct Front {
 fn fill_front(row: &mut [u8], slots: usize, channels: usize, load: usize) -> Front
     requires { ⌜ (channels ≤ 16) × (length (now row) ≡ slots * channels) ⌝ }
     ensures within { λ r. ⌜ r .slots ≤ slots ⌝ }
-    ensures filled { λ r. ⌜ now (row .exit) ≡ fill unblocked 0 load (take (r .slots * channels) (now (row .entry))) ++ drop (r .slots * channels) (now (row .entry)) ⌝ }
+    ensures filled { λ r. ⌜ now (row .exit) ≡ fill unblocked 0 load (take (r .slots * channels) (now (row .entry)))
+        ++ drop (r .slots * channels) (now (row .entry)) ⌝ }
     ensures left { λ r. ⌜ r .left ≡ unmet unblocked 0 load (take (r .slots * channels) (now (row .entry))) ⌝ }
 {
     let size = 8 * channels;
@@ -77,8 +78,8 @@ fn fill_front(row: &mut [u8], slots: usize, channels: usize, load: usize) -> Fro
 }
 
 // Reserves the first `load` idle positions of a row, and answers how many fragments found no place.
-// The first slots go eight at a time, so that at most eight are looked at here. Each byte is raised by what it takes, 1 or 0, and so is stored without a branch: in a
-// row of mixed bytes a branch would often be guessed wrong.
+// The first slots go eight at a time, so that at most eight are looked at here. Each byte is raised by what it takes, 1 or 0,
+// and so is stored without a branch: in a row of mixed bytes a branch would often be guessed wrong.
 pub fn fill_row(row: &mut [u8], slots: usize, channels: usize, load: usize) -> usize
     requires { ⌜ (channels ≤ 16) × (length (now row) ≡ slots * channels) ⌝ }
     ensures filled { λ _. ⌜ now (row .exit) ≡ fill unblocked 0 load (now (row .entry)) ⌝ }
@@ -118,7 +119,8 @@ fn mark(earlier: u8, byte: u8) -> u8
 pub fn forbid_row(table: &mut [u8], n: usize, j: usize, i: usize)
     requires { ⌜ j < i ⌝ }
     requires { ⌜ i * n + n ≤ length (now table) ⌝ }
-    ensures { λ _. ⌜ now (table .exit) ≡ put (i * n) n (forbid (part (j * n) n (now (table .entry))) (part (i * n) n (now (table .entry)))) (now (table .entry)) ⌝ }
+    ensures { λ _. ⌜ now (table .exit) ≡ put (i * n) n (forbid (part (j * n) n (now (table .entry))) (part (i * n) n (now (table .entry))))
+        (now (table .entry)) ⌝ }
 {
     let from = j * n;
     let to = i * n;

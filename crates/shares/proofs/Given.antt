@@ -1,4 +1,5 @@
--- The numbers and values given back tell a share's answers apart: two answers that give the same are one. By cases; two cases have two numbers. Assumes nothing.
+-- The numbers and values given back tell a share's answers apart: two answers that give the same are one. By cases; two cases have two numbers.
+-- Assumes nothing.
 use mathlib.Core.Path.{_≡_, refl, ap}
 use mathlib.Core.List.{[], _∷_, map}
 use native.Mathlib.Omega.{arith}
@@ -11,7 +12,8 @@ use Rattle.shares.specs.declared.ShareAnswer.the-variants.{Done, OutOfRa
 
 -- the number of each case, and its values after it
 pub numbers : (s q : Fragments) (d : Slots)
-    → map (λ a. asList (shareGiven a)) (Done s q d ∷ OutOfRange ∷ BadFlow ∷ BigShare ∷ []) ≡ (0 ∷ s .0 ∷ q .0 ∷ d .0 ∷ []) ∷ (1 ∷ []) ∷ (15 ∷ []) ∷ (16 ∷ []) ∷ []
+    → map (λ a. asList (shareGiven a)) (Done s q d ∷ OutOfRange ∷ BadFlow ∷ BigShare ∷ [])
+    ≡ (0 ∷ s .0 ∷ q .0 ∷ d .0 ∷ []) ∷ (1 ∷ []) ∷ (15 ∷ []) ∷ (16 ∷ []) ∷ []
 numbers s q d = refl
 
 -- two cases with two numbers

@@ -1,10 +1,11 @@
--- Rounding up is exact, the delay bound is never above T + p, and what a fair flow's answer is. Rounding up is the least number of b's that make a: enough of them by the
--- division's remainder, and no more since one less is below a. Assumes nothing.
+-- Rounding up is exact, the delay bound is never above T + p, and what a fair flow's answer is. Rounding up is the least number of b's that make a:
+-- enough of them by the division's remainder, and no more since one less is below a. Assumes nothing.
 use Prim.Native.Nat.{ℕ, zero, suc, _+_, _*_, _/_, _%_, _≤_, _<_}
 use mathlib.Core.Bool.{Bool, true, false}
 use mathlib.Core.Logic.{⊎-elim}
 use mathlib.Core.Path.{_≡_, refl}
-use native.Mathlib.Nat.{div-add-mod', div-lt-iff-lt-mul, lt-div-mul-add, mul-comm, mul-le-mul, mul-mod-left, add-mul, zero-mul, one-mul, eq-or-lt-of-le, le-refl}
+use native.Mathlib.Nat.{div-add-mod', div-lt-iff-lt-mul, lt-div-mul-add, mul-comm, mul-le-mul}
+use native.Mathlib.Nat.{mul-mod-left, add-mul, zero-mul, one-mul, eq-or-lt-of-le, le-refl}
 use lib.Dec.{leb, eqb}
 use borrow.Author.Tests.{le-leb, eqb-true, eqb-false}
 use native.Mathlib.Omega.{arith}
@@ -98,4 +99,5 @@ module _ (t c p k : ℕ) (f : Fair t c p k) where
 
   pub fair-done : (s q : Fragments) (d : Slots) → shareNeeded t c p k ≤ 65535 → s .0 ≡ shareNeeded t c p k → q .0 ≡ queueBound t c p
       → d .0 ≡ delayBound t c p → Done s q d ≡ shareOf t c p k
-  fair-done s q d h es eq ed = rw (fair-share, le-leb (shareNeeded t c p k) 65535 h) (λ i. Done (record { 0 = es i }) (record { 0 = eq i }) (record { 0 = ed i }))
+  fair-done s q d h es eq ed = rw (fair-share, le-leb (shareNeeded t c p k) 65535 h)
+      (λ i. Done (record { 0 = es i }) (record { 0 = eq i }) (record { 0 = ed i }))

@@ -46,8 +46,11 @@ module _ (t c p k : ℕ) where
       BadFlow)
       OutOfRange)
   means-at false v w e h g = λ i. true≢false (sym (up-to-is 128 t i) ∙ e)
-  means-at true false w e h g =
-      (up-to _ _ e, λ i. true≢false (sym (both-is (upTo 65535 c) _ (up-to-is _ _ (i .0)) (both-is (upTo 65535 p) (upTo 4 k) (up-to-is _ _ (i .1 .0)) (up-to-is _ _ (i .1 .1)))) ∙ h))
+  means-at true false w e h g = (
+    up-to _ _ e,
+    λ i. true≢false (sym (both-is (upTo 65535 c) _ (up-to-is _ _ (i .0))
+        (both-is (upTo 65535 p) (upTo 4 k) (up-to-is _ _ (i .1 .0)) (up-to-is _ _ (i .1 .1)))) ∙ h),
+  )
   means-at true true true e h g = let f = fair e h in (f, bounds f (leb-true _ _ g))
   means-at true true false e h g = let f = fair e h in (f, big f (leb-false _ _ g))
 

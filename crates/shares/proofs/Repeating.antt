@@ -1,4 +1,5 @@
--- What repeats change and what they do not: sent once all is as before, k times makes the share k times as large, and the queue and delay bounds stay. By the parts of an answer that is done. Assumes nothing.
+-- What repeats change and what they do not: sent once all is as before, k times makes the share k times as large, and the queue and delay bounds stay.
+-- By the parts of an answer that is done. Assumes nothing.
 use Prim.Native.Nat.{ℕ, _+_, _*_, _≤_}
 use mathlib.Core.Bool.{Bool, true, false, _&&_}
 use mathlib.Core.Path.{_≡_, refl, sym, _∙_}
@@ -36,7 +37,8 @@ module _ (t c p k : ℕ) (s q : Fragments) (d : Slots) (e : shareOf t c p k ≡ 
   pub done-means : Fair t c p k × Bounds t c p k (s .0) (q .0) (d .0)
   done-means = rw e at (share-means t c p k)
 
-  parts-at : (b : Bool) → pick b (Done (record { 0 = shareNeeded t c p k }) (record { 0 = queueBound t c p }) (record { 0 = delayBound t c p })) BigShare ≡ Done s q d
+  parts-at : (b : Bool) → pick b (Done (record { 0 = shareNeeded t c p k }) (record { 0 = queueBound t c p }) (record { 0 = delayBound t c p })) BigShare
+      ≡ Done s q d
       → (s .0 ≡ shareNeeded t c p k) × ((q .0 ≡ queueBound t c p) × (d .0 ≡ delayBound t c p))
   parts-at true h = (cc, (cc, cc))
   parts-at false h = (cc, (cc, cc))

@@ -5,7 +5,7 @@ use Rattle.site.specs.Means.{UpTo}
 use Rattle.shares.specs.declared.ShareAnswer.{ShareAnswer}
 use Rattle.shares.specs.declared.ShareAnswer.the-variants.{Done, OutOfRange, BadFlow, BigShare}
 
--- T "1 to 128"; burst and period "each 1 to 65,535"; W4: "k from 1 to 4"
+-- T 1 to 128; burst and period "each 1 to 65,535"; W4: "k from 1 to 4"
 pub record Fair (t c p k : ℕ) : Type 0 where
   pub slots : UpTo 128 t
   pub burst : UpTo 65535 c

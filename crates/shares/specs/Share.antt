@@ -35,7 +35,7 @@ queueBound t c p = c + shareOnce t c p
 abbrev pub delayBound : ℕ → ℕ → ℕ → ℕ
 delayBound t c p = t + roundedUp (c * t) (shareOnce t c p)
 
--- "slots T 1 to 128"; "Burst c in fragments, period p in slots, each 1 to 65,535"; "share above 65,535". "Share: 1 (T out of range), 15, 16."
+-- T 1 to 128; "Burst c in fragments, period p in slots, each 1 to 65,535"; "share above 65,535". "Share: 1 (T out of range), 15, 16."
 -- 15 is "burst or period is 0"; it is given for one above 65,535 too, for which the document has no other number.
 -- W4: "15 also when k is outside 1 to 4; 16 is tested on the new share."
 unfoldable pub shareOf : ℕ → ℕ → ℕ → ℕ → ShareAnswer

@@ -1,4 +1,5 @@
-// The share of a flow (000, inequality 5), with repeats, and the bounds on its queue and its delay. Slots, fragments and repeats are three units: no function here adds one to another.
+// The share of a flow (000, inequality 5), with repeats, and the bounds on its queue and its delay. Slots, fragments and repeats are three units:
+// no function here adds one to another.
 use site::within;
 ghost use mathlib.Core.Path.{_≡_};
 ghost use Prim.Native.Nat.{_+_, _*_, _≤_, _<_};

@@ -25,14 +25,14 @@ use Rattle.site.specs.declared.Site.{Site}
 use Rattle.site.specs.declared.Fault.{Fault}
 use Rattle.site.specs.declared.Fault.the-variants.{Fine, Size, Load, Reach}
 use Rattle.site.proofs.Faults.{up-to, up-to-is}
-use Rattle.lines.specs.Format.{crlf, header, marks, label, cellLine, bitsOf}
-use Rattle.lines.specs.Content.{cellsIn, loadIn, rowIn, lineIn, lineOk, headOk}
+use Rattle.lines.specs.Format.{crlf, header, marks, label, cellLine, bitsOf, lineNumber}
+use Rattle.lines.specs.Content.{cellsOfLine, loadOfLine, rowOfLine, lineIn, lineOk, headOk}
 use Rattle.text.specs.Decimal.{decimal}
 use Rattle.lines.proofs.Lines.{ok-written, line-there, line-content, marks-at}
 use Rattle.lines.proofs.Heads.{head-written, head-is, cells-few}
 use Rattle.sheet.specs.Sheet.{lineOf, linesFrom, sheetBytes}
-use Rattle.sheet.specs.Read.{from, badCell, body, siteIn, judged, badAt, lineNumber, cellsRead, readSheet}
-use Rattle.sheet.specs.Means.{FitsSheet, FirstBad, no-first-line, no-cell-line, one-too-many, SheetOf, ownMark, sheetFault, MarksItself, markPlace}
+use Rattle.sheet.specs.Read.{from, badCell, body, siteOfSheet, judged, badSheet, cellsRead, readSheet}
+use Rattle.sheet.specs.Means.{FitsSheet, FirstBadOfSheet, no-first-line, no-cell-line, one-too-many, SheetOf, ownMark, sheetFault, MarksItself, markPlace}
 use Rattle.sheet.specs.declared.SheetRead.{SheetRead}
 use Rattle.sheet.specs.declared.SheetAnswer.the-variants.{Done, BadLine}
 use Rattle.sheet.proofs.Trip.{bits-two, bad-after, extra-after, sheet-judged, made, lines-made, fits-made}
@@ -67,7 +67,7 @@ zeros-at s (Reach k) q n = rw q
 -- ---- any bytes: the first bad line is told, or the record is judged
 
 data Came (b : List ℕ) (slots channels : ℕ) : Type 0 where
-  told : (l : ℕ) → FirstBad b l → readSheet b slots channels ≡ badAt l → Came b slots channels
+  told : (l : ℕ) → FirstBadOfSheet b l → readSheet b slots channels ≡ badSheet l → Came b slots channels
   was : (s : Site) → SheetOf b slots channels s → readSheet b slots channels ≡ judged s → Came b slots channels
 
 no-length : (l : List ℕ) → length l ≤ 0 → l ≡ []
@@ -84,7 +84,7 @@ line-ok n k load row r some few = ok-written n k load (bitsOf row) r (omega arit
 
 module _ (b : List ℕ) (slots channels : ℕ) where
   abbrev n : ℕ
-  n = cellsIn b
+  n = cellsOfLine b
 
   abbrev r : List ℕ
   r = body b
@@ -134,7 +134,7 @@ module _ (b : List ℕ) (slots channels : ℕ) where
           (rw (h, le-ltb (badCell n r) n all, lt-ltb 0 (length (from n r n)) some))
 
       whole : length (from n r n) ≤ 0 → Came b slots channels
-      unfolding readSheet cellsRead sheetBytes siteIn
+      unfolding readSheet cellsRead sheetBytes siteOfSheet
       whole none =
           let e = parts n (omega arith) all ∙ ap (λ (x : List ℕ). header n ++ (linesFrom (made n r slots channels n) 0 n ++ x)) (no-length _ none) in
           was (made n r slots channels n)
@@ -164,28 +164,29 @@ module _ (b : List ℕ) (slots channels : ℕ) where
   -- ---- 17
 
   -- "17, sheet malformed, with its first bad line (from 1; missing and extra lines count)": with that line, and only then
-  pub bad-first : (l : ℕ) → readSheet b slots channels .answer ≡ BadLine l → FirstBad b l
-  unfolding badAt
+  pub bad-first : (l : ℕ) → readSheet b slots channels .answer ≡ BadLine l → FirstBadOfSheet b l
+  unfolding badSheet
   bad-first l e = go came
     where
-      go : Came b slots channels → FirstBad b l
+      go : Came b slots channels → FirstBadOfSheet b l
       go (told m f q) =
           let is : BadLine m ≡ BadLine l = sym (ap (λ (x : SheetRead). x .answer) q) ∙ e in
           let same : m ≡ l = cc in
           rw (← same) f
       go (was s w q) = absurd (judged-no-line s l (sym (ap (λ (x : SheetRead). x .answer) q) ∙ e))
 
-  pub first-told : (l : ℕ) → FirstBad b l → readSheet b slots channels .answer ≡ BadLine l
-  unfolding readSheet badAt sheetBytes
+  pub first-told : (l : ℕ) → FirstBadOfSheet b l → readSheet b slots channels .answer ≡ BadLine l
+  unfolding readSheet badSheet sheetBytes
   first-told l (no-first-line e none) =
-      let h : headOk b ≡ false = refute _ (λ t. none (cellsIn b) _ (head-is b t .0, cells-few b) (head-is b t .1)) in
+      let h : headOk b ≡ false = refute _ (λ t. none (cellsOfLine b) _ (head-is b t .0, cells-few b) (head-is b t .1)) in
       rw (h, e)
   first-told l (no-cell-line s k rest e fits low is none) =
       ap (λ (x : SheetRead). x .answer)
       (ap (λ (x : List ℕ). readSheet x slots channels) is
       ∙ bad-after s fits k rest slots channels low
       (refute _ (λ t. let w = line-there (s .cells) k rest t in
-      none (loadIn k rest) (rowIn (s .cells) k rest) (drop (length (lineIn (s .cells) k rest)) rest) (w .0) (rw (line-content (s .cells) k rest) (w .1)))))
+      none (loadOfLine k rest) (rowOfLine (s .cells) k rest) (drop (length (lineIn (s .cells) k rest)) rest) (w .0)
+      (rw (line-content (s .cells) k rest) (w .1)))))
       ∙ ap BadLine (sym e)
   first-told l (one-too-many s x rest e fits is) =
       ap (λ (y : SheetRead). y .answer)
@@ -194,7 +195,7 @@ module _ (b : List ℕ) (slots channels : ℕ) where
       ∙ ap BadLine (sym e)
 
   -- where no line is bad, the bytes are the sheet of a record
-  pub no-bad-line : ((l : ℕ) → FirstBad b l → ⊥) → (s : Site) × SheetOf b slots channels s
+  pub no-bad-line : ((l : ℕ) → FirstBadOfSheet b l → ⊥) → (s : Site) × SheetOf b slots channels s
   no-bad-line none = go came
     where
       go : Came b slots channels → (s : Site) × SheetOf b slots channels s
@@ -207,7 +208,7 @@ module _ (b : List ℕ) (slots channels : ℕ) where
 
   -- "each gives a site of zeros"
   pub refused-zeros : (readSheet b slots channels .answer ≡ Done → ⊥) → readSheet b slots channels .site ≡ zeroSite
-  unfolding badAt
+  unfolding badSheet
   refused-zeros n = go came
     where
       go : Came b slots channels → readSheet b slots channels .site ≡ zeroSite
@@ -219,7 +220,7 @@ module _ (b : List ℕ) (slots channels : ℕ) where
   -- what is accepted is the sheet of the site that is read, and that has no fault
   pub accepted-is : readSheet b slots channels .answer ≡ Done
       → SheetOf b slots channels (readSheet b slots channels .site) × (faultOf (readSheet b slots channels .site) ≡ Fine)
-  unfolding badAt
+  unfolding badSheet
   accepted-is e = go came
     where
       go : Came b slots channels → SheetOf b slots channels (readSheet b slots channels .site) × (faultOf (readSheet b slots channels .site) ≡ Fine)
@@ -359,7 +360,7 @@ module _ (s : Site) where
     unfolding lineOf cellLine
     line-parts r = simp append-assoc
 
-    -- "`1` for \"reaches\" and `0` for not": the byte at the mark of b in the line of a
+    -- `1` where it reaches and `0` where not: the byte at the mark of b in the line of a
     pub marks-reach : getD (sheetBytes s) (markPlace s a b) 0 ≡ 48 + bit (reaches (s .reach) a b)
     unfolding sheetBytes markPlace bitsOf reaches
     marks-reach =

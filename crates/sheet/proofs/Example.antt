@@ -1,5 +1,5 @@
--- Sheets byte for byte, and what the reader says of some, computed. They hold the format from a second side: commas, CR LF, cells from 1, marks from left to right
--- in the line of the cell that reaches, lines counted from 1, and a mark on oneself as 3, after 1. Assumes nothing.
+-- Sheets byte for byte, and what the reader says of some, computed. They hold the format from a second side: commas, CR LF, cells from 1,
+-- marks from left to right in the line of the cell that reaches, lines counted from 1, and a mark on oneself as 3, after 1. Assumes nothing.
 use Prim.Native.Nat.{ℕ}
 use mathlib.Core.List.{List, [], _∷_, _++_}
 use mathlib.Core.Path.{_≡_, refl}
@@ -8,12 +8,12 @@ use Rattle.laws.specs.Search.{firstOf}
 use Rattle.text.specs.Decimal.{digitsOf, decimal}
 use Rattle.lines.specs.Match.{starts}
 use Rattle.lines.specs.Format.{column, columns, header, bitsOf, marks, label, cellLine}
-use Rattle.lines.specs.Content.{more, scanned, loadIn, marksIn, markAt, weigh, rowIn, lineIn, lineOk, columnsIn, cellsIn, headOk}
+use Rattle.lines.specs.Content.{more, scanned, loadOfLine, marksOfLine, markOfLine, weigh, rowOfLine, lineIn, lineOk, columnsIn, cellsOfLine, headOk}
 use Rattle.site.specs.Record.{siteOf, zeroSite, upTo, sizeOk, rowBad, extraLoad, badRow, faultOf}
 use Rattle.site.specs.declared.Site.{Site}
 use Rattle.site.specs.declared.Fault.the-variants.{Size, Reach}
 use Rattle.sheet.specs.Sheet.{lineOf, linesFrom, sheetBytes}
-use Rattle.sheet.specs.Read.{from, loadsIn, rowsIn, siteIn, badAt, judged, badCell, cellsRead, body, readSheet}
+use Rattle.sheet.specs.Read.{from, loadsOfSheet, rowsOfSheet, siteOfSheet, badSheet, judged, badCell, cellsRead, body, readSheet}
 use Rattle.sheet.specs.declared.SheetAnswer.the-variants.{Done, Refused}
 
 -- ---- written
@@ -75,12 +75,13 @@ pub sheets-read :
     ≡ record { site = p1; answer = Done }
     ∷ record { site = zeroSite; answer = Refused (Reach 2) }
     ∷ record { site = zeroSite; answer = Refused Size }
-    ∷ badAt 1
-    ∷ badAt 2
-    ∷ badAt 3
-    ∷ badAt 2
-    ∷ badAt 2
+    ∷ badSheet 1
+    ∷ badSheet 2
+    ∷ badSheet 3
+    ∷ badSheet 2
+    ∷ badSheet 2
     ∷ []
-unfolding readSheet headOk cellsIn columnsIn starts header columns column decimal digitsOf body cellsRead badCell firstOf from lineOk loadIn scanned more
-    label lineIn cellLine marksIn markAt marks rowIn weigh siteIn loadsIn rowsIn judged faultOf sizeOk upTo extraLoad badRow rowBad
+unfolding readSheet headOk cellsOfLine columnsIn starts header columns column decimal digitsOf body cellsRead badCell firstOf from lineOk
+    loadOfLine scanned more
+    label lineIn cellLine marksOfLine markOfLine marks rowOfLine weigh siteOfSheet loadsOfSheet rowsOfSheet judged faultOf sizeOk upTo extraLoad badRow rowBad
 sheets-read = refl

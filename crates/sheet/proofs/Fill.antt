@@ -8,8 +8,8 @@ use native.Mathlib.Decide.{decLt}
 use native.Mathlib.Nat.{eq-or-lt-of-le, le-of-suc-le-suc}
 use lib.ListN.{length, getD, set, replicate, length-set}
 use lib.Seq.{ext-getD, getD-set-same, getD-set-other}
-use Rattle.lines.specs.Content.{loadIn, rowIn}
-use Rattle.sheet.specs.Read.{from, loadsIn, rowsIn}
+use Rattle.lines.specs.Content.{loadOfLine, rowOfLine}
+use Rattle.sheet.specs.Read.{from, loadsOfSheet, rowsOfSheet}
 
 unfoldable pub fill : (ℕ → ℕ) → ℕ → List ℕ
 fill f zero = replicate 32 0
@@ -41,7 +41,8 @@ fill-at f (suc k) j h l =
     (eq-or-lt-of-le (le-of-suc-le-suc h))
 
 -- so a list with nothing from k on is filled by its own elements
-pub fill-is : (f : ℕ → ℕ) (k : ℕ) (l : List ℕ) → length l ≡ 32 → ((j : ℕ) → j < k → f j ≡ getD l j 0) → ((j : ℕ) → k ≤ j → j < 32 → getD l j 0 ≡ 0) → fill f k ≡ l
+pub fill-is : (f : ℕ → ℕ) (k : ℕ) (l : List ℕ) → length l ≡ 32 → ((j : ℕ) → j < k → f j ≡ getD l j 0) → ((j : ℕ) → k ≤ j → j < 32 → getD l j 0 ≡ 0)
+    → fill f k ≡ l
 fill-is f k l e same none =
     ext-getD 0 (fill f k) l (fill-long f k ∙ sym e) (λ j h. go j (omega (arith, fill-long f k)) (decLt j k))
   where
@@ -49,12 +50,12 @@ fill-is f k l e same none =
     go j h (yes m) = fill-at f k j m h ∙ same j m
     go j h (no m) = fill-past f k j (omega arith) ∙ sym (none j (omega arith) h)
 
-pub loads-fill : (n : ℕ) (r : List ℕ) (k : ℕ) → loadsIn n r k ≡ fill (λ j. loadIn j (from n r j)) k
-unfolding loadsIn fill
+pub loads-fill : (n : ℕ) (r : List ℕ) (k : ℕ) → loadsOfSheet n r k ≡ fill (λ j. loadOfLine j (from n r j)) k
+unfolding loadsOfSheet fill
 loads-fill n r zero = refl
-loads-fill n r (suc k) = ap (λ (l : List ℕ). set l k (loadIn k (from n r k))) (loads-fill n r k)
+loads-fill n r (suc k) = ap (λ (l : List ℕ). set l k (loadOfLine k (from n r k))) (loads-fill n r k)
 
-pub rows-fill : (n : ℕ) (r : List ℕ) (k : ℕ) → rowsIn n r k ≡ fill (λ j. rowIn n j (from n r j)) k
-unfolding rowsIn fill
+pub rows-fill : (n : ℕ) (r : List ℕ) (k : ℕ) → rowsOfSheet n r k ≡ fill (λ j. rowOfLine n j (from n r j)) k
+unfolding rowsOfSheet fill
 rows-fill n r zero = refl
-rows-fill n r (suc k) = ap (λ (l : List ℕ). set l k (rowIn n k (from n r k))) (rows-fill n r k)
+rows-fill n r (suc k) = ap (λ (l : List ℕ). set l k (rowOfLine n k (from n r k))) (rows-fill n r k)

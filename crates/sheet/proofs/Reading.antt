@@ -10,14 +10,15 @@ use lib.Seq.{drop-drop}
 use borrow.Author.Tests.{lt-ltb, le-ltb}
 use Rattle.laws.specs.Search.{first}
 use Rattle.laws.proofs.Search.{found, missed, ended}
+use Rattle.lines.specs.Format.{lineNumber}
 use Rattle.lines.specs.Match.{nowhere}
-use Rattle.lines.specs.Content.{loadIn, rowIn, lineIn, lineOk, lineRead, cellsIn, headRead}
+use Rattle.lines.specs.Content.{loadOfLine, rowOfLine, lineIn, lineOk, lineRead, cellsOfLine, headRead}
 use Rattle.lines.specs.declared.Line.{Line}
 use Rattle.lines.specs.declared.Head.{Head}
 use Rattle.lines.proofs.Steps.{answer-bad, answer-good}
 use Rattle.lines.proofs.Heads.{head-bad, head-good}
 use Rattle.site.specs.Record.{siteOf}
-use Rattle.sheet.specs.Read.{from, badCell, loadsIn, rowsIn, body, siteIn, judged, badAt, lineNumber, cellsRead, readSheet}
+use Rattle.sheet.specs.Read.{from, badCell, loadsOfSheet, rowsOfSheet, body, siteOfSheet, judged, badSheet, cellsRead, readSheet}
 
 -- the line of the cell at index k is not of the format
 abbrev test : ℕ → List ℕ → ℕ → Bool
@@ -27,16 +28,16 @@ pub record Reading (s r : List ℕ) (n : ℕ) (loads reach : List ℕ) (p k : �
   pub most : k ≤ n
   pub place : drop p s ≡ from n r k
   pub sought : badCell n r ≡ first (λ j. not (lineOk n j (from n r j))) k n
-  pub loads-are : loads ≡ loadsIn n r k
-  pub rows-are : reach ≡ rowsIn n r k
+  pub loads-are : loads ≡ loadsOfSheet n r k
+  pub rows-are : reach ≡ rowsOfSheet n r k
 
 pub begun : (s : List ℕ) (at n : ℕ) → Reading s (drop at s) n (replicate 32 0) (replicate 32 0) at 0
-unfolding from badCell loadsIn rowsIn
+unfolding from badCell loadsOfSheet rowsOfSheet
 begun s at n = record { most = omega arith; place = refl; sought = refl; loads-are = refl; rows-are = refl }
 
 module _ (s r : List ℕ) (n : ℕ) (loads reach : List ℕ) (p k slots channels : ℕ) (w : Reading s r n loads reach p k) (short : length s < nowhere) where
   -- a line that is not of the format
-  pub stopped : (l : Line) → l ≡ lineRead s p n k → l .next ≡ nowhere → k < n → badAt (lineNumber k) ≡ cellsRead n r slots channels
+  pub stopped : (l : Line) → l ≡ lineRead s p n k → l .next ≡ nowhere → k < n → badSheet (lineNumber k) ≡ cellsRead n r slots channels
   unfolding cellsRead
   stopped l e h m =
       let b : lineOk n k (from n r k) ≡ false = ap (lineOk n k) (sym (w .place)) ∙ answer-bad s p n k short l e h in
@@ -44,8 +45,9 @@ module _ (s r : List ℕ) (n : ℕ) (loads reach : List ℕ) (p k slots channels
       rw (← f, lt-ltb k n m)
 
   -- one that is
-  pub passed : (l : Line) → l ≡ lineRead s p n k → (l .next ≡ nowhere → ⊥) → k < n → Reading s r n (set loads k (l .load)) (set reach k (l .row)) (l .next) (k + 1)
-  unfolding from loadsIn rowsIn
+  pub passed : (l : Line) → l ≡ lineRead s p n k → (l .next ≡ nowhere → ⊥) → k < n
+      → Reading s r n (set loads k (l .load)) (set reach k (l .row)) (l .next) (k + 1)
+  unfolding from loadsOfSheet rowsOfSheet
   passed l e h m =
       let g = answer-good s p n k short l e h in
       record {
@@ -54,8 +56,8 @@ module _ (s r : List ℕ) (n : ℕ) (loads reach : List ℕ) (p k slots channels
             rw (g .1, add-one k)
             (sym (drop-drop (length (lineIn n k (drop p s))) p s) ∙ ap (λ (x : List ℕ). drop (length (lineIn n k x)) x) (w .place));
         sought = missed (test n r) k n (w .sought) m (ap not (ap (lineOk n k) (sym (w .place)) ∙ g .0));
-        loads-are = rw (g .1, add-one k) (ap₂ (λ (x : List ℕ) (y : List ℕ). set x k (loadIn k y)) (w .loads-are) (w .place));
-        rows-are = rw (g .1, add-one k) (ap₂ (λ (x : List ℕ) (y : List ℕ). set x k (rowIn n k y)) (w .rows-are) (w .place));
+        loads-are = rw (g .1, add-one k) (ap₂ (λ (x : List ℕ) (y : List ℕ). set x k (loadOfLine k y)) (w .loads-are) (w .place));
+        rows-are = rw (g .1, add-one k) (ap₂ (λ (x : List ℕ) (y : List ℕ). set x k (rowOfLine n k y)) (w .rows-are) (w .place));
       }
 
   module _ (all : n ≤ k) where
@@ -68,23 +70,23 @@ module _ (s r : List ℕ) (n : ℕ) (loads reach : List ℕ) (p k slots channels
     left : length s - p ≡ length (from n r n)
     left = sym (length-drop p s) ∙ ap length (w .place) ∙ ap (λ (i : ℕ). length (from n r i)) end
 
-    pub extra : p < length s → badAt (lineNumber n) ≡ cellsRead n r slots channels
+    pub extra : p < length s → badSheet (lineNumber n) ≡ cellsRead n r slots channels
     unfolding cellsRead
     extra h = rw (whole, le-ltb n n (omega arith), lt-ltb 0 (length (from n r n)) (omega (arith, left)))
 
     pub finished : length s ≤ p → judged (siteOf n slots channels loads reach) ≡ cellsRead n r slots channels
-    unfolding cellsRead siteIn
+    unfolding cellsRead siteOfSheet
     finished h =
         rw (whole, le-ltb n n (omega arith), le-ltb 0 (length (from n r n)) (omega (arith, left)), w .loads-are, w .rows-are, end)
 
 -- ---- the first line
 
 module _ (s : List ℕ) (slots channels : ℕ) (short : length s < nowhere) (h : Head) (e : h ≡ headRead s) where
-  pub first-bad : h .next ≡ nowhere → badAt 1 ≡ readSheet s slots channels
+  pub first-bad : h .next ≡ nowhere → badSheet 1 ≡ readSheet s slots channels
   unfolding readSheet
   first-bad n = rw (head-bad s short h e n)
 
-  pub first-good : (h .next ≡ nowhere → ⊥) → (h .cells ≡ cellsIn s) × (cellsRead (h .cells) (drop (h .next) s) slots channels ≡ readSheet s slots channels)
+  pub first-good : (h .next ≡ nowhere → ⊥) → (h .cells ≡ cellsOfLine s) × (cellsRead (h .cells) (drop (h .next) s) slots channels ≡ readSheet s slots channels)
   unfolding readSheet body
   first-good n =
       let g = head-good s short h e n in

@@ -19,13 +19,13 @@ use Rattle.site.specs.declared.Site.{Site}
 use Rattle.site.specs.declared.Fault.the-variants.{Fine}
 use Rattle.site.proofs.Accepted.{fine-sound, fine-loads, fine-rows-past, fine-rows}
 use Rattle.site.proofs.Faults.{sizes}
-use Rattle.lines.specs.Format.{header, bitsOf}
-use Rattle.lines.specs.Content.{loadIn, rowIn, marksIn, markAt, lineIn, lineOk}
+use Rattle.lines.specs.Format.{header, bitsOf, lineNumber}
+use Rattle.lines.specs.Content.{loadOfLine, rowOfLine, marksOfLine, markOfLine, lineIn, lineOk}
 use Rattle.lines.proofs.Lines.{load-written, line-written, ok-written, row-written, line-there, line-content, weigh-lt, mark-two}
 use Rattle.lines.proofs.Heads.{cells-written, head-written}
-use Rattle.sitefile.specs.Held.{Held}
+use Rattle.site.specs.Held.{Held}
 use Rattle.sheet.specs.Sheet.{lineOf, linesFrom, sheetBytes}
-use Rattle.sheet.specs.Read.{from, loadsIn, rowsIn, badCell, body, siteIn, judged, badAt, lineNumber, cellsRead, readSheet}
+use Rattle.sheet.specs.Read.{from, loadsOfSheet, rowsOfSheet, badCell, body, siteOfSheet, judged, badSheet, cellsRead, readSheet}
 use Rattle.sheet.specs.Means.{FitsSheet}
 use Rattle.sheet.specs.declared.SheetAnswer.the-variants.{Done}
 use Rattle.sheet.proofs.Fill.{fill-long, fill-past, fill-at, fill-is, loads-fill, rows-fill}
@@ -41,22 +41,22 @@ module _ (s : Site) (fits : FitsSheet s) where
   some = omega (arith, fits .cells)
 
   module _ (k : ℕ) (r : List ℕ) where
-    line-load : loadIn k (lineOf s k ++ r) ≡ loadAt s k
+    line-load : loadOfLine k (lineOf s k ++ r) ≡ loadAt s k
     unfolding lineOf
-    line-load = load-written (s .cells) k (loadAt s k) (bitsOf (rowOf s k)) r (omega (arith, fits .few k)) (bits-two (rowOf s k)) some
+    line-load = load-written (s .cells) k (loadAt s k) (bitsOf (rowOf s k)) r (omega (arith, fits .held .few k)) (bits-two (rowOf s k)) some
 
     line-same : lineIn (s .cells) k (lineOf s k ++ r) ≡ lineOf s k
     unfolding lineOf
-    line-same = line-written (s .cells) k (loadAt s k) (bitsOf (rowOf s k)) r (omega (arith, fits .few k)) (bits-two (rowOf s k)) some
+    line-same = line-written (s .cells) k (loadAt s k) (bitsOf (rowOf s k)) r (omega (arith, fits .held .few k)) (bits-two (rowOf s k)) some
 
     line-well : lineOk (s .cells) k (lineOf s k ++ r) ≡ true
     unfolding lineOf
-    line-well = ok-written (s .cells) k (loadAt s k) (bitsOf (rowOf s k)) r (omega (arith, fits .few k)) (bits-two (rowOf s k)) some (fits .few k)
+    line-well = ok-written (s .cells) k (loadAt s k) (bitsOf (rowOf s k)) r (omega (arith, fits .held .few k)) (bits-two (rowOf s k)) some (fits .held .few k)
 
-    line-row : k < s .cells → rowIn (s .cells) k (lineOf s k ++ r) ≡ rowOf s k
+    line-row : k < s .cells → rowOfLine (s .cells) k (lineOf s k ++ r) ≡ rowOf s k
     unfolding lineOf bitsOf
     line-row h =
-        row-written (s .cells) k (loadAt s k) (bitsOf (rowOf s k)) r (omega (arith, fits .few k)) (bits-two (rowOf s k)) some
+        row-written (s .cells) k (loadAt s k) (bitsOf (rowOf s k)) r (omega (arith, fits .held .few k)) (bits-two (rowOf s k)) some
         (rowOf s k) (fits .rows k h) (λ i l. refl)
 
   -- the lines of the first k cells
@@ -96,7 +96,7 @@ module _ (s : Site) (fits : FitsSheet s) where
           rw (head-written (s .cells) lines (u .0) (u .1), cells-written (s .cells) lines (u .1), drop-append-seam (header (s .cells)) lines)
 
       -- and the next line is bad
-      pub bad-after : k < s .cells → lineOk (s .cells) k rest ≡ false → readSheet (header (s .cells) ++ lines) slots channels ≡ badAt (lineNumber k)
+      pub bad-after : k < s .cells → lineOk (s .cells) k rest ≡ false → readSheet (header (s .cells) ++ lines) slots channels ≡ badSheet (lineNumber k)
       unfolding cellsRead badCell
       bad-after low bad =
           let is = first-is (λ j. not (lineOk (s .cells) j (from (s .cells) lines j))) 0 k (s .cells) (omega arith) low
@@ -115,23 +115,23 @@ module _ (s : Site) (fits : FitsSheet s) where
         (λ k l h. ap not (line-passed (s .cells) rest k h))
 
     -- and something after them
-    pub extra-after : 0 < length rest → readSheet (header (s .cells) ++ all) slots channels ≡ badAt (lineNumber (s .cells))
+    pub extra-after : 0 < length rest → readSheet (header (s .cells) ++ all) slots channels ≡ badSheet (lineNumber (s .cells))
     unfolding cellsRead
     extra-after h =
         first-passed (s .cells) rest slots channels
         ∙ rw (no-bad, le-ltb (s .cells) (s .cells) (omega arith), rest-left (s .cells) rest, lt-ltb 0 (length rest) h)
 
     -- what is read is what was written
-    site-same : siteIn (s .cells) all slots channels ≡ siteOf (s .cells) slots channels (s .loads) (s .reach)
-    unfolding siteIn
+    site-same : siteOfSheet (s .cells) all slots channels ≡ siteOf (s .cells) slots channels (s .loads) (s .reach)
+    unfolding siteOfSheet
     site-same =
         rw (
           loads-fill (s .cells) all (s .cells),
           rows-fill (s .cells) all (s .cells),
-          fill-is (λ j. loadIn j (from (s .cells) all j)) (s .cells) (s .loads) (fits .held .loads)
-              (λ j h. ap (loadIn j) (at-line (s .cells) rest j h) ∙ line-load j _) (fits .loads-past),
-          fill-is (λ j. rowIn (s .cells) j (from (s .cells) all j)) (s .cells) (s .reach) (fits .held .rows)
-              (λ j h. ap (rowIn (s .cells) j) (at-line (s .cells) rest j h) ∙ line-row j _ h) (fits .rows-past),
+          fill-is (λ j. loadOfLine j (from (s .cells) all j)) (s .cells) (s .loads) (fits .held .loads)
+              (λ j h. ap (loadOfLine j) (at-line (s .cells) rest j h) ∙ line-load j _) (fits .loads-past),
+          fill-is (λ j. rowOfLine (s .cells) j (from (s .cells) all j)) (s .cells) (s .reach) (fits .held .rows)
+              (λ j h. ap (rowOfLine (s .cells) j) (at-line (s .cells) rest j h) ∙ line-row j _ h) (fits .rows-past),
         )
 
     all-judged : rest ≡ [] → readSheet (header (s .cells) ++ all) slots channels ≡ judged (siteOf (s .cells) slots channels (s .loads) (s .reach))
@@ -148,12 +148,11 @@ module _ (s : Site) (fits : FitsSheet s) where
       ∙ all-judged [] (s .slots) (s .channels) refl
 
 -- a fine record can be held
-pub fine-fits : (s : Site) → Held s → ((k : ℕ) → loadAt s k ≤ 65535) → faultOf s ≡ Fine → FitsSheet s
-fine-fits s held few fine =
+pub fine-fits : (s : Site) → Held s → faultOf s ≡ Fine → FitsSheet s
+fine-fits s held fine =
     let r = sizes _ _ _ (fine-sound s fine .sizes) in
     record {
       held = held;
-      few = few;
       cells = (r .cells-some, r .cells-most);
       loads-past = fine-loads s fine;
       rows-past = fine-rows-past s fine;
@@ -169,18 +168,18 @@ written-then-read s fits fine = sheet-judged s fits ∙ rw fine
 
 -- the site that the first k lines make
 abbrev pub made : ℕ → List ℕ → ℕ → ℕ → ℕ → Site
-made n r slots channels k = siteOf n slots channels (loadsIn n r k) (rowsIn n r k)
+made n r slots channels k = siteOf n slots channels (loadsOfSheet n r k) (rowsOfSheet n r k)
 
 module _ (n : ℕ) (r : List ℕ) (slots channels k : ℕ) (cells : UpTo 32 n) (most : k ≤ n) (well : (j : ℕ) → j < k → lineOk n j (from n r j) ≡ true) where
   next : (j : ℕ) → j < k → from n r j ≡ lineIn n j (from n r j) ++ from n r (suc j)
   unfolding from
   next j h = line-there n j (from n r j) (well j h) .1
 
-  load-is : (j : ℕ) → j < k → loadAt (made n r slots channels k) j ≡ loadIn j (from n r j)
-  load-is j h = rw (loads-fill n r k) (fill-at (λ i. loadIn i (from n r i)) k j h (omega arith))
+  load-is : (j : ℕ) → j < k → loadAt (made n r slots channels k) j ≡ loadOfLine j (from n r j)
+  load-is j h = rw (loads-fill n r k) (fill-at (λ i. loadOfLine i (from n r i)) k j h (omega arith))
 
-  row-is : (j : ℕ) → j < k → rowOf (made n r slots channels k) j ≡ rowIn n j (from n r j)
-  row-is j h = rw (rows-fill n r k) (fill-at (λ i. rowIn n i (from n r i)) k j h (omega arith))
+  row-is : (j : ℕ) → j < k → rowOf (made n r slots channels k) j ≡ rowOfLine n j (from n r j)
+  row-is j h = rw (rows-fill n r k) (fill-at (λ i. rowOfLine n i (from n r i)) k j h (omega arith))
 
   line-is : (j : ℕ) → j < k → lineOf (made n r slots channels k) j ≡ lineIn n j (from n r j)
   unfolding lineOf
@@ -198,12 +197,12 @@ module _ (n : ℕ) (r : List ℕ) (slots channels k : ℕ) (cells : UpTo 32 n) (
 
   loads-few : (j : ℕ) → Dec (j < k) → loadAt (made n r slots channels k) j ≤ 65535
   loads-few j (yes h) = omega (arith, load-is j h, line-there n j (from n r j) (well j h) .0)
-  loads-few j (no h) = rw (loads-fill n r k, fill-past (λ i. loadIn i (from n r i)) k j (omega arith)) (omega arith)
+  loads-few j (no h) = rw (loads-fill n r k, fill-past (λ i. loadOfLine i (from n r i)) k j (omega arith)) (omega arith)
 
   rows-narrow : (j : ℕ) → Dec (j < k) → rowOf (made n r slots channels k) j < 2 ^ n
-  unfolding rowIn
-  rows-narrow j (yes h) = rw (row-is j h) (weigh-lt (markAt (marksIn j (from n r j))) (mark-two (marksIn j (from n r j))) n 0)
-  rows-narrow j (no h) = rw (rows-fill n r k, fill-past (λ i. rowIn n i (from n r i)) k j (omega arith)) (pow-pos n)
+  unfolding rowOfLine
+  rows-narrow j (yes h) = rw (row-is j h) (weigh-lt (markOfLine (marksOfLine j (from n r j))) (mark-two (marksOfLine j (from n r j))) n 0)
+  rows-narrow j (no h) = rw (rows-fill n r k, fill-past (λ i. rowOfLine n i (from n r i)) k j (omega arith)) (pow-pos n)
 
   -- and a sheet can hold it
   pub fits-made : FitsSheet (made n r slots channels k)
@@ -213,12 +212,12 @@ module _ (n : ℕ) (r : List ℕ) (slots channels k : ℕ) (cells : UpTo 32 n) (
         held =
             record {
               loads = rw (loads-fill n r k) (fill-long _ k);
+              few = λ j. loads-few j (decLt j k);
               rows = rw (rows-fill n r k) (fill-long _ k);
               bits = λ j l. omega (arith, rows-narrow j (decLt j k), wide);
             };
-        few = λ j. loads-few j (decLt j k);
         cells = cells;
-        loads-past = λ j l h. rw (loads-fill n r k) (fill-past (λ i. loadIn i (from n r i)) k j (omega arith));
-        rows-past = λ j l h. rw (rows-fill n r k) (fill-past (λ i. rowIn n i (from n r i)) k j (omega arith));
+        loads-past = λ j l h. rw (loads-fill n r k) (fill-past (λ i. loadOfLine i (from n r i)) k j (omega arith));
+        rows-past = λ j l h. rw (rows-fill n r k) (fill-past (λ i. rowOfLine n i (from n r i)) k j (omega arith));
         rows = λ j h. rows-narrow j (decLt j k);
       }

@@ -7,7 +7,6 @@ use native.Mathlib.Nat.{zero-add}
 use native.Mathlib.Numerals.{add-one}
 use lib.ListN.{length, getD, length-append}
 use lib.Seq.{sets}
-use borrow.Author.Tests.{le-leb, lt-leb}
 use Rattle.laws.proofs.Stores.{sets-append}
 use Rattle.text.specs.Decimal.{decimal}
 use Rattle.lines.specs.Format.{crlf, bitsOf, column, columns, header, label, cellLine}
@@ -16,8 +15,6 @@ use Rattle.lines.proofs.Lines.{marks-long}
 use Rattle.site.specs.Record.{siteOf, loadAt}
 use Rattle.site.specs.declared.Site.{Site}
 use Rattle.sheet.specs.Sheet.{lineOf, linesFrom, sheetBytes}
-use Rattle.sheet.specs.Write.{written}
-use Rattle.sheet.specs.declared.SheetWritten.the-variants.{Done, OutShort}
 
 -- ---- lengths
 
@@ -99,11 +96,3 @@ unfolding sheetBytes
 sheet-put s out out′ at e h =
     rw (e, h) (ap (λ (i : ℕ). sets (sets out 0 (header (s .cells))) i (linesFrom s 0 (s .cells))) (sym (zero-add _))
     ∙ sym (sets-append out 0 (header (s .cells)) (linesFrom s 0 (s .cells))))
-
-pub written-done : (bytes out : List ℕ) (need : ℕ) → need ≡ length bytes → need ≤ length out → Done need ≡ written bytes out
-unfolding written
-written-done bytes out need e h = rw (le-leb (length bytes) (length out) (omega arith), e)
-
-pub written-short : (bytes out : List ℕ) (need : ℕ) → need ≡ length bytes → length out < need → OutShort need ≡ written bytes out
-unfolding written
-written-short bytes out need e h = rw (lt-leb (length bytes) (length out) (omega arith), e)

@@ -16,28 +16,27 @@ use Rattle.site.specs.Means.{UpTo}
 use Rattle.site.specs.declared.Site.{Site}
 use Rattle.site.specs.declared.Fault.{Fault}
 use Rattle.site.specs.declared.Fault.the-variants.{Fine, Size, Reach}
-use Rattle.sitefile.specs.Held.{Held}
+use Rattle.site.specs.Held.{Held}
 use Rattle.sheet.specs.Sheet.{linesFrom, sheetBytes}
 
 -- a record that a sheet can hold, fine or not: 1 to 32 cells, and no load, row or bit beyond them. Its slots and channels may be out of range, and a cell may
--- mark itself. `held` and `few` are what the types of the code give: 32 loads of 16 bits and 32 rows of 32 bits
+-- mark itself. `held` is what the types of the code give
 pub record FitsSheet (s : Site) : Type 0 where
   pub held : Held s
-  pub few : (k : ℕ) → loadAt s k ≤ 65535
   pub cells : UpTo 32 (s .cells)
   pub loads-past : (k : ℕ) → s .cells ≤ k → k < 32 → loadAt s k ≡ 0
   pub rows-past : (k : ℕ) → s .cells ≤ k → k < 32 → rowOf s k ≡ 0
   pub rows : (k : ℕ) → k < s .cells → rowOf s k < 2 ^ s .cells
 
 -- "its first bad line (from 1; missing and extra lines count)": line l of the bytes b
-pub data FirstBad (b : List ℕ) (l : ℕ) : Type 0 where
+pub data FirstBadOfSheet (b : List ℕ) (l : ℕ) : Type 0 where
   -- b begins with no first line, of any number of cells
-  no-first-line : l ≡ 1 → ((n : ℕ) (r : List ℕ) → UpTo 32 n → b ≡ header n ++ r → ⊥) → FirstBad b l
+  no-first-line : l ≡ 1 → ((n : ℕ) (r : List ℕ) → UpTo 32 n → b ≡ header n ++ r → ⊥) → FirstBadOfSheet b l
   -- a first line and the lines of k cells stand there, as the format has them, and then no line of the next cell, whatever its load and its marks
   no-cell-line : (s : Site) (k : ℕ) (rest : List ℕ) → l ≡ k + 2 → FitsSheet s → k < s .cells → b ≡ header (s .cells) ++ (linesFrom s 0 k ++ rest)
-      → ((load row : ℕ) (r : List ℕ) → load ≤ 65535 → rest ≡ cellLine (s .cells) k load (bitsOf row) ++ r → ⊥) → FirstBad b l
+      → ((load row : ℕ) (r : List ℕ) → load ≤ 65535 → rest ≡ cellLine (s .cells) k load (bitsOf row) ++ r → ⊥) → FirstBadOfSheet b l
   -- a whole sheet stands there, and something after it
-  one-too-many : (s : Site) (x : ℕ) (rest : List ℕ) → l ≡ s .cells + 2 → FitsSheet s → b ≡ sheetBytes s ++ (x ∷ rest) → FirstBad b l
+  one-too-many : (s : Site) (x : ℕ) (rest : List ℕ) → l ≡ s .cells + 2 → FitsSheet s → b ≡ sheetBytes s ++ (x ∷ rest) → FirstBadOfSheet b l
 
 -- the bytes are the sheet of this record, and it has these slots and channels
 pub record SheetOf (b : List ℕ) (slots channels : ℕ) (s : Site) : Type 0 where

@@ -1,10 +1,12 @@
 // The range sheet of the fitters, read into a site and written from one. Slots and channels come beside it.
 use lines::Head;
 use lines::Line;
+use lines::NOWHERE;
 use lines::read_head;
 use lines::read_line;
 use putlines::put_cell;
 use putlines::put_header;
+use records::Written;
 use site::Fault;
 use site::Site;
 ghost use mathlib.Core.Path.{_≡_};
@@ -15,12 +17,10 @@ ghost use lib.Dec.{ltb};
 ghost use Rattle.laws.specs.Sum.{bit};
 ghost use Rattle.text.specs.Decimal.{decimal};
 ghost use Rattle.lines.specs.Format.{header};
-ghost use Rattle.records.specs.Write.{laidOver};
+ghost use Rattle.records.specs.Write.{written, laidOver};
 ghost use Rattle.sheet.specs.Sheet.{linesFrom, sheetBytes};
-ghost use Rattle.sheet.specs.Write.{written, sheetWritten, sheetOut};
-ghost use Rattle.sheet.specs.Read.{badAt, judged, cellsRead, readSheet};
-
-const NOWHERE: usize = 18446744073709551615;
+ghost use Rattle.sheet.specs.Write.{sheetWritten, sheetOut};
+ghost use Rattle.sheet.specs.Read.{badSheet, judged, cellsRead, readSheet};
 
 // What a sheet's reader answers: the site is read; the first bad line, from 1; or what is wrong with the record.
 pub enum SheetAnswer {
@@ -37,7 +37,7 @@ pub struct SheetRead {
 
 // A malformed sheet.
 fn bad_at(line: usize) -> SheetRead
-    ensures { λ r. ⌜ r ≡ badAt line ⌝ }
+    ensures { λ r. ⌜ r ≡ badSheet line ⌝ }
 {
     SheetRead {
         site: Site::zeros(),
@@ -105,13 +105,6 @@ pub fn read_sheet(bytes: &[u8], slots: u16, channels: u16) -> SheetRead
         return bad_at(1);
     }
     read_cells(bytes, at, n, slots, channels)
-}
-
-// What a sheet's writer answers: the bytes written, the bytes needed, or what is wrong with the record.
-pub enum SheetWritten {
-    Done(usize),
-    OutShort(usize),
-    Refused(Fault),
 }
 
 // One more, where the number is above the bound.
@@ -192,28 +185,28 @@ fn put_lines(out: &mut [u8], at: usize, s: Site)
 }
 
 // The sheet of a site whose record is in order.
-fn put_sheet(s: Site, out: &mut [u8]) -> SheetWritten
+fn put_sheet(s: Site, out: &mut [u8]) -> Written
     requires { ⌜ s .cells ≤ 32 ⌝ }
     ensures { λ r. ⌜ r ≡ written (sheetBytes s) (now (out .entry)) ⌝ }
     ensures { λ _. ⌜ now (out .exit) ≡ laidOver (sheetBytes s) (now (out .entry)) ⌝ }
 {
     let need = sheet_len(s);
     if out.len() < need {
-        return SheetWritten::OutShort(need);
+        return Written::OutShort(need);
     }
     let at = put_header(out, s.cells as usize);
     put_lines(out, at, s);
-    SheetWritten::Done(need)
+    Written::Done(need)
 }
 
 // Writes the sheet of a site: 1, 2, 3, then 13.
-pub fn write_sheet(site: Site, out: &mut [u8]) -> SheetWritten
+pub fn write_sheet(site: Site, out: &mut [u8]) -> Written
     ensures { λ r. ⌜ r ≡ sheetWritten site (now (out .entry)) ⌝ }
     ensures { λ _. ⌜ now (out .exit) ≡ sheetOut site (now (out .entry)) ⌝ }
 {
     let fault = site.fault_in();
     let Fault::Fine = fault else {
-        return SheetWritten::Refused(fault);
+        return Written::Refused(fault);
     };
     put_sheet(site, out)
 }

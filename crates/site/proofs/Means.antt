@@ -1,5 +1,6 @@
--- The definitions say what specs/Means.antt says, and nothing else: the fault or answer that a definition gives means what is the case, and the one that means what is the case
--- is the one that it gives. Each search of a definition finds the lowest, and each test of a row is the test of its bits. Assumes nothing.
+-- The definitions say what specs/Means.antt says, and nothing else: the fault or answer that a definition gives means what is the case,
+-- and the one that means what is the case is the one that it gives.
+-- Each search of a definition finds the lowest, and each test of a row is the test of its bits. Assumes nothing.
 use Prim.Native.Nat.{ℕ, zero, suc, _+_, _-_, _/_, _%_, _^_, _≤_, _<_}
 use mathlib.Core.Bool.{Bool, true, false, not, _||_, _&&_, or-true, true≢false}
 use mathlib.Core.List.{List, [], _∷_}
@@ -18,7 +19,7 @@ use Rattle.laws.proofs.Search.{first-least, first-passes, first-before, first-n
 use Rattle.laws.proofs.Bits.{bit-above, bit-past, no-bits}
 use Rattle.site.specs.Record.{zeroSite, loadAt, rowOf, upTo, sizeOk, rowBad, extraLoad, badRow, isFine, faultOf}
 use Rattle.site.specs.Reach.{reaches, clashIn, clashNamed, clashAnswer}
-use Rattle.site.specs.Edit.{orElse, loadEditFault, reachEditFault, answered, setLoadOf, setReachOf, clearReachOf}
+use Rattle.site.specs.Edit.{orElse, loadEditFault, reachEditFault, answered, setLoadOf, reachEdited, setReachOf, clearReachOf}
 use Rattle.site.specs.Means.{UpTo, Sized, LoadBeyond, RowGood, FaultMeans, Clashing, ClashMeans, EditMeans, Two}
 use Rattle.site.specs.declared.Site.{Site}
 use Rattle.site.specs.declared.Fault.{Fault}
@@ -226,7 +227,8 @@ module _ (s : Site) (a b : ℕ) where
 
 -- ---- edits
 
-edit-means : (s : Site) (Named : Type 0) (own : Fault) (t : Bool) → (Named → t ≡ true) → (t ≡ true → Named) → EditMeans s Named own (orElse (faultOf s) (pick t Fine own))
+edit-means : (s : Site) (Named : Type 0) (own : Fault) (t : Bool) → (Named → t ≡ true) → (t ≡ true → Named)
+    → EditMeans s Named own (orElse (faultOf s) (pick t Fine own))
 unfolding orElse
 edit-means s Named own t does named = record {
   faulty = λ n. rw (no-fine (faultOf s) n);
@@ -246,9 +248,9 @@ reach-means s from to =
     (λ e. let h = both _ _ e in let g = both _ _ (h .1) in (up-to _ _ (h .0), up-to _ _ (g .0), eqb-false _ _ (not-true _ (g .1))))
 
 pub set-reach-answer : (s : Site) (from to : ℕ) → EditMeans s (Two s from to) (Reach from) (setReachOf s from to .answer)
-unfolding setReachOf answered
+unfolding reachEdited answered
 set-reach-answer s from to = reach-means s from to
 
 pub clear-reach-answer : (s : Site) (from to : ℕ) → EditMeans s (Two s from to) (Reach from) (clearReachOf s from to .answer)
-unfolding clearReachOf answered
+unfolding reachEdited answered
 clear-reach-answer s from to = reach-means s from to

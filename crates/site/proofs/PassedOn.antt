@@ -1,6 +1,7 @@
--- How a call passes a record's fault on. It answers `pick (isFine f) done (refused f)`, where f is the record's fault and `done` its answer for a record with none.
--- So it refuses with the record's own fault, exactly where there is one (`passed-on`), and never answers `Refused Fine` (`proper-call`). Each call that takes a record
--- cites these two, in its own crate. Assumes nothing.
+-- How a call passes a record's fault on. It answers `pick (isFine f) done (refused f)`,
+-- where f is the record's fault and `done` its answer for a record with none.
+-- So it refuses with the record's own fault, exactly where there is one (`passed-on`), and never answers `Refused Fine` (`proper-call`).
+-- Each call that takes a record cites these two, in its own crate. Assumes nothing.
 use Prim.Native.Nat.{ℕ}
 use mathlib.Core.Bool.{Bool, true, false, not}
 use mathlib.Core.Logic.{_↔_}

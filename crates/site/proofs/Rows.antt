@@ -1,5 +1,5 @@
--- The clash rows of an accepted record state the clash relation, everywhere: within the cells a bit is the definition's, and beyond them nobody reaches and nobody is
--- reached. So whoever is lent the rows may speak of the relation. Assumes nothing.
+-- The clash rows of an accepted record state the clash relation, everywhere: within the cells a bit is the definition's,
+-- and beyond them nobody reaches and nobody is reached. So whoever is lent the rows may speak of the relation. Assumes nothing.
 use Prim.Native.Nat.{ℕ, _-_, _≤_, _<_}
 use mathlib.Core.Bool.{Bool, true, false, not, _||_, _&&_, and-false}
 use mathlib.Core.Logic.{⊎-elim}
@@ -47,7 +47,8 @@ module _ (s : Site) where
       (list-eq (λ a. wordOf (clashOf s a) n) row n (λ a l.
       sym (word-within (clashOf s a) n (32 - n))
       ∙ ap₂ wordOf (fun-ext (λ b. rw (sym e, lt-ltb a n l))) (omega arith)))
-      ∙ sets-zeros row n 32 h (λ a l m. none-word (clashWithin s a) 32 (λ b g. ap (λ t. t && (ltb b (s .cells) && clashOf s a b)) (le-ltb a (s .cells) (omega arith))))
+      ∙ sets-zeros row n 32 h (λ a l m. none-word (clashWithin s a) 32 (λ b g.
+      ap (λ t. t && (ltb b (s .cells) && clashOf s a b)) (le-ltb a (s .cells) (omega arith))))
 
   -- a record that says more than 32 cells
   long : 32 < s .cells → sets (replicate 32 0) 0 (listOf (λ a. wordOf (clashOf s a) 32) 32) ≡ clashRows s
@@ -58,7 +59,8 @@ module _ (s : Site) where
       word-eq (clashOf s a) (clashWithin s a) 32 (λ b m. rw (lt-ltb a (s .cells) (omega arith), lt-ltb b (s .cells) (omega arith)))))
       ∙ sets-zeros row 32 32 (omega arith) (λ a l m. absurd (omega arith))
 
-  made-at : (n : ℕ) (t : Bool) → ltb 32 (s .cells) ≡ t → n ≡ pick t 32 (s .cells) → sets (replicate 32 0) 0 (listOf (λ a. wordOf (clashOf s a) n) n) ≡ clashRows s
+  made-at : (n : ℕ) (t : Bool) → ltb 32 (s .cells) ≡ t → n ≡ pick t 32 (s .cells)
+      → sets (replicate 32 0) 0 (listOf (λ a. wordOf (clashOf s a) n) n) ≡ clashRows s
   made-at n true q e = rw e (long (ltb-true 32 (s .cells) q))
   made-at n false q e = let most : s .cells ≤ 32 = ltb-false 32 (s .cells) q in short n e (omega arith)
 

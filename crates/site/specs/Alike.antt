@@ -2,7 +2,7 @@
 use mathlib.Core.Path.{_≡_}
 use Rattle.site.specs.declared.Site.{Site}
 
--- "a site with the same cells, loads and reach": its slots and channels may be others
+-- a site with the same cells, loads and reach: its slots and channels may be others
 pub record Alike (other site : Site) : Type 0 where
   pub same-cells : other .cells ≡ site .cells
   pub same-loads : other .loads ≡ site .loads

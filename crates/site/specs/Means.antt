@@ -19,7 +19,7 @@ use Rattle.site.specs.declared.ClashAnswer.the-variants.{Clear, Clash, R
 abbrev pub UpTo : ℕ → ℕ → Type 0
 UpTo most x = (1 ≤ x) × (x ≤ most)
 
--- "bit b-1 of row a-1": cell a reaches cell b
+-- bit b-1 of row a-1: cell a reaches cell b
 abbrev pub Reaches : Site → ℕ → ℕ → Type 0
 Reaches s a b = getD (s .reach) (a - 1) 0 / 2 ^ (b - 1) % 2 ≡ 1
 

@@ -13,7 +13,7 @@ use Rattle.site.specs.Record.{rowBad, rowOf, faultOf}
 use Rattle.site.specs.declared.Site.{Site}
 use Rattle.site.specs.declared.Fault.the-variants.{Fine}
 use Rattle.site.proofs.Accepted.{fine-sound, sound-fine, row-ok, ok-row, row-none}
-use Rattle.sitefile.specs.Held.{Held}
+use Rattle.site.specs.Held.{Held}
 use Rattle.sitefile.proofs.PairLaws.{PairOk, pair-ok, pair-is}
 use Rattle.laws.proofs.Bits.{some-left, no-bits}
 use Rattle.site.proofs.Faults.{sizes, sizes-is}

@@ -11,6 +11,5 @@ pub mod FileTrip
 pub mod Good
 pub mod Trip
 pub mod Reasons
-pub mod Given
 pub mod PassedOn
 pub mod Zeros

@@ -1,4 +1,5 @@
--- The pairs of a kind 3 body: what a passed pair test tells; that no bit stands at or above the next place, which each mark keeps; and a turn of the reader's loop.
+-- The pairs of a kind 3 body: what a passed pair test tells; that no bit stands at or above the next place, which each mark keeps;
+-- and a turn of the reader's loop.
 -- Assumes nothing.
 use Prim.Native.Nat.{ℕ, _+_, _*_, _/_, _%_, _^_, _≤_, _<_}
 use mathlib.Core.Path.{_≡_, refl}
@@ -18,7 +19,7 @@ use Rattle.laws.specs.Choice.{pick}
 use Rattle.site.specs.Record.{upTo}
 use Rattle.site.proofs.Faults.{UpTo, up-to, up-to-is}
 use Rattle.sitefile.specs.Pairs.{pairOk, place, mark}
-use Rattle.sitefile.specs.Read.{none}
+use Rattle.sitefile.specs.Read.{allZero}
 use Rattle.sitefile.specs.Loop.{noRows}
 use Rattle.sitefile.specs.declared.PairsRead.{PairsRead}
 use Rattle.records.specs.declared.ReadAnswer.the-variants.{Done, Refused}
@@ -45,7 +46,7 @@ pair-is cells f t p = simp (up-to-is cells f (p .from), up-to-is cells t (p .to)
 abbrev pub High : ℕ → List ℕ → Type 0
 High next rows = (q : ℕ) → next ≤ q → q < 1024 → getD rows (q / 32) 0 < 2 ^ (q % 32)
 
-pub high-none : High 0 none
+pub high-none : High 0 allZero
 high-none q h l = rw (getD-replicate {A = ℕ} 32 (q / 32) 0 0 (omega arith)) (pow-pos (q % 32))
 
 pub set-lt : (k x t : ℕ) → x < 2 ^ k → t < k → setBit x t < 2 ^ k

@@ -12,9 +12,9 @@ use Rattle.laws.specs.Choice.{pick}
 use Rattle.laws.proofs.Choice.{cases, order}
 use Rattle.records.specs.Reasons.{firstReason}
 use Rattle.records.specs.declared.ReadAnswer.the-variants.{Refused}
-use Rattle.sitefile.specs.Pairs.{pairOk, place, mark, marks}
+use Rattle.sitefile.specs.Pairs.{pairOk, place, mark, markAll}
 use Rattle.sitefile.specs.Reasons.{rises, pairReasons}
-use Rattle.sitefile.specs.Read.{none}
+use Rattle.sitefile.specs.Read.{allZero}
 use Rattle.sitefile.specs.Loop.{noRows, pairsReadOf, pairsRead}
 use Rattle.sitefile.proofs.PairLaws.{PairOk, pair-ok, readPairs}
 
@@ -38,7 +38,7 @@ rises-place from to f t a b c d =
 
 pairs-from :
     (cells at : ℕ) → cells ≤ 32 → (body : List ℕ) (next from to : ℕ) (rows : List ℕ) → next ≡ from * 32 + to - 32 → to ≤ 32 →
-    readPairs cells at next rows body ≡ pairsReadOf (marks rows body) (firstReason (pairReasons cells at from to body))
+    readPairs cells at next rows body ≡ pairsReadOf (markAll rows body) (firstReason (pairReasons cells at from to body))
 unfolding readPairs pairReasons firstReason pairsReadOf
 pairs-from cells at most [] next from to rows e l = refl
 pairs-from cells at most (f ∷ []) next from to rows e l = refl
@@ -47,25 +47,28 @@ pairs-from cells at most (f ∷ t ∷ r) next from to rows e l =
   where
     go :
         (place f t + 1 ≡ f * 32 + t - 32 → t ≤ 32 →
-        readPairs cells at (place f t + 1) (mark rows (place f t)) r ≡ pairsReadOf (marks (mark rows (place f t)) r) (firstReason (pairReasons cells at f t r))) →
+        readPairs cells at (place f t + 1) (mark rows (place f t)) r
+        ≡ pairsReadOf (markAll (mark rows (place f t)) r) (firstReason (pairReasons cells at f t r))) →
         (p : Bool) → pairOk cells f t ≡ p →
         pick p (pick (leb next (place f t)) (readPairs cells at (place f t + 1) (mark rows (place f t)) r) (noRows (Refused 11 at))) (noRows (Refused 3 at))
-        ≡ pairsReadOf (marks (mark rows (place f t)) r)
+        ≡ pairsReadOf (markAll (mark rows (place f t)) r)
         (pick (not p) (Refused 3 at) (pick (not (rises from to f t)) (Refused 11 at) (firstReason (pairReasons cells at f t r))))
     go ih false g = refl
     go ih true g =
         let k : PairOk cells f t = pair-ok cells f t g in
-        let q : leb next (place f t) ≡ rises from to f t = ap (λ (n : ℕ). leb n (place f t)) e ∙ rises-place from to f t l (k .from .0) (k .to .0) (omega arith) in
+        let q : leb next (place f t) ≡ rises from to f t = ap (λ (n : ℕ). leb n (place f t)) e
+        ∙ rises-place from to f t l (k .from .0) (k .to .0) (omega arith) in
         rw q (risen (rises from to f t) (ih (omega arith) (omega arith)))
       where
         risen :
             (b : Bool) →
-            readPairs cells at (place f t + 1) (mark rows (place f t)) r ≡ pairsReadOf (marks (mark rows (place f t)) r) (firstReason (pairReasons cells at f t r)) →
+            readPairs cells at (place f t + 1) (mark rows (place f t)) r
+            ≡ pairsReadOf (markAll (mark rows (place f t)) r) (firstReason (pairReasons cells at f t r)) →
             pick b (readPairs cells at (place f t + 1) (mark rows (place f t)) r) (noRows (Refused 11 at))
-            ≡ pairsReadOf (marks (mark rows (place f t)) r) (pick (not b) (Refused 11 at) (firstReason (pairReasons cells at f t r)))
+            ≡ pairsReadOf (markAll (mark rows (place f t)) r) (pick (not b) (Refused 11 at) (firstReason (pairReasons cells at f t r)))
         risen true h = h
         risen false h = refl
 
-pub pairs-way : (cells at : ℕ) → cells ≤ 32 → (body : List ℕ) → readPairs cells at 0 none body ≡ pairsRead cells at body
+pub pairs-way : (cells at : ℕ) → cells ≤ 32 → (body : List ℕ) → readPairs cells at 0 allZero body ≡ pairsRead cells at body
 unfolding pairsRead
-pairs-way cells at most body = pairs-from cells at most body 0 0 0 none refl (omega arith)
+pairs-way cells at most body = pairs-from cells at most body 0 0 0 allZero refl (omega arith)

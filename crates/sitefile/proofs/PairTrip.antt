@@ -1,4 +1,5 @@
--- The pairs of a kind 3 body and the reach rows: reading the pairs that are written gives the rows, and writing the rows that were read gives the pairs. Assumes nothing.
+-- The pairs of a kind 3 body and the reach rows: reading the pairs that are written gives the rows, and writing the rows that were read gives the pairs.
+-- Assumes nothing.
 use Prim.Native.Nat.{ℕ, zero, suc, _+_, _-_, _/_, _%_, _≤_, _<_}
 use mathlib.Core.Path.{_≡_, refl, sym, ap, _∙_, subst}
 use mathlib.Core.Bool.{Bool, true, false}
@@ -12,7 +13,7 @@ use lib.Pow.{pow-pos}
 use borrow.Author.Tests.{eq-eqb, ne-eqb, le-leb, leb-true}
 use Rattle.laws.specs.Choice.{pick}
 use Rattle.sitefile.specs.Pairs.{pairOk, place, mark, pairOf, pairsFrom}
-use Rattle.sitefile.specs.Read.{none}
+use Rattle.sitefile.specs.Read.{allZero}
 use Rattle.sitefile.specs.Loop.{noRows}
 use Rattle.records.specs.declared.ReadAnswer.{ReadAnswer}
 use Rattle.records.specs.declared.ReadAnswer.the-variants.{Done, Refused}
@@ -63,7 +64,7 @@ bit-two : (rows : List ℕ) (q : ℕ) → digitIn rows q < 2
 unfolding digitIn
 bit-two rows q = omega arith
 
-pub no-rows : Rows none
+pub no-rows : Rows allZero
 no-rows = record { size = refl; fits = λ k l. rw (getD-replicate {A = ℕ} 32 k 0 0 l) (pow-pos 32) }
 
 module _ (cells at : ℕ) (rows : List ℕ) (whole : Rows rows) (named : Named cells rows) where
@@ -80,7 +81,8 @@ module _ (cells at : ℕ) (rows : List ℕ) (whole : Rows rows) (named : Named c
       below = omega arith
 
       go :
-          ((part′ : List ℕ) → Part rows part′ (q + 1) → (next′ : ℕ) → next′ ≤ q + 1 → readPairs cells at next′ part′ (pairsFrom rows (q + 1) n) ≡ rowsRead rows) →
+          ((part′ : List ℕ) → Part rows part′ (q + 1) → (next′ : ℕ) → next′ ≤ q + 1
+          → readPairs cells at next′ part′ (pairsFrom rows (q + 1) n) ≡ rowsRead rows) →
           Dec (digitIn rows q ≡ 1) → readPairs cells at next part (pairsFrom rows q (suc n)) ≡ rowsRead rows
       go ih (yes b) =
           let ep : place (q / 32 + 1) (q % 32 + 1) ≡ q = omega arith in
@@ -104,9 +106,9 @@ module _ (cells at : ℕ) (rows : List ℕ) (whole : Rows rows) (named : Named c
           } in
           rw (clear-bytes rows q b) (ih part s′ next (omega arith))
 
-  pub pairs-read : readPairs cells at 0 none (pairBytes rows) ≡ rowsRead rows
+  pub pairs-read : readPairs cells at 0 allZero (pairBytes rows) ≡ rowsRead rows
   unfolding pairBytes
-  pairs-read = read-from 1024 0 refl none (record { whole = no-rows; none = high-none; low = λ p l. absurd (omega arith) }) 0 (omega arith)
+  pairs-read = read-from 1024 0 refl allZero (record { whole = no-rows; none = high-none; low = λ p l. absurd (omega arith) }) 0 (omega arith)
 
 -- places with no bit have no bytes
 skip :
@@ -179,7 +181,8 @@ module _ (cells at : ℕ) (most : cells ≤ 32) (rows : List ℕ) where
       go (written-from r (omega arith)) (pairOk cells f t) (leb next (place f t)) refl refl e
     where
       go :
-          ((next′ : ℕ) (part′ : List ℕ) → next′ ≤ 1024 → High next′ part′ → Rows part′ → readPairs cells at next′ part′ r ≡ rowsRead rows → Trip cells next′ part′ rows r) →
+          ((next′ : ℕ) (part′ : List ℕ) → next′ ≤ 1024 → High next′ part′ → Rows part′ → readPairs cells at next′ part′ r ≡ rowsRead rows
+          → Trip cells next′ part′ rows r) →
           (a b : Bool) → pairOk cells f t ≡ a → leb next (place f t) ≡ b →
           pick a (pick b (readPairs cells at (place f t + 1) (mark part (place f t)) r) (noRows (Refused 11 at))) (noRows (Refused 3 at)) ≡ rowsRead rows →
           Trip cells next part rows (f ∷ t ∷ r)
@@ -202,9 +205,9 @@ module _ (cells at : ℕ) (most : cells ≤ 32) (rows : List ℕ) where
 
   -- a body of whole pairs that is read is the bytes of its rows
   pub pairs-written :
-      (body : List ℕ) → length body % 2 ≡ 0 → readPairs cells at 0 none body ≡ rowsRead rows →
+      (body : List ℕ) → length body % 2 ≡ 0 → readPairs cells at 0 allZero body ≡ rowsRead rows →
       (pairBytes rows ≡ body) × Rows rows × Named cells rows
   unfolding pairBytes Named
   pairs-written body even e =
-      let trip = written-from body even 0 none (omega arith) high-none no-rows e in
+      let trip = written-from body even 0 allZero (omega arith) high-none no-rows e in
       (trip .bytes, trip .whole, λ q l b. trip .named q (omega arith) l b)

@@ -6,13 +6,13 @@ use borrow.Author.Tests.{lt-ltb, le-ltb}
 use lib.ListN.{length}
 use Rattle.records.specs.Layout.{bodyAt, recordEnd}
 use Rattle.records.specs.Reasons.{firstReason, recordReasons, endReason}
-use Rattle.records.specs.Head.{cellsIn, headAnswer}
+use Rattle.records.specs.Head.{cellsOfHead, headAnswer}
 use Rattle.records.specs.declared.Length.the-variants.{Pairs}
 use Rattle.records.specs.declared.ReadAnswer.{ReadAnswer}
 use Rattle.records.specs.declared.ReadAnswer.the-variants.{Done, Refused}
 use Rattle.records.proofs.Reasons.{andThen}
 use Rattle.sitefile.specs.Reasons.{loadsAt, reachAt, loadsReasons, pairReasons}
-use Rattle.sitefile.specs.Read.{reachIn, siteAnswer}
+use Rattle.sitefile.specs.Read.{reachOfBody, siteAnswer}
 use Rattle.sitefile.specs.Loop.{noRows, pairsReadOf, pairsRead, reachRead}
 use Rattle.sitefile.specs.declared.PairsRead.{PairsRead}
 use Rattle.sitefile.proofs.Reasons.{lastReasons, last-parts, site-parts}
@@ -29,7 +29,7 @@ pairs-rows rows a e = rw e refl
 -- kind 3, and what may follow it
 module _ (s : List ℕ) (at cells : ℕ) where
   abbrev R : List ℕ
-  R = reachIn (bodyAt s at)
+  R = reachOfBody (bodyAt s at)
 
   abbrev A : ReadAnswer
   A = firstReason (pairReasons cells at 0 0 (bodyAt s at))
@@ -75,10 +75,10 @@ module _ (s : List ℕ) (at cells : ℕ) where
 -- the whole file
 module _ (s : List ℕ) where
   abbrev L : ReadAnswer
-  L = firstReason (loadsReasons s (loadsAt s) (cellsIn s))
+  L = firstReason (loadsReasons s (loadsAt s) (cellsOfHead s))
 
   abbrev Z : ReadAnswer
-  Z = firstReason (lastReasons s (reachAt s) (cellsIn s))
+  Z = firstReason (lastReasons s (reachAt s) (cellsOfHead s))
 
   pub head-stop : (n k : ℕ) → headAnswer s ≡ Refused n k → siteAnswer s ≡ Refused n k
   head-stop n k e = site-parts s ∙ ap (λ (x : ReadAnswer). andThen x (andThen L Z)) e
@@ -91,16 +91,17 @@ module _ (s : List ℕ) where
     loads-stop n k e = past-head ∙ ap (λ (x : ReadAnswer). andThen x Z) e
 
     -- past the loads, what the last record gives decides
-    module _ (loads : L ≡ Done) (p : PairsRead) (reach : p ≡ reachRead s (reachAt s) (cellsIn s)) where
+    module _ (loads : L ≡ Done) (p : PairsRead) (reach : p ≡ reachRead s (reachAt s) (cellsOfHead s)) where
       pub site-is : siteAnswer s ≡ p .answer
       unfolding reachRead
       site-is =
           past-head
           ∙ ap (λ (x : ReadAnswer). andThen x Z) loads
-          ∙ sym (ap (λ (x : PairsRead). x .answer) reach ∙ pairs-answer (reachIn (bodyAt s (reachAt s))) Z)
+          ∙ sym (ap (λ (x : PairsRead). x .answer) reach ∙ pairs-answer (reachOfBody (bodyAt s (reachAt s))) Z)
 
-      pub rows-are : p .answer ≡ Done → p .reach ≡ reachIn (bodyAt s (reachAt s))
+      pub rows-are : p .answer ≡ Done → p .reach ≡ reachOfBody (bodyAt s (reachAt s))
       unfolding reachRead
       rows-are done =
           ap (λ (x : PairsRead). x .reach) reach
-          ∙ pairs-rows (reachIn (bodyAt s (reachAt s))) Z (sym (pairs-answer (reachIn (bodyAt s (reachAt s))) Z) ∙ ap (λ (x : PairsRead). x .answer) (sym reach) ∙ done)
+          ∙ pairs-rows (reachOfBody (bodyAt s (reachAt s))) Z
+          (sym (pairs-answer (reachOfBody (bodyAt s (reachAt s))) Z) ∙ ap (λ (x : PairsRead). x .answer) (sym reach) ∙ done)

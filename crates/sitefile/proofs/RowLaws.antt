@@ -68,7 +68,8 @@ row-ones row a h (suc n) b e =
     let p : length (pairOf row (32 * a + b)) ≡ 2 * (row / 2 ^ b % 2) = pair-length row (32 * a + b) ∙ ap (λ (k : ℕ). 2 * (row / 2 ^ k % 2)) m in
     let r : length (rowFrom row (32 * a + b + 1) n) ≡ 2 * ones (row / 2 ^ (b + 1)) =
     ap (λ (x : ℕ). length (rowFrom row x n)) f ∙ row-ones row a h n (b + 1) (omega arith) in
-    let o : ones (row / 2 ^ b) ≡ row / 2 ^ b % 2 + ones (row / 2 ^ (b + 1)) = ones-step (row / 2 ^ b) ∙ ap (λ (x : ℕ). row / 2 ^ b % 2 + ones x) (left-half row b) in
+    let o : ones (row / 2 ^ b) ≡ row / 2 ^ b % 2 + ones (row / 2 ^ (b + 1)) =
+    ones-step (row / 2 ^ b) ∙ ap (λ (x : ℕ). row / 2 ^ b % 2 + ones x) (left-half row b) in
     simp length-append (omega (arith, p, r, o))
 
 pub row-length : (row a : ℕ) → row < 2 ^ 32 → length (rowFrom row (32 * a) 32) ≡ 2 * ones row
@@ -108,7 +109,8 @@ rows-unroll rows a h =
 
 pub rows-put :
     (out : List ℕ) (k : ℕ) (rows : List ℕ) (a : ℕ) → a < 32 →
-    sets (sets out k (rowFrom (getD rows a 0) (32 * a) 32)) (k + length (rowFrom (getD rows a 0) (32 * a) 32)) (pairsFrom rows (32 * (a + 1)) (1024 - 32 * (a + 1)))
+    sets (sets out k (rowFrom (getD rows a 0) (32 * a) 32)) (k + length (rowFrom (getD rows a 0) (32 * a) 32))
+    (pairsFrom rows (32 * (a + 1)) (1024 - 32 * (a + 1)))
     ≡ sets out k (pairsFrom rows (32 * a) (1024 - 32 * a))
 rows-put out k rows a h =
     sym (sets-append out k (rowFrom (getD rows a 0) (32 * a) 32) (pairsFrom rows (32 * (a + 1)) (1024 - 32 * (a + 1))))

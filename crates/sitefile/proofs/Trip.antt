@@ -4,14 +4,14 @@ use Prim.Native.Nat.{ℕ}
 use mathlib.Core.Path.{_≡_, sym, ap, _∙_}
 use mathlib.Core.List.{List}
 use Rattle.records.specs.Bytes.{Bytes}
-use Rattle.records.specs.Write.{laidOver}
+use Rattle.records.specs.Write.{written, laidOver}
 use Rattle.records.specs.declared.ReadAnswer.the-variants.{Done}
 use Rattle.site.specs.Record.{faultOf}
 use Rattle.site.specs.declared.Site.{Site}
 use Rattle.site.specs.declared.Fault.the-variants.{Fine}
-use Rattle.sitefile.specs.Held.{Held}
-use Rattle.sitefile.specs.Read.{siteIn, siteAnswer, siteDone, readSite}
-use Rattle.sitefile.specs.Write.{siteBytes, written, siteWritten, siteOut}
+use Rattle.site.specs.Held.{Held}
+use Rattle.sitefile.specs.Read.{siteOfFile, siteAnswer, siteDone, readSite}
+use Rattle.sitefile.specs.Write.{siteBytes, siteWritten, siteOut}
 use Rattle.sitefile.specs.declared.SiteRead.{SiteRead}
 use Rattle.sitefile.proofs.FileTrip.{written-accepted, written-stated, read-written, read-good}
 use Rattle.sitefile.proofs.Good.{fine-good, good-fine}
@@ -27,7 +27,7 @@ module _ (file : List ℕ) (bytes : Bytes file) (accepted : readSite file .answe
   done : siteAnswer file ≡ Done
   done = sym (first-refused file) ∙ accepted
 
-  stated : readSite file .site ≡ siteIn file
+  stated : readSite file .site ≡ siteOfFile file
   stated = ap (λ (r : SiteRead). r .site) (sym (accept file done))
 
   -- read and written again: the same bytes
@@ -36,7 +36,7 @@ module _ (file : List ℕ) (bytes : Bytes file) (accepted : readSite file .answe
 
   -- what is read has no fault
   pub read-fine : faultOf (readSite file .site) ≡ Fine
-  read-fine = ap faultOf stated ∙ good-fine (siteIn file) (read-good file bytes done)
+  read-fine = ap faultOf stated ∙ good-fine (siteOfFile file) (read-good file bytes done)
 
   -- so the writer, given what was read, answers the file's length and leaves the file
   pub written-again : (out : List ℕ) → (siteWritten (readSite file .site) out ≡ written file out) × (siteOut (readSite file .site) out ≡ laidOver file out)

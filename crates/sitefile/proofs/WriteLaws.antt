@@ -1,34 +1,32 @@
--- The writer's definitions: a turn of the loads' loop, the file's length, its parts stored one after the other, and the answer.
+-- The writer's definitions: a turn of the loads' loop, the file's length, and its parts stored one after the other.
 -- Assumes nothing.
 use Prim.Native.Nat.{ℕ, suc, _+_, _*_, _%_, _≤_, _<_}
-use mathlib.Core.Path.{_≡_, refl, sym, ap, _∙_, subst}
+use mathlib.Core.Path.{_≡_, refl, sym, ap, _∙_}
 use mathlib.Core.List.{List, [], _∷_, _++_}
 use native.Mathlib.Numerals.{add-one}
 use native.Mathlib.Omega.{arith}
 use lib.ListN.{length, getD, take, drop, length-append, length-take, drop-of-length-le}
 use lib.Seq.{sets, drop-cons, getD-take, length-take-le}
-use borrow.Author.Tests.{le-leb, lt-leb}
 use Rattle.laws.proofs.Stores.{sets-append}
-use Rattle.records.specs.Bytes.{words}
+use Rattle.records.specs.Bytes.{twoBytesEach}
 use Rattle.records.specs.Layout.{recordOf}
 use Rattle.records.specs.Head.{headRecord, headSize}
 use Rattle.records.proofs.Write.{record-put}
-use Rattle.records.proofs.Bytes.{words-length}
-use Rattle.sitefile.specs.Write.{pairBytes, siteBytes, written}
+use Rattle.records.proofs.Bytes.{two-bytes-length}
+use Rattle.sitefile.specs.Write.{pairBytes, siteBytes}
 use Rattle.site.specs.declared.Site.{Site}
-use Rattle.sitefile.specs.declared.SiteWritten.the-variants.{Done, OutShort}
 use Rattle.sitefile.proofs.RowLaws.{pairs-even, pairs-most}
 
 -- a turn of the loads' loop, and its end
 pub put-step :
     (out : List ℕ) (at i n : ℕ) (loads : List ℕ) → i < n → n ≤ length loads →
-    sets (sets out (at + 2 * i) (words (getD loads i 0 ∷ []))) (at + 2 * (i + 1)) (words (drop (i + 1) (take n loads)))
-    ≡ sets out (at + 2 * i) (words (drop i (take n loads)))
+    sets (sets out (at + 2 * i) (twoBytesEach (getD loads i 0 ∷ []))) (at + 2 * (i + 1)) (twoBytesEach (drop (i + 1) (take n loads)))
+    ≡ sets out (at + 2 * i) (twoBytesEach (drop i (take n loads)))
 put-step out at i n loads h m =
     let e : at + 2 * (i + 1) ≡ suc (suc (at + 2 * i)) = omega arith in
     rw (e, add-one i, drop-cons (take n loads) i 0 (simp length-take (omega arith)), getD-take n loads i 0 h)
 
-pub put-end : (out : List ℕ) (at i n : ℕ) (loads : List ℕ) → n ≤ i → sets out (at + 2 * i) (words (drop i (take n loads))) ≡ out
+pub put-end : (out : List ℕ) (at i n : ℕ) (loads : List ℕ) → n ≤ i → sets out (at + 2 * i) (twoBytesEach (drop i (take n loads))) ≡ out
 put-end out at i n loads h = rw (drop-of-length-le (take n loads) {i = i} (simp length-take (omega arith)))
 
 pub pair-bytes-even : (rows : List ℕ) → length (pairBytes rows) % 2 ≡ 0
@@ -40,8 +38,8 @@ unfolding pairBytes
 pair-bytes-most rows = pairs-most rows 0 1024
 
 module _ (s : Site) (cells : s .cells ≤ 32) (size : length (s .loads) ≡ 32) where
-  loads-length : length (words (take (s .cells) (s .loads))) ≡ 2 * s .cells
-  loads-length = words-length (take (s .cells) (s .loads)) ∙ ap (λ (k : ℕ). 2 * k) (length-take-le (s .cells) (s .loads) (omega arith))
+  loads-length : length (twoBytesEach (take (s .cells) (s .loads))) ≡ 2 * s .cells
+  loads-length = two-bytes-length (take (s .cells) (s .loads)) ∙ ap (λ (k : ℕ). 2 * k) (length-take-le (s .cells) (s .loads) (omega arith))
 
   -- the file's length, and its parts stored one after the other
   pub site-length : length (siteBytes s) ≡ headSize + 4 + 2 * s .cells + 4 + length (pairBytes (s .reach))
@@ -53,32 +51,23 @@ module _ (s : Site) (cells : s .cells ≤ 32) (size : length (s .loads) ≡ 32) 
       sets
       (sets
       (sets
-      (sets (sets out 0 (headRecord (s .cells) (s .slots) (s .channels))) headSize (words ((2 + 2 * s .cells) ∷ 2 ∷ [])))
+      (sets (sets out 0 (headRecord (s .cells) (s .slots) (s .channels))) headSize (twoBytesEach ((2 + 2 * s .cells) ∷ 2 ∷ [])))
       (headSize + 4)
-      (words (take (s .cells) (s .loads))))
+      (twoBytesEach (take (s .cells) (s .loads))))
       (headSize + 4 + 2 * s .cells)
-      (words ((2 + length (pairBytes (s .reach))) ∷ 3 ∷ [])))
+      (twoBytesEach ((2 + length (pairBytes (s .reach))) ∷ 3 ∷ [])))
       (headSize + 4 + 2 * s .cells + 4)
       (pairBytes (s .reach))
       ≡ sets out 0 (siteBytes s)
   unfolding siteBytes
   site-put out =
       let H = headRecord (s .cells) (s .slots) (s .channels) in
-      let L = words (take (s .cells) (s .loads)) in
+      let L = twoBytesEach (take (s .cells) (s .loads)) in
       let P = pairBytes (s .reach) in
       let X = sets out 0 H in
       let e : headSize + length (recordOf 2 L) ≡ headSize + 4 + 2 * s .cells = omega (arith, loads-length) in
-      record-put (sets (sets X headSize (words ((2 + 2 * s .cells) ∷ 2 ∷ []))) (headSize + 4) L) (headSize + 4 + 2 * s .cells) 3 (2 + length P) P refl
+      record-put (sets (sets X headSize (twoBytesEach ((2 + 2 * s .cells) ∷ 2 ∷ []))) (headSize + 4) L) (headSize + 4 + 2 * s .cells) 3 (2 + length P) P refl
       ∙ ap (λ (l : List ℕ). sets l (headSize + 4 + 2 * s .cells) (recordOf 3 P)) (record-put X headSize 2 (2 + 2 * s .cells) L (omega (arith, loads-length)))
       ∙ ap (λ (k : ℕ). sets (sets X headSize (recordOf 2 L)) k (recordOf 3 P)) (sym e)
       ∙ sym (sets-append X headSize (recordOf 2 L) (recordOf 3 P))
       ∙ sym (sets-append out 0 H (recordOf 2 L ++ recordOf 3 P))
-
--- the writer's answer
-pub written-done : (file out : List ℕ) (n : ℕ) → n ≡ length file → n ≤ length out → Done n ≡ written file out
-unfolding written
-written-done file out n e h = rw e (simp (le-leb (length file) (length out) (subst (λ (k : ℕ). k ≤ length out) e h)))
-
-pub written-short : (file out : List ℕ) (n : ℕ) → n ≡ length file → length out < n → OutShort n ≡ written file out
-unfolding written
-written-short file out n e h = rw e (simp (lt-leb (length file) (length out) (subst (λ (k : ℕ). length out < k) e h)))

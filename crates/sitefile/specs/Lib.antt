@@ -1,8 +1,6 @@
 -- The definitions of crate `sitefile`, module by module.
-pub mod Held
 pub mod Pairs
 pub mod Reasons
 pub mod Read
 pub mod Loop
 pub mod Write
-pub mod Given

@@ -8,11 +8,11 @@ use Rattle.records.specs.declared.ReadAnswer.the-variants.{Done, Refused}
 use Rattle.sitefile.specs.Pairs.{pairOf}
 use Rattle.sitefile.specs.Reasons.{pairReasons, reachReasons}
 use Rattle.sitefile.specs.declared.PairsRead.{PairsRead}
-use Rattle.sitefile.specs.Read.{none, reachIn}
+use Rattle.sitefile.specs.Read.{allZero, reachOfBody}
 
 -- what the reader of the last record answers: its rows, or none beside a refusal
 abbrev pub noRows : ReadAnswer → PairsRead
-noRows answer = record { reach = none; answer = answer }
+noRows answer = record { reach = allZero; answer = answer }
 
 unfoldable pub pairsReadOf : List ℕ → ReadAnswer → PairsRead
 pairsReadOf rows Done = record { reach = rows; answer = Done }
@@ -20,11 +20,11 @@ pairsReadOf rows (Refused number at) = noRows (Refused number at)
 
 -- the pairs of its body, and the whole record at an offset with nothing after it
 unfoldable pub pairsRead : ℕ → ℕ → List ℕ → PairsRead
-pairsRead cells at body = pairsReadOf (reachIn body) (firstReason (pairReasons cells at 0 0 body))
+pairsRead cells at body = pairsReadOf (reachOfBody body) (firstReason (pairReasons cells at 0 0 body))
 
 unfoldable pub reachRead : List ℕ → ℕ → ℕ → PairsRead
 reachRead s at cells =
-    pairsReadOf (reachIn (bodyAt s at)) (firstReason (reachReasons s at cells ++ (endReason s (recordEnd s at) ∷ [])))
+    pairsReadOf (reachOfBody (bodyAt s at)) (firstReason (reachReasons s at cells ++ (endReason s (recordEnd s at) ∷ [])))
 
 -- the bytes of the pairs at n places of a row, from q on
 unfoldable pub rowFrom : ℕ → ℕ → ℕ → List ℕ

@@ -1,4 +1,4 @@
--- The pairs of a kind 3 body, and the reach rows that they set: "pairs from, to, a byte each, strictly rising by from, then to".
+-- The pairs of a kind 3 body, and the reach rows that they set: pairs from, to, "a byte each, strictly rising by from, then to".
 -- A place q is the pair of the cells q / 32 + 1 and q % 32 + 1, so that places rise by from, then to. It is the bit q % 32 of the row q / 32.
 use Prim.Native.Nat.{ℕ, zero, suc, _+_, _-_, _*_, _/_, _%_}
 use mathlib.Core.List.{List, [], _∷_, _++_}
@@ -9,7 +9,7 @@ use Rattle.laws.specs.Choice.{pick}
 use Rattle.laws.specs.Bits.{bitAt, setBit}
 use Rattle.site.specs.Record.{upTo}
 
--- two different cells of the site; else "a pair naming a cell outside 1..I, or one cell twice"
+-- two different cells of the site; else "a pair .. naming a cell outside 1..I, or one cell twice"
 unfoldable pub pairOk : ℕ → ℕ → ℕ → Bool
 pairOk cells from to = upTo cells from && (upTo cells to && not (eqb from to))
 
@@ -21,10 +21,10 @@ abbrev pub mark : List ℕ → ℕ → List ℕ
 mark rows q = set rows (q / 32) (setBit (getD rows (q / 32) 0) (q % 32))
 
 -- the rows with the bit of every pair of a body set
-abbrev pub marks : List ℕ → List ℕ → List ℕ
-marks rows [] = rows
-marks rows (f ∷ []) = rows
-marks rows (f ∷ t ∷ r) = marks (mark rows (place f t)) r
+abbrev pub markAll : List ℕ → List ℕ → List ℕ
+markAll rows [] = rows
+markAll rows (f ∷ []) = rows
+markAll rows (f ∷ t ∷ r) = markAll (mark rows (place f t)) r
 
 -- the bytes of the pair at q, if its bit is set in its row
 unfoldable pub pairOf : ℕ → ℕ → List ℕ

@@ -3,31 +3,31 @@ use Prim.Native.Nat.{ℕ}
 use mathlib.Core.List.{List}
 use lib.ListN.{replicate}
 use lib.Seq.{sets}
-use Rattle.records.specs.Bytes.{wordsOf}
+use Rattle.records.specs.Bytes.{numbersIn}
 use Rattle.records.specs.Layout.{bodyAt}
 use Rattle.records.specs.Reasons.{firstReason}
-use Rattle.records.specs.Head.{cellsIn, slotsIn, channelsIn}
+use Rattle.records.specs.Head.{cellsOfHead, slotsOfHead, channelsOfHead}
 use Rattle.records.specs.declared.ReadAnswer.{ReadAnswer}
 use Rattle.records.specs.declared.ReadAnswer.the-variants.{Done, Refused}
 use Rattle.site.specs.Record.{siteOf, zeroSite}
 use Rattle.site.specs.declared.Site.{Site}
-use Rattle.sitefile.specs.Pairs.{marks}
+use Rattle.sitefile.specs.Pairs.{markAll}
 use Rattle.sitefile.specs.Reasons.{loadsAt, reachAt, siteReasons}
 use Rattle.sitefile.specs.declared.SiteRead.{SiteRead}
 
 -- no load and no reach: "Unused loads and rows are zero."
-abbrev pub none : List ℕ
-none = replicate 32 0
+abbrev pub allZero : List ℕ
+allZero = replicate 32 0
 
 -- the loads that a kind 2 body states, and the rows that a kind 3 body states
-abbrev pub loadsIn : List ℕ → List ℕ
-loadsIn body = sets none 0 (wordsOf body)
+abbrev pub loadsOfBody : List ℕ → List ℕ
+loadsOfBody body = sets allZero 0 (numbersIn body)
 
-abbrev pub reachIn : List ℕ → List ℕ
-reachIn body = marks none body
+abbrev pub reachOfBody : List ℕ → List ℕ
+reachOfBody body = markAll allZero body
 
-unfoldable pub siteIn : List ℕ → Site
-siteIn s = siteOf (cellsIn s) (slotsIn s) (channelsIn s) (loadsIn (bodyAt s (loadsAt s))) (reachIn (bodyAt s (reachAt s)))
+unfoldable pub siteOfFile : List ℕ → Site
+siteOfFile s = siteOf (cellsOfHead s) (slotsOfHead s) (channelsOfHead s) (loadsOfBody (bodyAt s (loadsAt s))) (reachOfBody (bodyAt s (reachAt s)))
 
 unfoldable pub siteAnswer : List ℕ → ReadAnswer
 siteAnswer s = firstReason (siteReasons s)
@@ -44,4 +44,4 @@ siteReadOf s Done = siteDone s
 siteReadOf s (Refused number at) = refusedSite (Refused number at)
 
 unfoldable pub readSite : List ℕ → SiteRead
-readSite s = siteReadOf (siteIn s) (siteAnswer s)
+readSite s = siteReadOf (siteOfFile s) (siteAnswer s)

@@ -6,7 +6,7 @@ use mathlib.Core.Bool.{Bool, not, _||_, _&&_}
 use lib.Dec.{ltb, eqb}
 use Rattle.records.specs.Layout.{bodyAt, recordEnd}
 use Rattle.records.specs.Reasons.{Reason, reason, recordReasons, endReason}
-use Rattle.records.specs.Head.{cellsIn, afterHead, headReasons}
+use Rattle.records.specs.Head.{cellsOfHead, afterHead, headReasons}
 use Rattle.records.specs.declared.Length.the-variants.{Exact, Pairs}
 use Rattle.sitefile.specs.Pairs.{pairOk}
 
@@ -17,7 +17,7 @@ loadsAt s = afterHead s
 abbrev pub reachAt : List ℕ → ℕ
 reachAt s = recordEnd s (loadsAt s)
 
--- "2 loads: I loads, two bytes each", length "2 + 2I"
+-- kind 2, "I loads, two bytes each", length "2 + 2I"
 abbrev pub loadsReasons : List ℕ → ℕ → ℕ → List Reason
 loadsReasons s at cells = recordReasons s at 2 (Exact (2 + 2 * cells))
 
@@ -34,13 +34,13 @@ pairReasons cells at from to (f ∷ t ∷ r) =
     ∷ reason (not (rises from to f t)) 11 at
     ∷ pairReasons cells at f t r
 
--- "3 reach: pairs from, to, a byte each", length "2 + even number"
+-- kind 3, pairs from, to, "a byte each", length "2 + even number"
 abbrev pub reachReasons : List ℕ → ℕ → ℕ → List Reason
 reachReasons s at cells = recordReasons s at 3 Pairs ++ pairReasons cells at 0 0 (bodyAt s at)
 
 unfoldable pub siteReasons : List ℕ → List Reason
 siteReasons s =
     headReasons s
-    ++ (loadsReasons s (loadsAt s) (cellsIn s)
-    ++ (reachReasons s (reachAt s) (cellsIn s)
+    ++ (loadsReasons s (loadsAt s) (cellsOfHead s)
+    ++ (reachReasons s (reachAt s) (cellsOfHead s)
     ++ (endReason s (recordEnd s (reachAt s)) ∷ [])))

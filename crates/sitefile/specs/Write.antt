@@ -1,18 +1,17 @@
 -- The file of a site, and what its writer answers and leaves.
 use Prim.Native.Nat.{ℕ}
 use mathlib.Core.List.{List, _++_}
-use lib.ListN.{length, take}
-use lib.Dec.{leb}
+use lib.ListN.{take}
 use Rattle.laws.specs.Choice.{pick}
-use Rattle.records.specs.Bytes.{words}
+use Rattle.records.specs.Bytes.{twoBytesEach}
 use Rattle.records.specs.Layout.{recordOf}
 use Rattle.records.specs.Head.{headRecord}
-use Rattle.records.specs.Write.{laidOver}
+use Rattle.records.specs.Write.{written, laidOver}
+use Rattle.records.specs.declared.Written.{Written}
+use Rattle.records.specs.declared.Written.the-variants.{Refused}
 use Rattle.site.specs.Record.{faultOf, isFine}
 use Rattle.site.specs.declared.Site.{Site}
 use Rattle.sitefile.specs.Pairs.{pairsFrom}
-use Rattle.sitefile.specs.declared.SiteWritten.{SiteWritten}
-use Rattle.sitefile.specs.declared.SiteWritten.the-variants.{Done, OutShort, Refused}
 
 -- the bytes of all the pairs, from row after row: 32 places in each of 32 rows
 unfoldable pub pairBytes : List ℕ → List ℕ
@@ -22,15 +21,11 @@ pairBytes reach = pairsFrom reach 0 1024
 unfoldable pub siteBytes : Site → List ℕ
 siteBytes s =
     headRecord (s .cells) (s .slots) (s .channels)
-    ++ (recordOf 2 (words (take (s .cells) (s .loads)))
+    ++ (recordOf 2 (twoBytesEach (take (s .cells) (s .loads)))
     ++ recordOf 3 (pairBytes (s .reach)))
 
--- 13, "lent output too short for the file": "bytes needed"; "a writer that is done answers the number of bytes written"
-unfoldable pub written : List ℕ → List ℕ → SiteWritten
-written file out = pick (leb (length file) (length out)) (Done (length file)) (OutShort (length file))
-
 -- "Writers: 1, 2, 3, .. 13"
-unfoldable pub siteWritten : Site → List ℕ → SiteWritten
+unfoldable pub siteWritten : Site → List ℕ → Written
 siteWritten s out = pick (isFine (faultOf s)) (written (siteBytes s) out) (Refused (faultOf s))
 
 -- "no other refusal writes"

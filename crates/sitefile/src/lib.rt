@@ -3,14 +3,15 @@ use records::AFTER_HEAD;
 use records::Length;
 use records::Opened;
 use records::ReadAnswer;
+use records::Written;
 use records::head_answer;
 use records::open;
 use records::opened_answer;
 use records::put_head;
 use records::put_start;
 use records::put_two;
-use records::put_word;
-use records::word;
+use records::put_two_bytes;
+use records::two_bytes;
 use site::Fault;
 use site::Site;
 use site::within;
@@ -20,25 +21,18 @@ ghost use Prim.Native.Nat.{_+_, _*_, _≤_, _<_};
 ghost use lib.ListN.{length, take};
 ghost use lib.Seq.{sets};
 ghost use Rattle.laws.specs.Bits.{setBit};
-ghost use Rattle.records.specs.Bytes.{words};
-ghost use Rattle.records.specs.Write.{laidOver};
+ghost use Rattle.records.specs.Bytes.{twoBytesEach};
+ghost use Rattle.records.specs.Write.{written, laidOver};
 ghost use Rattle.sitefile.specs.Pairs.{pairOk, place};
 ghost use Rattle.sitefile.specs.Loop.{rowFrom};
-ghost use Rattle.sitefile.specs.Read.{loadsIn, refusedSite, readSite};
+ghost use Rattle.sitefile.specs.Read.{loadsOfBody, refusedSite, readSite};
 ghost use Rattle.sitefile.specs.Loop.{noRows, pairsRead, reachRead};
-ghost use Rattle.sitefile.specs.Write.{siteBytes, pairBytes, written, siteWritten, siteOut};
+ghost use Rattle.sitefile.specs.Write.{siteBytes, pairBytes, siteWritten, siteOut};
 
 // What a site read gives: the site, or a site of zeros beside the refusal.
 pub struct SiteRead {
     pub site: Site,
     pub answer: ReadAnswer,
-}
-
-// What a site write answers: the bytes written, the bytes needed, or what is wrong with the record.
-pub enum SiteWritten {
-    Done(usize),
-    OutShort(usize),
-    Refused(Fault),
 }
 
 // The reach rows of a kind 3 record; or none beside the refusal.
@@ -50,13 +44,13 @@ struct PairsRead {
 // The loads of a kind 2 body.
 fn loads_of(body: &[u8]) -> [u16; 32]
     requires { ⌜ length (now body) ≤ 64 ⌝ }
-    ensures { λ r. ⌜ r ≡ loadsIn (now (body .entry)) ⌝ }
+    ensures { λ r. ⌜ r ≡ loadsOfBody (now (body .entry)) ⌝ }
 {
     let mut loads = [0u16; 32];
     let n = body.len() / 2;
     let mut i = 0;
     while i < n {
-        let v = word(body, 2 * i);
+        let v = two_bytes(body, 2 * i);
         loads[i] = v;
         i += 1;
     }
@@ -174,7 +168,7 @@ pub fn read_site(bytes: &[u8]) -> SiteRead
     let ReadAnswer::Done = head else {
         return refused(head);
     };
-    let cells = word(bytes, 4);
+    let cells = two_bytes(bytes, 4);
     let o = open(bytes, AFTER_HEAD, 2, Length::Exact(2 + 2 * cells));
     let Opened::Body(start, len) = o else {
         return refused(opened_answer(o));
@@ -189,8 +183,8 @@ pub fn read_site(bytes: &[u8]) -> SiteRead
     };
     let mut site = Site::zeros();
     site.cells = cells;
-    site.slots = word(bytes, 6);
-    site.channels = word(bytes, 8);
+    site.slots = two_bytes(bytes, 6);
+    site.channels = two_bytes(bytes, 8);
     site.loads = loads;
     site.reach = reach;
     SiteRead { site, answer }
@@ -199,11 +193,11 @@ pub fn read_site(bytes: &[u8]) -> SiteRead
 // Stores the first n loads, two bytes each.
 fn put_loads(out: &mut [u8], at: usize, loads: [u16; 32], n: usize)
     requires { ⌜ (n ≤ 32) × (at + 2 * n ≤ length (now out)) ⌝ }
-    ensures { λ _. ⌜ now (out .exit) ≡ sets (now (out .entry)) at (words (take n loads)) ⌝ }
+    ensures { λ _. ⌜ now (out .exit) ≡ sets (now (out .entry)) at (twoBytesEach (take n loads)) ⌝ }
 {
     let mut i = 0;
     while i < n {
-        put_word(out, at + 2 * i, loads[i]);
+        put_two_bytes(out, at + 2 * i, loads[i]);
         i += 1;
     }
 }
@@ -267,7 +261,7 @@ fn put_pairs(out: &mut [u8], at: usize, reach: &[u32; 32], end: usize)
 }
 
 // The site file of a site whose record is in order.
-fn put_site(s: Site, out: &mut [u8]) -> SiteWritten
+fn put_site(s: Site, out: &mut [u8]) -> Written
     requires { ⌜ s .cells ≤ 32 ⌝ }
     ensures { λ r. ⌜ r ≡ written (siteBytes s) (now (out .entry)) ⌝ }
     ensures { λ _. ⌜ now (out .exit) ≡ laidOver (siteBytes s) (now (out .entry)) ⌝ }
@@ -281,24 +275,24 @@ fn put_site(s: Site, out: &mut [u8]) -> SiteWritten
     let at = from + 2 * n;
     let need = at + 4 + m;
     if out.len() < need {
-        return SiteWritten::OutShort(need);
+        return Written::OutShort(need);
     }
     put_head(out, cells, s.slots, s.channels);
     put_start(out, AFTER_HEAD, 2 + 2 * cells, 2);
     put_loads(out, from, loads, n);
     put_start(out, at, (2 + m) as u16, 3);
     put_pairs(out, at + 4, &reach, need);
-    SiteWritten::Done(need)
+    Written::Done(need)
 }
 
 // Writes the site file of a site: 1, 2, 3, then 13.
-pub fn write_site(site: Site, out: &mut [u8]) -> SiteWritten
+pub fn write_site(site: Site, out: &mut [u8]) -> Written
     ensures { λ r. ⌜ r ≡ siteWritten site (now (out .entry)) ⌝ }
     ensures { λ _. ⌜ now (out .exit) ≡ siteOut site (now (out .entry)) ⌝ }
 {
     let fault = site.fault_in();
     let Fault::Fine = fault else {
-        return SiteWritten::Refused(fault);
+        return Written::Refused(fault);
     };
     put_site(site, out)
 }

@@ -1,4 +1,5 @@
--- How long a sentence can be: a place mark of two bytes becomes at most 20 digits or an s, so that it has at most ten times the bytes of its text. Assumes nothing.
+-- How long a sentence can be: a place mark of two bytes becomes at most 20 digits or an s, so that it has at most ten times the bytes of its text.
+-- Assumes nothing.
 use Prim.Native.Nat.{ℕ, _+_, _*_, _-_, _≤_, _<_}
 use mathlib.Core.Bool.{Bool, true, false}
 use mathlib.Core.List.{List, [], _∷_, _++_}
@@ -7,7 +8,7 @@ use lib.Dec.{ltb, eqb}
 use lib.ListN.{length, length-append}
 use Rattle.laws.specs.Choice.{pick}
 use Rattle.text.proofs.Digits.{decimal-long}
-use Rattle.speech.specs.Speech.{valueOf, plural, markWords, spoken}
+use Rattle.speech.specs.Speech.{valueOf, plural, markSaid, spoken}
 
 -- marks that stand for at most 20 bytes
 abbrev pub Brief : (ℕ → List ℕ) → Type 0
@@ -32,7 +33,7 @@ plural-brief : (x : ℕ) → length (plural x) ≤ 20
 plural-brief x = either (eqb x 1) [] (115 ∷ []) (omega arith) (omega arith)
 
 pub marks-brief : (a b c d : ℕ) → a < 18446744073709551616 → b < 18446744073709551616 → c < 18446744073709551616 → d < 18446744073709551616
-    → Brief (markWords a b c d)
+    → Brief (markSaid a b c d)
 marks-brief a b c d p q r s mark =
     either (ltb mark 97) _ _ (decimal-long 19 (valueOf a b c d mark) (omega (arith, wide a b c d p q r s mark))) (plural-brief (valueOf a b c d (mark - 48)))
 

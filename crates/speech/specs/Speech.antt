@@ -1,5 +1,6 @@
--- A sentence with numbers in it. Its text has place marks, an @ (64) and one byte more. With a digit, @1, @2, @3 and @4 stand for the first to the fourth value, in decimal. With a
--- letter, @a, @b, @c and @d stand for an s where the first to the fourth value is not 1, and for nothing where it is 1: "@1 slot@a" is "1 slot" and "2 slots".
+-- A sentence with numbers in it. Its text has place marks, an @ (64) and one byte more. With a digit, @1, @2, @3 and @4 stand for the first to the fourth
+-- value, in decimal. With a letter, @a, @b, @c and @d stand for an s where the first to the fourth value is not 1, and for nothing where it is 1:
+-- `@1 slot@a` is `1 slot` and `2 slots`.
 use Prim.Native.Nat.{ℕ, _+_, _-_}
 use Prim.Native.Char.{code}
 use Prim.Native.String.{String, [] as none, _∷_ as _then_}
@@ -24,8 +25,8 @@ abbrev pub plural : ℕ → List ℕ
 plural x = pick (eqb x 1) [] (115 ∷ [])
 
 -- what a mark stands for: a digit (49 is 1) for the value's decimal, a letter (97 is a) for the plural of the value
-abbrev pub markWords : (a b c d : ℕ) → ℕ → List ℕ
-markWords a b c d mark = pick (ltb mark 97) (decimal (valueOf a b c d mark)) (plural (valueOf a b c d (mark - 48)))
+abbrev pub markSaid : (a b c d : ℕ) → ℕ → List ℕ
+markSaid a b c d mark = pick (ltb mark 97) (decimal (valueOf a b c d mark)) (plural (valueOf a b c d (mark - 48)))
 
 -- the text with each place mark replaced by its words. An @ at the very end is no mark
 unfoldable pub spoken : (ℕ → List ℕ) → List ℕ → List ℕ
@@ -39,4 +40,4 @@ markAt text i = pick (ltb (i + 1) (length text)) (eqb (getD text i 0) 64) false
 
 -- a sentence, its text in letters
 abbrev pub said : String → (a b c d : ℕ) → List ℕ
-said text a b c d = spoken (markWords a b c d) (bytes text)
+said text a b c d = spoken (markSaid a b c d) (bytes text)

@@ -4,7 +4,7 @@ ghost use mathlib.Core.Path.{_≡_};
 ghost use Prim.Native.Nat.{_+_, _*_, _≤_, _<_};
 ghost use lib.ListN.{length};
 ghost use lib.Seq.{sets};
-ghost use Rattle.speech.specs.Speech.{valueOf, plural, markWords, spoken, markAt};
+ghost use Rattle.speech.specs.Speech.{valueOf, plural, markSaid, spoken, markAt};
 
 // Whether a place mark begins at i.
 fn is_mark(text: &[u8], i: usize) -> bool
@@ -48,9 +48,9 @@ fn put_plural(out: &mut [u8], at: usize, x: usize) -> usize
 
 // Puts what a mark stands for: a digit for the value, a letter for the plural of the value.
 fn put_mark(out: &mut [u8], at: usize, a: usize, b: usize, c: usize, d: usize, mark: u8) -> usize
-    requires { ⌜ at + length (markWords a b c d mark) ≤ length (now out) ⌝ }
-    ensures stored { λ r. ⌜ now (out .exit) ≡ sets (now (out .entry)) at (markWords a b c d mark) ⌝ }
-    ensures next { λ r. ⌜ r ≡ at + length (markWords a b c d mark) ⌝ }
+    requires { ⌜ at + length (markSaid a b c d mark) ≤ length (now out) ⌝ }
+    ensures stored { λ r. ⌜ now (out .exit) ≡ sets (now (out .entry)) at (markSaid a b c d mark) ⌝ }
+    ensures next { λ r. ⌜ r ≡ at + length (markSaid a b c d mark) ⌝ }
 {
     if mark < b'a' {
         return put_number(out, at, value(a, b, c, d, mark));
@@ -61,8 +61,8 @@ fn put_mark(out: &mut [u8], at: usize, a: usize, b: usize, c: usize, d: usize, m
 // Puts the text at `at`, with each place mark replaced by its words, and answers where the next byte goes.
 pub fn say(out: &mut [u8], at: usize, text: &[u8], a: usize, b: usize, c: usize, d: usize) -> usize
     requires { ⌜ at + 10 * length (now text) ≤ length (now out) ⌝ }
-    ensures stored { λ r. ⌜ now (out .exit) ≡ sets (now (out .entry)) at (spoken (markWords a b c d) (now (text .entry))) ⌝ }
-    ensures next { λ r. ⌜ r ≡ at + length (spoken (markWords a b c d) (now (text .entry))) ⌝ }
+    ensures stored { λ r. ⌜ now (out .exit) ≡ sets (now (out .entry)) at (spoken (markSaid a b c d) (now (text .entry))) ⌝ }
+    ensures next { λ r. ⌜ r ≡ at + length (spoken (markSaid a b c d) (now (text .entry))) ⌝ }
     ensures short { λ r. ⌜ r ≤ at + 10 * length (now (text .entry)) ⌝ }
 {
     let mut next = at;

@@ -1,5 +1,7 @@
--- A stage takes each bit of its result from one place of what it is given: one digit of the bit's place is traded for the last digit of its row, which becomes the first.
--- After five stages that place is the turned one. Both that a mask fits its stage and that five stages turn the places are tests over all of them, which are computed.
+-- A stage takes each bit of its result from one place of what it is given:
+-- one digit of the bit's place is traded for the last digit of its row, which becomes the first.
+-- After five stages that place is the turned one. Both that a mask fits its stage and that five stages turn the places are tests over all of them,
+-- which are computed.
 -- Assumes nothing.
 use mathlib.Core.Path.{_≡_, refl, sym, ap, ap₂, _∙_}
 use mathlib.Core.Bool.{Bool, true, false, _&&_, not, and-eq-true-iff}
@@ -22,7 +24,7 @@ use borrow.Author.Tests.{eqb-true, ltb-true, ltb-false, not-false}
 use Rattle.laws.proofs.Choice.{cases}
 use Rattle.laws.proofs.Bits.{xor-bit, and-bit, shr-bit, shl-bit, shl-bit-below, mod-bit}
 use Rattle.square.specs.Turned.{turned}
-use Rattle.square.specs.Stage.{apart, lowOf, highOf, crossed}
+use Rattle.square.specs.Stage.{swapBits, lowOf, highOf, crossed}
 
 -- bit j of x, as a number
 abbrev bitOf : ℕ → ℕ → ℕ
@@ -54,23 +56,23 @@ cut-bit z j h =
     ap (λ (n : ℕ). bitOf (z % 2 ^ n) j) e ∙ mod-bit z j (31 - j)
 
 module _ (m mask x y : ℕ) where
-  apart-bit : (j : ℕ) → bitOf (apart m mask x y) j ≡ bitAnd (bitXor (bitOf x (m + j)) (bitOf y j)) (bitOf mask j)
+  apart-bit : (j : ℕ) → bitOf (swapBits m mask x y) j ≡ bitAnd (bitXor (bitOf x (m + j)) (bitOf y j)) (bitOf mask j)
   apart-bit j =
       and-bit (bitXor (x / 2 ^ m) y) mask j
       ∙ ap (λ (n : ℕ). bitAnd n (bitOf mask j)) (xor-bit (x / 2 ^ m) y j ∙ ap (λ (n : ℕ). bitXor n (bitOf y j)) (shr-bit x m j))
 
-  apart-in : (j : ℕ) → bitOf mask j ≡ 1 → bitOf (apart m mask x y) j ≡ bitXor (bitOf x (m + j)) (bitOf y j)
+  apart-in : (j : ℕ) → bitOf mask j ≡ 1 → bitOf (swapBits m mask x y) j ≡ bitXor (bitOf x (m + j)) (bitOf y j)
   apart-in j e =
       apart-bit j
       ∙ ap (bitAnd (bitXor (bitOf x (m + j)) (bitOf y j))) e
       ∙ and-one (bitXor (bitOf x (m + j)) (bitOf y j)) (xor-lt 1 (bitOf x (m + j)) (bitOf y j) (small x (m + j)) (small y j))
 
-  apart-out : (j : ℕ) → bitOf mask j ≡ 0 → bitOf (apart m mask x y) j ≡ 0
+  apart-out : (j : ℕ) → bitOf mask j ≡ 0 → bitOf (swapBits m mask x y) j ≡ 0
   apart-out j e = apart-bit j ∙ ap (bitAnd (bitXor (bitOf x (m + j)) (bitOf y j))) e ∙ and-zero-r (bitXor (bitOf x (m + j)) (bitOf y j))
 
   -- the high word
-  high-bit : (j : ℕ) → j < 32 → bitOf (highOf m mask x y) j ≡ bitXor (bitOf y j) (bitOf (apart m mask x y) j)
-  high-bit j h = cut-bit (bitXor y (apart m mask x y)) j h ∙ xor-bit y (apart m mask x y) j
+  high-bit : (j : ℕ) → j < 32 → bitOf (highOf m mask x y) j ≡ bitXor (bitOf y j) (bitOf (swapBits m mask x y) j)
+  high-bit j h = cut-bit (bitXor y (swapBits m mask x y)) j h ∙ xor-bit y (swapBits m mask x y) j
 
   high-in : (j : ℕ) → j < 32 → bitOf mask j ≡ 1 → bitOf (highOf m mask x y) j ≡ bitOf x (m + j)
   high-in j h e =
@@ -82,21 +84,21 @@ module _ (m mask x y : ℕ) where
   high-out j h e = high-bit j h ∙ ap (bitXor (bitOf y j)) (apart-out j e) ∙ xor-zero-r (bitOf y j)
 
   -- the low word: its bits below m, and from m on
-  low-bit : (j : ℕ) → j < 32 → bitOf (lowOf m mask x y) j ≡ bitXor (bitOf x j) (bitOf (apart m mask x y * 2 ^ m) j)
+  low-bit : (j : ℕ) → j < 32 → bitOf (lowOf m mask x y) j ≡ bitXor (bitOf x j) (bitOf (swapBits m mask x y * 2 ^ m) j)
   low-bit j h =
-      cut-bit (bitXor x (apart m mask x y * 2 ^ m % 4294967296)) j h
-      ∙ xor-bit x (apart m mask x y * 2 ^ m % 4294967296) j
-      ∙ ap (bitXor (bitOf x j)) (cut-bit (apart m mask x y * 2 ^ m) j h)
+      cut-bit (bitXor x (swapBits m mask x y * 2 ^ m % 4294967296)) j h
+      ∙ xor-bit x (swapBits m mask x y * 2 ^ m % 4294967296) j
+      ∙ ap (bitXor (bitOf x j)) (cut-bit (swapBits m mask x y * 2 ^ m) j h)
 
   low-below : (j : ℕ) → j < 32 → j < m → bitOf (lowOf m mask x y) j ≡ bitOf x j
   low-below j h g =
       let e : m ≡ suc (m - 1 - j) + j = omega arith in
       low-bit j h
-      ∙ ap (bitXor (bitOf x j)) (ap (λ (n : ℕ). bitOf (apart m mask x y * 2 ^ n) j) e ∙ shl-bit-below (apart m mask x y) j (m - 1 - j))
+      ∙ ap (bitXor (bitOf x j)) (ap (λ (n : ℕ). bitOf (swapBits m mask x y * 2 ^ n) j) e ∙ shl-bit-below (swapBits m mask x y) j (m - 1 - j))
       ∙ xor-zero-r (bitOf x j)
 
-  low-from : (i : ℕ) → m + i < 32 → bitOf (lowOf m mask x y) (m + i) ≡ bitXor (bitOf x (m + i)) (bitOf (apart m mask x y) i)
-  low-from i h = low-bit (m + i) h ∙ ap (bitXor (bitOf x (m + i))) (shl-bit (apart m mask x y) m i)
+  low-from : (i : ℕ) → m + i < 32 → bitOf (lowOf m mask x y) (m + i) ≡ bitXor (bitOf x (m + i)) (bitOf (swapBits m mask x y) i)
+  low-from i h = low-bit (m + i) h ∙ ap (bitXor (bitOf x (m + i))) (shl-bit (swapBits m mask x y) m i)
 
   low-in : (i : ℕ) → m + i < 32 → bitOf mask i ≡ 1 → bitOf (lowOf m mask x y) (m + i) ≡ bitOf y i
   low-in i h e =

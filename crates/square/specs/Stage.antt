@@ -7,15 +7,16 @@ use lib.ListN.{getD}
 use Rattle.laws.specs.Choice.{pick}
 
 -- where y differs from x, moved down by m, within the mask
-abbrev pub apart : ℕ → ℕ → ℕ → ℕ → ℕ
-apart m mask x y = bitAnd (bitXor (x / 2 ^ m) y) mask
+abbrev pub swapBits : ℕ → ℕ → ℕ → ℕ → ℕ
+swapBits m mask x y = bitAnd (bitXor (x / 2 ^ m) y) mask
 
--- the two words that a stage makes of x and y, cut to 32 bits: x with the mask's bits of y, moved up by m; y with the bits of x, moved down by m, in the mask's places
+-- the two words that a stage makes of x and y, cut to 32 bits: x with the mask's bits of y, moved up by m;
+-- y with the bits of x, moved down by m, in the mask's places
 abbrev pub lowOf : ℕ → ℕ → ℕ → ℕ → ℕ
-lowOf m mask x y = bitXor x (apart m mask x y * 2 ^ m % 4294967296) % 4294967296
+lowOf m mask x y = bitXor x (swapBits m mask x y * 2 ^ m % 4294967296) % 4294967296
 
 abbrev pub highOf : ℕ → ℕ → ℕ → ℕ → ℕ
-highOf m mask x y = bitXor y (apart m mask x y) % 4294967296
+highOf m mask x y = bitXor y (swapBits m mask x y) % 4294967296
 
 -- row k of what a stage makes of the rows: of rows i and i + 16, the low word at 2 i and the high word at 2 i + 1
 unfoldable pub crossed : ℕ → ℕ → List ℕ → ℕ → ℕ

@@ -1,4 +1,5 @@
--- How the run stood once all stretches are laid down, and what words are left: the lowest cell with something left decides, by the theory's `greedy-short` and `greedy-plans`.
+-- How the run stood once all stretches are laid down, and what words are left:
+-- the lowest cell with something left decides, by the theory's `greedy-short` and `greedy-plans`.
 -- Assumes nothing.
 use mathlib.Core.Path.{_≡_, refl, sym, ap, _∙_}
 use mathlib.Core.Bool.{Bool}
@@ -17,17 +18,18 @@ use Rattle.theory.specs.Net.{Net}
 use Rattle.theory.specs.Greedy.{reserved, noRoom, planned, greedy}
 use Rattle.theory.specs.Positions.{leftAt, needAt, takes, shortCell}
 use Rattle.theory.proofs.Positions.{greedy-plans, greedy-short}
-use Rattle.words.specs.Words.{wordAt, wordsOf, outWords}
-use Rattle.stretches.specs.declared.Stood.the-variants.{Planned, NoRoom}
-use Rattle.stretches.specs.Stretches.{netBy, stoodOf}
+use Rattle.words.specs.Words.{wordAt, outWords}
+use Rattle.planner.specs.Plan.{answerOf}
+use Rattle.planner.specs.declared.PlanAnswer.the-variants.{Done, NoRoom}
+use Rattle.stretches.specs.Stretches.{laidTo, leftTo}
+use Rattle.site.specs.Reach.{netBy}
 
 module _ (usable : ℕ → Bool) (rows loads : List ℕ) (cells n : ℕ) (fits : cells ≤ length loads) (words₀ words left : List ℕ) (room : n ≤ length words₀)
-    (is-words : words ≡ sets words₀ 0 (wordsOf cells n (takes (netBy usable rows loads cells n))))
-    (is-left : left ≡ sets loads 0 (listOf (leftAt (netBy usable rows loads cells n) n) cells))
-    (need : ℕ) (is-need : need ≡ wordOf (needAt (netBy usable rows loads cells n) n) cells)
+    (is-words : words ≡ laidTo (netBy cells n loads rows usable) n words₀) (is-left : left ≡ leftTo (netBy cells n loads rows usable) n loads)
+    (need : ℕ) (is-need : need ≡ wordOf (needAt (netBy cells n loads rows usable) n) cells)
     (cell : ℕ) (is-cell : cell ≡ first (bitAt need) 0 cells) where
   abbrev s : Net
-  s = netBy usable rows loads cells n
+  s = netBy cells n loads rows usable
 
   cell-is : shortCell s cells ≡ cell
   cell-is =
@@ -41,11 +43,11 @@ module _ (usable : ℕ → Bool) (rows loads : List ℕ) (cells n : ℕ) (fits :
     no-room : greedy s ≡ noRoom cell (leftAt s n cell)
     no-room = greedy-short s (omega (arith, cell-is)) ∙ ap (λ c. noRoom c (leftAt s n c)) cell-is
 
-    pub refused : (m : ℕ) → m ≡ getD left cell 0 → NoRoom (cell + 1) m ≡ stoodOf (greedy (netBy usable rows loads cells n))
+    pub refused : (m : ℕ) → m ≡ getD left cell 0 → NoRoom (cell + 1) m ≡ answerOf (greedy (netBy cells n loads rows usable))
     refused m e =
-        ap (NoRoom (cell + 1)) (e ∙ ap (λ x. getD x cell 0) is-left ∙ sets-at (leftAt s n) cells loads cell short fits) ∙ sym (ap stoodOf no-room)
+        ap (NoRoom (cell + 1)) (e ∙ ap (λ x. getD x cell 0) is-left ∙ sets-at (leftAt s n) cells loads cell short fits) ∙ sym (ap answerOf no-room)
 
-    pub cleared : (w : List ℕ) → w ≡ sets words 0 (listOf (λ _. 0) n) → w ≡ outWords cells n (greedy (netBy usable rows loads cells n)) ++ drop n words₀
+    pub cleared : (w : List ℕ) → w ≡ sets words 0 (listOf (λ _. 0) n) → w ≡ outWords cells n (greedy (netBy cells n loads rows usable)) ++ drop n words₀
     cleared w e =
         sets-next (wordAt cells (takes s)) (λ _. 0) (λ _. 0) n words₀ words w room is-words e (λ k l g. refl)
         ∙ front (λ _. 0)
@@ -55,10 +57,10 @@ module _ (usable : ℕ → Bool) (rows loads : List ℕ) (cells n : ℕ) (fits :
     abbrev plan : (t : List ℕ) × (greedy s ≡ planned t) × ((i k : ℕ) → i < cells → k < n → reserved n t i k ≡ takes s i k)
     plan = greedy-plans s (omega (arith, cell-is))
 
-    pub stood : Planned ≡ stoodOf (greedy (netBy usable rows loads cells n))
-    stood = sym (ap stoodOf (plan .1))
+    pub stood : Done ≡ answerOf (greedy (netBy cells n loads rows usable))
+    stood = sym (ap answerOf (plan .1))
 
-    pub laid-down : words ≡ outWords cells n (greedy (netBy usable rows loads cells n)) ++ drop n words₀
+    pub laid-down : words ≡ outWords cells n (greedy (netBy cells n loads rows usable)) ++ drop n words₀
     laid-down =
         is-words
         ∙ front (wordAt cells (takes s))

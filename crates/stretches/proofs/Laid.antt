@@ -1,16 +1,17 @@
--- What is laid down before position k, and what a stretch more does to it: for as long as the word stays, each usable position takes its cells (theory's `steady-takes`).
+-- What is laid down before position k, and what a stretch more does to it:
+-- for as long as the word stays, each usable position takes its cells (theory's `steady-takes`).
 --     begun                    nothing is laid down, and the cells have their loads left
 --     run-most, run-some       a stretch is not empty, and ends where the positions do
 --     more                     after a stretch, the same is so of the position where it ends; more-all: where no position is blocked
---     needed, need-all         the word of the cells in need, by what the theory says that they have left, and after a stretch
+--     needed                   the word of the cells in need, by what the theory says that they have left
 -- Assumes nothing.
 use mathlib.Core.Path.{_≡_, refl, sym, ap, ap₂, _∙_}
-use mathlib.Core.Bool.{Bool, true, _&&_, not}
+use mathlib.Core.Bool.{Bool, true, _&&_}
 use mathlib.Core.List.{List}
 use Prim.Native.Nat.{ℕ, _+_, _-_, _≤_, _<_}
 use native.Mathlib.Omega.{arith}
 use native.Mathlib.Nat.{le-refl}
-use lib.Dec.{ltb, eqb}
+use lib.Dec.{ltb}
 use lib.ListN.{length, getD}
 use lib.Seq.{sets, length-sets}
 use borrow.Author.Tests.{ltb-true}
@@ -25,38 +26,38 @@ use Rattle.theory.specs.Positions.{chosen, leftAt, needAt, takes}
 use Rattle.theory.proofs.Chosen.{chosen-needs, chosen-same}
 use Rattle.theory.proofs.Positions.{left-start}
 use Rattle.theory.proofs.Steady.{openTo, steady-left, steady-takes}
-use Rattle.words.specs.Words.{wordAt, wordsOf}
-use Rattle.stretches.specs.Stretches.{netBy, inNeed, shortest, spent, endedBy}
+use Rattle.words.specs.Words.{wordAt}
+use Rattle.stretches.specs.Stretches.{laidTo, leftTo, inNeed, shortest, spent}
 use Rattle.stretches.proofs.Runs.{shortest-most, shortest-under, shortest-some}
-use Rattle.stretches.proofs.Spends.{need-next}
+use Rattle.site.specs.Reach.{netBy}
 
 -- The words of the positions below k are laid down, and `left` is what the cells have left before k.
 pub record Laid (s : Net) (words₀ left₀ : List ℕ) (k : ℕ) (words left : List ℕ) : Type 0 where
   pub within : k ≤ s .width
   pub as-long : length words ≡ length words₀
   pub as-many : length left ≡ length left₀
-  pub lain : words ≡ sets words₀ 0 (wordsOf (s .cells) k (takes s))
-  pub kept : left ≡ sets left₀ 0 (listOf (leftAt s k) (s .cells))
+  pub lain : words ≡ laidTo s k words₀
+  pub kept : left ≡ leftTo s k left₀
 
-pub begun : (usable : ℕ → Bool) (rows words left : List ℕ) (cells n : ℕ) → cells ≤ length left → Laid (netBy usable rows left cells n) words left 0 words left
+pub begun : (usable : ℕ → Bool) (rows words left : List ℕ) (cells n : ℕ) → cells ≤ length left → Laid (netBy cells n left rows usable) words left 0 words left
 begun usable rows words left cells n h = record {
   within = omega arith;
   as-long = refl;
   as-many = refl;
   lain = sets-none _ words;
-  kept = sets-same (leftAt (netBy usable rows left cells n) 0) cells left h (λ i l. sym (left-start (netBy usable rows left cells n) i));
+  kept = sets-same (leftAt (netBy cells n left rows usable) 0) cells left h (λ i l. sym (left-start (netBy cells n left rows usable) i));
 }
 
 module _ (usable : ℕ → Bool) (rows words₀ left₀ : List ℕ) (cells n k : ℕ) (words left : List ℕ)
-    (laid : Laid (netBy usable rows left₀ cells n) words₀ left₀ k words left) (fits : cells ≤ length left₀) (need : ℕ)
+    (laid : Laid (netBy cells n left₀ rows usable) words₀ left₀ k words left) (fits : cells ≤ length left₀) (need : ℕ)
     (is-need : need ≡ wordOf (inNeed left) cells) where
   abbrev s : Net
-  s = netBy usable rows left₀ cells n
+  s = netBy cells n left₀ rows usable
 
   left-is : (i : ℕ) → i < cells → getD left i 0 ≡ leftAt s k i
   left-is i l = ap (λ x. getD x i 0) (laid .kept) ∙ sets-at (leftAt s k) cells left₀ i l fits
 
-  pub needed : need ≡ wordOf (needAt (netBy usable rows left₀ cells n) k) cells
+  pub needed : need ≡ wordOf (needAt (netBy cells n left₀ rows usable) k) cells
   needed = is-need ∙ word-eq (inNeed left) (needAt s k) cells (λ i l. ap (ltb 0) (left-is i l))
 
   -- one stretch, from what its functions ensure
@@ -90,10 +91,10 @@ module _ (usable : ℕ → Bool) (rows words₀ left₀ : List ℕ) (cells n k :
     enough i l e = omega (arith, is-run, left-is i l, shortest-under (chosen (bitIn rows) (bitAt need)) (λ i. getD left i 0) (n - k) cells i l (same i l ∙ e))
 
     -- a stretch over m positions, of which no more than the run are usable
-    pub more : (m : ℕ) → k + m ≤ n → openTo (netBy usable rows left₀ cells n) k m ≤ run → (words′ left′ : List ℕ)
+    pub more : (m : ℕ) → k + m ≤ n → openTo (netBy cells n left₀ rows usable) k m ≤ run → (words′ left′ : List ℕ)
         → words′ ≡ sets words k (listOf (λ d. pick (usable (k + d)) word 0) m)
-        → left′ ≡ sets left 0 (listOf (spent left word (openTo (netBy usable rows left₀ cells n) k m)) cells)
-        → Laid (netBy usable rows left₀ cells n) words₀ left₀ (k + m) words′ left′
+        → left′ ≡ sets left 0 (listOf (spent left word (openTo (netBy cells n left₀ rows usable) k m)) cells)
+        → Laid (netBy cells n left₀ rows usable) words₀ left₀ (k + m) words′ left′
     more m inside few words′ left′ e d =
         let still : (i : ℕ) → i < cells → choice i ≡ true → openTo s k m ≤ leftAt s k i = λ i l t. omega (arith, enough i l t) in record {
           within = inside;
@@ -114,26 +115,22 @@ module _ (usable : ℕ → Bool) (rows words₀ left₀ : List ℕ) (cells n k :
         }
 
 -- where no position is blocked, the stretch is the run
-module _ (rows words₀ left₀ : List ℕ) (cells n k : ℕ) (words left : List ℕ) (laid : Laid (netBy unblocked rows left₀ cells n) words₀ left₀ k words left)
+module _ (rows words₀ left₀ : List ℕ) (cells n k : ℕ) (words left : List ℕ) (laid : Laid (netBy cells n left₀ rows unblocked) words₀ left₀ k words left)
     (fits : cells ≤ length left₀) (need : ℕ) (is-need : need ≡ wordOf (inNeed left) cells) (below : k < n) (word run : ℕ)
     (is-word : word ≡ wordOf (chosen (bitIn rows) (bitAt need)) cells)
     (is-run : run ≡ shortest (chosen (bitIn rows) (bitAt need)) (λ i. getD left i 0) (n - k) cells) where
   pub more-all : (words′ left′ : List ℕ) → words′ ≡ sets words k (listOf (λ _. word) run)
       → left′ ≡ sets left 0 (listOf (spent left word run) cells)
-      → Laid (netBy unblocked rows left₀ cells n) words₀ left₀ (k + run) words′ left′
+      → Laid (netBy cells n left₀ rows unblocked) words₀ left₀ (k + run) words′ left′
   more-all words′ left′ e d =
       more unblocked rows words₀ left₀ cells n k words left laid fits need is-need below word run is-word is-run run
       (run-most unblocked rows words₀ left₀ cells n k words left laid fits need is-need below word run is-word is-run)
       (omega (arith, count-all run)) words′ left′ e
       (d ∙ ap (λ x. sets left 0 (listOf (spent left word x) cells)) (sym (count-all run)))
 
-  pub need-all : (ended need′ : ℕ) (left′ : List ℕ) → cells ≤ 32 → ended ≡ wordOf (endedBy (chosen (bitIn rows) (bitAt need)) left run) cells
-      → left′ ≡ sets left 0 (listOf (spent left word run) cells) → need′ ≡ wordOf (λ b. bitAt need b && not (bitAt ended b)) 32 → need′ ≤ need
-      → need′ ≡ wordOf (inNeed left′) cells
-  need-all ended need′ left′ small e d g h =
-      let taken : (i : ℕ) → i < cells → bitAt word i ≡ chosen (bitIn rows) (bitAt need) i
-      = λ i l. ap (λ x. bitAt x i) is-word ∙ word-bit (chosen (bitIn rows) (bitAt need)) cells i l in
-      need-next left left′ cells need word run ended need′ small (omega (arith, laid .as-many)) is-need d
-      (e ∙ word-eq (endedBy (chosen (bitIn rows) (bitAt need)) left run) (endedBy (bitAt word) left run) cells (λ i l. ap (λ t. t && eqb (getD left i 0) run) (sym (taken i l))))
-      (λ i l t. omega (arith, is-run, shortest-under (chosen (bitIn rows) (bitAt need)) (λ i. getD left i 0) (n - k) cells i l (sym (taken i l) ∙ t)))
-      g h
+  -- no cell of the word runs out before
+  pub run-under : (i : ℕ) → i < cells → bitAt word i ≡ true → run ≤ getD left i 0
+  run-under i l t =
+      let taken : bitAt word i ≡ chosen (bitIn rows) (bitAt need) i
+      = ap (λ x. bitAt x i) is-word ∙ word-bit (chosen (bitIn rows) (bitAt need)) cells i l in
+      omega (arith, is-run, shortest-under (chosen (bitIn rows) (bitAt need)) (λ i. getD left i 0) (n - k) cells i l (sym taken ∙ t))

@@ -1,31 +1,30 @@
--- A stretch worked out cell by cell. Once the cells below i had their turn, those from i on are open that are in need and clash with none taken. So cell i is taken exactly
--- where it is open; the cells of its clash row are then open no more, and else nothing changes. With each cell taken, the run gets no longer than what that has left.
+-- A stretch worked out cell by cell. Once the cells below i had their turn, those from i on are open that are in need and clash with none taken.
+-- So cell i is taken exactly where it is open; the cells of its clash row are then open no more, and else nothing changes.
+-- With each cell taken, the run gets no longer than what that has left.
 --     unturned, turn-more, turned-all     at first, one cell more, and at the end, where the cells that are open are in `rest`
 -- Assumes nothing.
 use mathlib.Core.Path.{_≡_, refl, sym, ap, ap₂, _∙_}
 use mathlib.Core.Bool.{Bool, true, false, _&&_, _||_, not, and-true, and-false, or-false}
 use mathlib.Core.List.{List}
-use mathlib.Core.Logic.{⊎-elim}
 use Prim.Native.Nat.{ℕ, suc, _+_, _-_, _^_, _≤_, _<_, min}
 use native.Mathlib.Decide.{le-ind}
 use native.Mathlib.Omega.{arith}
-use native.Mathlib.Nat.{add-zero, zero-add, le-refl}
+use native.Mathlib.Nat.{add-zero, le-refl}
 use native.Mathlib.Numerals.{add-one}
-use lib.Bits.{bitAnd, bitOr, or-zero-r}
+use lib.Bits.{bitAnd, bitOr}
 use lib.Count.{trailingZeros}
-use lib.Dec.{ltb, leb, eqb}
+use lib.Dec.{leb}
 use lib.ListN.{getD}
-use borrow.Author.Tests.{le-leb, eq-eqb, ne-eqb, ltb-true, ltb-false}
+use borrow.Author.Tests.{le-leb}
 use Rattle.laws.specs.Bits.{bitAt, bitIn, wordOf}
 use Rattle.laws.specs.Choice.{pick}
 use Rattle.laws.specs.Sum.{any}
-use Rattle.laws.proofs.Choice.{cases}
 use Rattle.laws.proofs.Upward.{fromOn, walk-done, walk-from, walk-here, walk-passed, walk-off}
-use Rattle.laws.proofs.Words.{word-zero, word-suc, word-more, word-bit, word-lt, none-word, bits-eq}
+use Rattle.laws.proofs.Words.{word-zero, word-suc, word-more, word-bit, word-lt, bits-eq}
 use Rattle.theory.specs.Positions.{chosen}
 use Rattle.theory.proofs.Chosen.{chosen-is}
-use Rattle.stretches.specs.Stretches.{shortest, endedBy}
-use Rattle.stretches.proofs.Runs.{shortest-none, shortest-suc, shortest-under}
+use Rattle.stretches.specs.Stretches.{shortest}
+use Rattle.stretches.proofs.Runs.{shortest-none, shortest-suc}
 
 module _ (rows left : List ℕ) (need most : ℕ) where
   -- whether some cell below i that is taken clashes with b
@@ -37,10 +36,9 @@ module _ (rows left : List ℕ) (need most : ℕ) where
   opened i b = bitAt need b && not (any (λ m. bitIn rows m b && chosen (bitIn rows) (bitAt need) m) i)
 
   -- the cells below i had their turn
-  pub record Turned (i word run ended : ℕ) : Type 0 where
+  pub record Turned (i word run : ℕ) : Type 0 where
     pub taken : word ≡ wordOf (chosen (bitIn rows) (bitAt need)) i
     pub lasts : run ≡ shortest (chosen (bitIn rows) (bitAt need)) (λ j. getD left j 0) most i
-    pub ends : ended ≡ wordOf (endedBy (chosen (bitIn rows) (bitAt need)) left run) i
 
   abbrev chose : ℕ → Bool
   chose = chosen (bitIn rows) (bitAt need)
@@ -65,27 +63,26 @@ module _ (rows left : List ℕ) (need most : ℕ) where
   same-word : (p : ℕ → Bool) (i : ℕ) → p i ≡ false → wordOf p i ≡ wordOf p (suc i)
   same-word p i e = sym (word-suc p i ∙ ap (λ u. wordOf p i + pick u (2 ^ i) 0) e ∙ add-zero (wordOf p i))
 
-  past : (i word run ended : ℕ) → chose i ≡ false → Turned i word run ended → Turned (suc i) word run ended
-  past i word run ended none t = record {
+  past : (i word run : ℕ) → chose i ≡ false → Turned i word run → Turned (suc i) word run
+  past i word run none t = record {
     taken = t .taken ∙ same-word chose i none;
     lasts = t .lasts ∙ sym (shortest-suc chose has most i ∙ ap (λ u. pick u (min (shortest chose has most i) (has i)) (shortest chose has most i)) none);
-    ends = t .ends ∙ same-word (endedBy chose left run) i (ap (λ u. u && eqb (has i) run) none);
   }
 
   -- nor any up to j
-  module _ (i word run ended : ℕ) (t : Turned i word run ended) where
-    on : (j : ℕ) → i ≤ j → ((b : ℕ) → i ≤ b → b < j → opened i b ≡ false) → Turned j word run ended × ((b : ℕ) → opened j b ≡ opened i b)
+  module _ (i word run : ℕ) (t : Turned i word run) where
+    on : (j : ℕ) → i ≤ j → ((b : ℕ) → i ≤ b → b < j → opened i b ≡ false) → Turned j word run × ((b : ℕ) → opened j b ≡ opened i b)
     on j l none =
-        le-ind (λ (m : ℕ). m ≤ j → Turned m word run ended × ((b : ℕ) → opened m b ≡ opened i b)) (λ _. (t, λ b. refl))
+        le-ind (λ (m : ℕ). m ≤ j → Turned m word run × ((b : ℕ) → opened m b ≡ opened i b)) (λ _. (t, λ b. refl))
         (λ m g go h.
         let u = go (omega arith) in
         let miss : chose m ≡ false = sym (here m) ∙ u .1 m ∙ none m g h in
-        (past m word run ended miss (u .0), λ b. past-open m b miss ∙ u .1 b))
+        (past m word run miss (u .0), λ b. past-open m b miss ∙ u .1 b))
         j l (le-refl j)
 
   -- ---- cell i is taken
 
-  module _ (i word run ended : ℕ) (is : chose i ≡ true) (t : Turned i word run ended) where
+  module _ (i word run : ℕ) (is : chose i ≡ true) (t : Turned i word run) where
     took-open : (b : ℕ) → opened (i + 1) b ≡ (opened i b && not (bitIn rows i b))
     took-open b =
         ap (λ u. bitAt need b && not u) (ap (λ n. barred n b) (add-one i) ∙ barred-more i b ∙ ap (λ u. barred i b || (bitIn rows i b && u)) is)
@@ -97,77 +94,41 @@ module _ (rows left : List ℕ) (need most : ℕ) where
         apart true false true = refl
         apart true false false = refl
 
-    -- those that end with a run that is no shorter, or with what cell i has left
-    still : (m : ℕ) → m ≡ run → bitOr ended (pick (eqb (has i) m) (2 ^ i) 0) ≡ wordOf (endedBy chose left m) (i + 1)
-    still m e =
-        ap₂ (λ x u. bitOr x (pick u (2 ^ i) 0)) (t .ends ∙ ap (λ q. wordOf (endedBy chose left q) i) (sym e)) (sym (ap (λ u. u && eqb (has i) m) is))
-        ∙ word-more (endedBy chose left m) i
-
-    only : has i < run → 2 ^ i ≡ wordOf (endedBy chose left (has i)) (i + 1)
-    only l =
-        sym (ap (wordOf (endedBy chose left (has i))) (add-one i)
-        ∙ word-suc (endedBy chose left (has i)) i
-        ∙ ap₂ (λ x u. x + pick u (2 ^ i) 0) (none-word (endedBy chose left (has i)) i (λ b g. more b g (chose b) refl)) (ap₂ (λ x y. x && y) is (eq-eqb (has i) (has i) refl))
-        ∙ zero-add (2 ^ i))
-      where
-        more : (b : ℕ) → b < i → (u : Bool) → chose b ≡ u → (u && eqb (has b) (has i)) ≡ false
-        more b g true e = ne-eqb (has b) (has i) (λ q. omega (arith, t .lasts, shortest-under chose has most i b g e))
-        more b g false e = refl
-
-    took : (run′ ended′ : ℕ) → run′ ≡ min run (has i)
-        → ended′ ≡ pick (ltb (has i) run) (2 ^ i) (pick (eqb (has i) run) (bitOr ended (2 ^ i)) ended) → Turned (i + 1) (bitOr word (2 ^ i)) run′ ended′
-    took run′ ended′ e d = record {
+    took : (run′ : ℕ) → run′ ≡ min run (has i) → Turned (i + 1) (bitOr word (2 ^ i)) run′
+    took run′ e = record {
       taken = ap₂ (λ w u. bitOr w (pick u (2 ^ i) 0)) (t .taken) (sym is) ∙ word-more chose i;
       lasts =
           e ∙ ap (λ x. min x (has i)) (t .lasts)
           ∙ sym (ap (shortest chose has most) (add-one i) ∙ shortest-suc chose has most i
           ∙ ap (λ u. pick u (min (shortest chose has most i) (has i)) (shortest chose has most i)) is);
-      ends = d ∙ ⊎-elim (λ h. less h) (λ h. ap (λ u. pick u (2 ^ i) (pick (eqb (has i) run) (bitOr ended (2 ^ i)) ended)) h ∙ nomore h) (cases (ltb (has i) run));
     }
-      where
-        less : ltb (has i) run ≡ true → pick (ltb (has i) run) (2 ^ i) (pick (eqb (has i) run) (bitOr ended (2 ^ i)) ended) ≡ wordOf (endedBy chose left run′) (i + 1)
-        less h =
-            let l = ltb-true (has i) run h in
-            let q : has i ≡ run′ = omega arith in
-            ap (λ u. pick u (2 ^ i) (pick (eqb (has i) run) (bitOr ended (2 ^ i)) ended)) h ∙ only l ∙ ap (λ m. wordOf (endedBy chose left m) (i + 1)) q
-
-        join : (u : Bool) → pick u (bitOr ended (2 ^ i)) ended ≡ bitOr ended (pick u (2 ^ i) 0)
-        join true = refl
-        join false = sym (or-zero-r ended)
-
-        nomore : ltb (has i) run ≡ false → pick (eqb (has i) run) (bitOr ended (2 ^ i)) ended ≡ wordOf (endedBy chose left run′) (i + 1)
-        nomore h =
-            let l = ltb-false (has i) run h in
-            let q : run′ ≡ run = omega arith in
-            join (eqb (has i) run) ∙ ap (λ m. bitOr ended (pick (eqb (has i) m) (2 ^ i) 0)) (sym q) ∙ still run′ q
 
   -- ---- the loop
 
-  pub unturned : (cells : ℕ) → need < 2 ^ cells → Turned 0 0 most 0 × (need ≡ wordOf (fromOn (opened 0) 0) cells)
+  pub unturned : (cells : ℕ) → need < 2 ^ cells → Turned 0 0 most × (need ≡ wordOf (fromOn (opened 0) 0) cells)
   unfolding any
   unturned cells h = (
-    record { taken = sym (word-zero chose); lasts = shortest-none chose has most; ends = sym (word-zero (endedBy chose left most)) },
+    record { taken = sym (word-zero chose); lasts = shortest-none chose has most },
     bits-eq (fromOn (opened 0) 0) need cells h (λ b l. sym (ap (λ u. u && opened 0 b) (le-leb 0 b (omega arith)) ∙ and-true (bitAt need b))),
   )
 
-  module _ (cells i word run ended rest : ℕ) (t : Turned i word run ended) (is-rest : rest ≡ wordOf (fromOn (opened i) i) cells) where
-    pub turned-all : rest ≡ 0 → i ≤ cells → Turned cells word run ended
-    turned-all done l = on i word run ended t cells l (λ b g h. walk-done (opened i) cells i rest is-rest done b g h) .0
+  module _ (cells i word run rest : ℕ) (t : Turned i word run) (is-rest : rest ≡ wordOf (fromOn (opened i) i) cells) where
+    pub turned-all : rest ≡ 0 → i ≤ cells → Turned cells word run
+    turned-all done l = on i word run t cells l (λ b g h. walk-done (opened i) cells i rest is-rest done b g h) .0
 
     module _ (some : rest ≡ 0 → ⊥) (small : cells ≤ 32) where
       abbrev at : ℕ
       at = trailingZeros 32 rest
 
-      up : Turned at word run ended × ((b : ℕ) → opened at b ≡ opened i b)
-      up = on i word run ended t at (walk-from (opened i) cells i rest is-rest some small) (walk-passed (opened i) cells i rest is-rest some small)
+      up : Turned at word run × ((b : ℕ) → opened at b ≡ opened i b)
+      up = on i word run t at (walk-from (opened i) cells i rest is-rest some small) (walk-passed (opened i) cells i rest is-rest some small)
 
       takes : chose at ≡ true
       takes = sym (here at) ∙ up .1 at ∙ walk-here (opened i) cells i rest is-rest some small
 
-      pub turn-more : (run′ ended′ : ℕ) → run′ ≡ min run (getD left (trailingZeros 32 rest) 0)
-          → ended′ ≡ pick (ltb (getD left (trailingZeros 32 rest) 0) run) (2 ^ trailingZeros 32 rest) (pick (eqb (getD left (trailingZeros 32 rest) 0) run) (bitOr ended (2 ^ trailingZeros 32 rest)) ended)
-          → Turned (trailingZeros 32 rest + 1) (bitOr word (2 ^ trailingZeros 32 rest)) run′ ended′
-      turn-more run′ ended′ e d = took at word run ended takes (up .0) run′ ended′ e d
+      pub turn-more : (run′ : ℕ) → run′ ≡ min run (getD left (trailingZeros 32 rest) 0)
+          → Turned (trailingZeros 32 rest + 1) (bitOr word (2 ^ trailingZeros 32 rest)) run′
+      turn-more run′ e = took at word run takes (up .0) run′ e
 
       pub rest-more : (rest′ : ℕ) → rest′ ≡ wordOf (λ b. bitAt (bitAnd rest (rest - 1)) b && not (bitAt (getD rows (trailingZeros 32 rest) 0) b)) 32
           → rest′ ≤ bitAnd rest (rest - 1) → rest′ ≡ wordOf (fromOn (opened (trailingZeros 32 rest + 1)) (trailingZeros 32 rest + 1)) cells
@@ -178,7 +139,7 @@ module _ (rows left : List ℕ) (need most : ℕ) where
           ∙ word-bit (λ b. bitAt (bitAnd rest (rest - 1)) b && not (bitIn rows at b)) 32 b (omega arith)
           ∙ ap (λ u. u && not (bitIn rows at b)) (ap (λ x. bitAt x b) off ∙ word-bit (fromOn (opened i) (at + 1)) cells b l)
           ∙ both (leb (at + 1) b) (opened i b) (bitIn rows at b)
-          ∙ ap (λ u. leb (at + 1) b && u) (ap (λ u. u && not (bitIn rows at b)) (sym (up .1 b)) ∙ sym (took-open at word run ended takes (up .0) b)))
+          ∙ ap (λ u. leb (at + 1) b && u) (ap (λ u. u && not (bitIn rows at b)) (sym (up .1 b)) ∙ sym (took-open at word run takes (up .0) b)))
         where
           both : (a o r : Bool) → ((a && o) && not r) ≡ (a && (o && not r))
           both true o r = refl

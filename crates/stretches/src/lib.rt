@@ -1,13 +1,14 @@
 // The greedy plan as words, one for each position with bit i where cell i is reserved there, laid down a stretch at a time.
 //
-// What it costs, for I cells and N positions: which cells a position takes depends only on which cells still have fragments left, and that changes only where a cell
-// takes its last one. So there are at most I + 1 stretches. For each, two loops go over the cells of its word, from one to the next by the bits that are set: one finds
-// them, and how long they last, and one takes that off what they have left. One store a position lays the word down. The local room is a load for each cell.
+// What it costs, for I cells and N positions: which cells a position takes depends only on which cells still have fragments left, and that changes only
+// where a cell takes its last one. So there are at most I + 1 stretches. For each, two loops go over the cells of its word, from one to the next by the bits
+// that are set: one finds them, and how long they last; one takes that off what they have left, and drops those with nothing left. One store a position lays
+// the word down. The local room is a load for each cell.
 ghost use mathlib.Core.Path.{_≡_};
+ghost use mathlib.Core.Bool.{true};
 ghost use mathlib.Core.List.{_++_};
-ghost use Prim.Native.Nat.{_-_, _^_, _≤_, _<_, min};
-ghost use lib.Bits.{bitOr};
-ghost use lib.Dec.{ltb, eqb};
+ghost use Prim.Native.Nat.{ℕ, _-_, _^_, _≤_, _<_, min};
+ghost use lib.Dec.{eqb};
 ghost use lib.ListN.{length, getD, drop};
 ghost use lib.Seq.{sets};
 ghost use Rattle.laws.specs.Bits.{bitAt, bitIn, wordOf};
@@ -15,26 +16,21 @@ ghost use Rattle.laws.specs.Choice.{pick};
 ghost use Rattle.laws.specs.Part.{listOf};
 ghost use Rattle.theory.specs.Net.{unblocked};
 ghost use Rattle.theory.specs.Greedy.{greedy};
-ghost use Rattle.theory.specs.Positions.{chosen, leftAt, needAt, takes};
-ghost use Rattle.site.specs.Reach.{netIn};
-ghost use Rattle.words.specs.Words.{wordsOf, outWords};
-ghost use Rattle.stretches.specs.Stretches.{shortest, spent, endedBy, stoodOf};
+ghost use Rattle.theory.specs.Positions.{chosen, needAt};
+ghost use Rattle.words.specs.Words.{outWords};
+ghost use Rattle.planner.specs.Plan.{answerOf};
+ghost use Rattle.stretches.specs.Stretches.{laidTo, leftTo, inNeed, shortest, spent};
+ghost use Rattle.site.specs.Reach.{netBy};
+use planner::PlanAnswer;
 use words::apart;
 use words::lay;
 use words::loads::loaded_in;
 use words::lowest;
 
-// How a run stood at its end: planned, or the number of the cell that found no room and how many fragments it is short.
-pub enum Stood {
-    Planned,
-    NoRoom(usize, usize),
-}
-
-// A stretch: the word of its positions, for how many it stays, and the cells of it that then have nothing left.
+// A stretch: the word of its positions, and for how many it stays.
 struct Stretch {
     word: u32,
     run: usize,
-    ended: u32,
 }
 
 // The run, or what a cell has left where that is less.
@@ -48,75 +44,71 @@ fn least(run: usize, left: u16) -> usize
     run
 }
 
-// The cells that end with the run, and a cell more: it alone, where it has less left; it too, where it has as much.
-fn ending(ended: u32, left: u16, run: usize, bit: u32) -> u32
-    ensures { λ r. ⌜ r ≡ pick (ltb left run) bit (pick (eqb left run) (bitOr ended bit) ended) ⌝ }
-{
-    let most = left as usize;
-    if most < run {
-        return bit;
-    }
-    if most == run {
-        return ended | bit;
-    }
-    ended
-}
-
 // The stretch that begins where these cells, of so many, are in need: the lowest is taken, then the lowest of those that do not clash with it, and so on.
 fn stretch_of(need: u32, left: &[u16], clash: &[u32; 32], cells: usize, most: usize) -> Stretch
     requires { ⌜ (cells ≤ 32) × (cells ≤ length (now left)) × (need < 2 ^ cells) ⌝ }
     ensures word { λ r. ⌜ r .word ≡ wordOf (chosen (bitIn (now (clash .entry))) (bitAt need)) cells ⌝ }
     ensures run { λ r. ⌜ r .run ≡ shortest (chosen (bitIn (now (clash .entry))) (bitAt need)) (λ i. getD (now (left .entry)) i 0) most cells ⌝ }
-    ensures ended { λ r. ⌜ r .ended ≡ wordOf (endedBy (chosen (bitIn (now (clash .entry))) (bitAt need)) (now (left .entry)) (r .run)) cells ⌝ }
 {
     let mut word: u32 = 0;
     let mut run = most;
-    let mut ended: u32 = 0;
     let mut rest = need;
     while rest != 0 {
         let i = u32::trailing_zeros(rest) as usize;
-        let bit = 1u32 << i;
-        ended = ending(ended, left[i], run, bit);
         run = least(run, left[i]);
-        word = word | bit;
+        word = word | (1 << i);
         rest = apart(rest & (rest - 1), clash[i]);
     }
     Stretch {
         word: word,
         run: run,
-        ended: ended,
     }
 }
 
-// What is left after a run.
+// What is left after a run, which is no longer than that.
 fn less(left: u16, run: usize) -> u16
+    requires { ⌜ run ≤ left ⌝ }
     ensures { λ r. ⌜ r ≡ left - run ⌝ }
 {
-    if run < left as usize {
-        return left - run as u16;
+    left - run as u16
+}
+
+// The bit of a cell that has nothing left, else 0.
+fn emptied(left: u16, bit: u32) -> u32
+    ensures { λ r. ⌜ r ≡ pick (eqb left 0) bit 0 ⌝ }
+{
+    if left == 0 {
+        return bit;
     }
     0
 }
 
-// Takes a run off what each cell of the word has left.
-fn subtract(left: &mut [u16], word: u32, run: usize, cells: usize)
+// Takes a run off what each cell of the word has left, and gives, of the cells in need, those that still are.
+fn subtract(left: &mut [u16], word: u32, run: usize, need: u32, cells: usize) -> u32
     requires { ⌜ (cells ≤ 32) × (cells ≤ length (now left)) × (word < 2 ^ cells) ⌝ }
-    ensures { λ _. ⌜ now (left .exit) ≡ sets (now (left .entry)) 0 (listOf (spent (now (left .entry)) word run) cells) ⌝ }
+    requires { ⌜ need ≡ wordOf (inNeed (now left)) cells ⌝ }
+    requires { ⌜ ((i : ℕ) → i < cells → bitAt word i ≡ true → run ≤ getD (now left) i 0) ⌝ }
+    ensures left { λ _. ⌜ now (left .exit) ≡ sets (now (left .entry)) 0 (listOf (spent (now (left .entry)) word run) cells) ⌝ }
+    ensures need { λ r. ⌜ r ≡ wordOf (inNeed (now (left .exit))) cells ⌝ }
 {
+    let mut still = need;
     let mut rest = word;
     while rest != 0 {
         let i = u32::trailing_zeros(rest) as usize;
-        left[i] = less(left[i], run);
+        let has = less(left[i], run);
+        left[i] = has;
+        still = apart(still, emptied(has, 1 << i));
         rest = rest & (rest - 1);
     }
+    still
 }
 
 // Lays the words of n positions down, stretch after stretch, leaves what each cell has left at the end, and gives the word of the cells that are then in need.
 fn lay_all(words: &mut [u32], left: &mut [u16], clash: &[u32; 32], cells: usize, n: usize) -> u32
     requires { ⌜ (cells ≤ 32) × (cells ≤ length (now left)) × (n ≤ length (now words)) ⌝ }
-    ensures need { λ r. ⌜ r ≡ wordOf (needAt (netIn cells n (now (left .entry)) (bitIn (now (clash .entry))) unblocked) n) cells ⌝ }
-    ensures words { λ _. ⌜ now (words .exit) ≡ sets (now (words .entry)) 0 (wordsOf cells n (takes (netIn cells n (now (left .entry)) (bitIn (now (clash .entry))) unblocked))) ⌝ }
-    ensures left { λ _. ⌜ now (left .exit) ≡ sets (now (left .entry)) 0 (listOf (leftAt (netIn cells n (now (left .entry)) (bitIn (now (clash .entry))) unblocked) n) cells) ⌝ }
+    ensures need { λ r. ⌜ r ≡ wordOf (needAt (netBy cells n (now (left .entry)) (now (clash .entry)) unblocked) n) cells ⌝ }
+    ensures words { λ _. ⌜ now (words .exit) ≡ laidTo (netBy cells n (now (left .entry)) (now (clash .entry)) unblocked) n (now (words .entry)) ⌝ }
+    ensures left { λ _. ⌜ now (left .exit) ≡ leftTo (netBy cells n (now (left .entry)) (now (clash .entry)) unblocked) n (now (left .entry)) ⌝ }
 {
     let mut need = loaded_in(left, cells);
     let mut k: usize = 0;
@@ -125,8 +117,7 @@ fn lay_all(words: &mut [u32], left: &mut [u16], clash: &[u32; 32], cells: usize,
         let word = s.word;
         let run = s.run;
         lay(words, k, run, word);
-        subtract(left, word, run, cells);
-        need = apart(need, s.ended);
+        need = subtract(left, word, run, need, cells);
         k = k + run;
     }
     need
@@ -140,18 +131,18 @@ fn left_of(left: &[u16], i: usize) -> u16
     left[i]
 }
 
-// The greedy plan of n positions as words: how the run stood, and the words in the first n places, which are 0 where a cell found no room. What stands past them is as
-// it was. Bit b of row a of `clash` says that the cells a and b clash; it is asked with the lower cell's row.
+// The greedy plan of n positions as words: the planner's answer, and the words in the first n places, which are 0 where a cell found no room. What stands
+// past them is as it was. Bit b of row a of `clash` says that the cells a and b clash; it is asked with the lower cell's row.
 pub fn plan_stretches(
     words: &mut [u32],
     clash: &[u32; 32],
     loads: [u16; 32],
     cells: usize,
     n: usize,
-) -> Stood
+) -> PlanAnswer
     requires { ⌜ (cells ≤ 32) × (n ≤ length (now words)) ⌝ }
-    ensures answer { λ r. ⌜ r ≡ stoodOf (greedy (netIn cells n loads (bitIn (now (clash .entry))) unblocked)) ⌝ }
-    ensures words { λ _. ⌜ now (words .exit) ≡ outWords cells n (greedy (netIn cells n loads (bitIn (now (clash .entry))) unblocked)) ++ drop n (now (words .entry)) ⌝ }
+    ensures answer { λ r. ⌜ r ≡ answerOf (greedy (netBy cells n loads (now (clash .entry)) unblocked)) ⌝ }
+    ensures words { λ _. ⌜ now (words .exit) ≡ outWords cells n (greedy (netBy cells n loads (now (clash .entry)) unblocked)) ++ drop n (now (words .entry)) ⌝ }
 {
     let mut left = loads;
     let need = lay_all(words, &mut left, clash, cells, n);
@@ -160,7 +151,7 @@ pub fn plan_stretches(
         lay(words, 0, n, 0);
         let short = left_of(&left, cell) as usize;
         let number = cell + 1;
-        return Stood::NoRoom(number, short);
+        return PlanAnswer::NoRoom(number, short);
     }
-    Stood::Planned
+    PlanAnswer::Done
 }

@@ -1,4 +1,5 @@
--- The verdict on a table looks at it only within its cells and positions: two tables that agree there have one verdict. Each search of the verdict is the same search.
+-- The verdict on a table looks at it only within its cells and positions: two tables that agree there have one verdict.
+-- Each search of the verdict is the same search.
 -- Assumes nothing.
 use mathlib.Core.Path.{_≡_, sym, ap, ap₂, _∙_}
 use mathlib.Core.Bool.{_&&_, not}
@@ -21,7 +22,8 @@ module _ (s : Net) (res sat : Reserved) (same : (i k : ℕ) → i < s .cells →
       ⊎-elim
       (λ e.
       let l : a < s .cells = ltb-true a (s .cells) e in
-      first-same (λ c. s .clash a c && res c k) (λ c. s .clash a c && sat c k) (a + 1) (s .cells) (omega arith) (λ c g m. ap (λ b. s .clash a c && b) (same c k m h)))
+      first-same (λ c. s .clash a c && res c k) (λ c. s .clash a c && sat c k) (a + 1) (s .cells) (omega arith)
+      (λ c g m. ap (λ b. s .clash a c && b) (same c k m h)))
       (λ e.
       let l : s .cells ≤ a + 1 = omega (arith, ltb-false a (s .cells) e) in
       first-end (λ c. s .clash a c && res c k) (a + 1) (s .cells) l ∙ sym (first-end (λ c. s .clash a c && sat c k) (a + 1) (s .cells) l))

@@ -1,5 +1,6 @@
--- The run by cells is the run by positions, for any problem, whatever positions are usable. What a cell has left before a position is its load less the positions that it took, and
--- less those that were free for it; `row-reserved` says the same of its row in the run by cells, so by the number of cells the two agree.
+-- The run by cells is the run by positions, for any problem, whatever positions are usable. What a cell has left before a position is its load less the
+-- positions that it took, and less those that were free for it; `row-reserved` says the same of its row in the run by cells,
+-- so by the number of cells the two agree.
 --     left-count       what a cell has left is its load less what it took
 --     takes-is         a cell takes a position exactly where it is free there and fewer than its load are taken before it
 --     greedy-plans     where no cell has anything left at the end, the run by cells hands a table back, and it reserves just that

@@ -1,5 +1,6 @@
--- The word is the same while the same cells are in need. A stretch is m positions such that each cell that the first takes has as many fragments left as the stretch has
--- usable positions: no cell runs out before its end, so by induction each usable position takes the first's cells, and a blocked one takes none and changes nothing.
+-- The word is the same while the same cells are in need. A stretch is m positions such that each cell that the first takes has as many fragments left as the
+-- stretch has usable positions: no cell runs out before its end, so by induction each usable position takes the first's cells,
+-- and a blocked one takes none and changes nothing.
 --     steady-takes, steady-left     what the positions of a stretch take, and what it leaves
 -- Assumes nothing.
 use mathlib.Core.Path.{_≡_, refl, sym, ap, ap₂, _∙_}

@@ -1,5 +1,6 @@
--- A row is filled a stretch at a time. What one part leaves of the load goes on into the next (`fill-append`, `unmet-append`), and where there are fragments for every
--- idle position of a part, all of them are reserved (`fill-sure`). For any usable positions u; a part that begins at position k has them as v.
+-- A row is filled a stretch at a time. What one part leaves of the load goes on into the next (`fill-append`, `unmet-append`),
+-- and where there are fragments for every idle position of a part, all of them are reserved (`fill-sure`). For any usable positions u;
+-- a part that begins at position k has them as v.
 --     all-at                                  the bytes of a part with as many fragments as positions
 --     front-none, after-none                  a row of which the first m positions are filled (`front`), and what is left of the load (`after`): none of them
 --     stretch-filled, stretch-left            a stretch more

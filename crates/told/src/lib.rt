@@ -10,16 +10,15 @@ use planfile::PlanRead;
 use planfile::PlanWritten;
 use planner::PlanAnswer;
 use records::ReadAnswer;
+use records::Written;
 use shares::ShareAnswer;
 use sheet::SheetAnswer;
 use sheet::SheetRead;
-use sheet::SheetWritten;
 use site::ClashAnswer;
 use site::Edited;
 use site::Fault;
 use site::Site;
 use sitefile::SiteRead;
-use sitefile::SiteWritten;
 use wordtable::FormAnswer;
 ghost use mathlib.Core.Path.{_≡_};
 ghost use Rattle.site.specs.Given.{faultGiven, clashGiven};
@@ -30,10 +29,9 @@ ghost use Rattle.checker.specs.Given.{checkGiven};
 ghost use Rattle.wordtable.specs.Given.{formGiven};
 ghost use Rattle.mender.specs.Given.{mendGiven};
 ghost use Rattle.shares.specs.Given.{shareGiven};
-ghost use Rattle.records.specs.Given.{readGiven};
-ghost use Rattle.sitefile.specs.Given.{siteWrittenGiven};
+ghost use Rattle.records.specs.Given.{readGiven, writtenGiven};
 ghost use Rattle.planfile.specs.Given.{planWrittenGiven};
-ghost use Rattle.sheet.specs.Given.{sheetGiven, sheetWrittenGiven};
+ghost use Rattle.sheet.specs.Given.{sheetGiven};
 ghost use Rattle.admission.specs.Given.{admitGiven};
 ghost use Rattle.told.specs.Told.{numbered, told, toldEdited, toldSiteRead, toldPlanRead, toldSheetRead};
 
@@ -201,13 +199,13 @@ pub fn read_answer(said: ReadAnswer) -> Answer
     }
 }
 
-pub fn site_written(said: SiteWritten) -> Answer
-    ensures { λ r. ⌜ r ≡ told (siteWrittenGiven said) ⌝ }
+pub fn written_answer(said: Written) -> Answer
+    ensures { λ r. ⌜ r ≡ told (writtenGiven said) ⌝ }
 {
     match said {
-        SiteWritten::Done(n) => give(0, n, 0, 0),
-        SiteWritten::OutShort(n) => give(13, n, 0, 0),
-        SiteWritten::Refused(f) => fault_answer(f),
+        Written::Done(n) => give(0, n, 0, 0),
+        Written::OutShort(n) => give(13, n, 0, 0),
+        Written::Refused(f) => fault_answer(f),
     }
 }
 
@@ -229,16 +227,6 @@ pub fn sheet_answer(said: SheetAnswer) -> Answer
         SheetAnswer::Done => give(0, 0, 0, 0),
         SheetAnswer::BadLine(line) => give(17, line, 0, 0),
         SheetAnswer::Refused(f) => fault_answer(f),
-    }
-}
-
-pub fn sheet_written(said: SheetWritten) -> Answer
-    ensures { λ r. ⌜ r ≡ told (sheetWrittenGiven said) ⌝ }
-{
-    match said {
-        SheetWritten::Done(n) => give(0, n, 0, 0),
-        SheetWritten::OutShort(n) => give(13, n, 0, 0),
-        SheetWritten::Refused(f) => fault_answer(f),
     }
 }
 

@@ -1,4 +1,5 @@
--- The clashes at a position are those of its word: the word has a cell's bit exactly where the cell is reserved. For a problem whose clash relation the rows state.
+-- The clashes at a position are those of its word: the word has a cell's bit exactly where the cell is reserved.
+-- For a problem whose clash relation the rows state.
 -- Assumes nothing.
 use mathlib.Core.Path.{_≡_, sym, ap, ap₂}
 use mathlib.Core.Bool.{Bool, _&&_}

@@ -1,5 +1,5 @@
--- A cell's own bit, joined to a word of cells below it and to the mask of its clash row: the two share nothing exactly where the word shares nothing with the row and
--- the bit was not joined. Assumes nothing.
+-- A cell's own bit, joined to a word of cells below it and to the mask of its clash row: the two share nothing exactly where the word shares nothing with the
+-- row and the bit was not joined. Assumes nothing.
 use mathlib.Core.Path.{_≡_, refl, sym, ap, ap₂, _∙_}
 use mathlib.Core.Bool.{Bool, true, false, _&&_, _||_, not, and-true, and-false, true≢false}
 use Prim.Native.Nat.{ℕ, _^_, _<_}

@@ -1,5 +1,5 @@
--- A cell meets the cells above it: what it shares with its clash row in their word, where it is reserved, is not 0 exactly where it clashes with one of them. So
--- a mark with all that the cells from a on meet is not 0 exactly where a search from a on finds a clash. For a problem whose clash relation the rows state.
+-- A cell meets the cells above it: what it shares with its clash row in their word, where it is reserved, is not 0 exactly where it clashes with one of them.
+-- So a mark with all that the cells from a on meet is not 0 exactly where a search from a on finds a clash. For a problem whose clash relation the rows state.
 -- Assumes nothing.
 use mathlib.Core.Path.{_≡_, refl, sym, ap, _∙_}
 use mathlib.Core.Bool.{Bool, true, false, _&&_, not}
@@ -41,7 +41,8 @@ module _ (s : Net) (rows : List ℕ) (states : s .clash ≡ bitIn rows) (res : R
 
   -- no cell yet
   pub mark-none : not (eqb 0 0) ≡ ltb (first (clashesAt s res k) (s .cells) (s .cells)) (s .cells)
-  mark-none = sym (ap (λ (i : ℕ). ltb i (s .cells)) (first-end (clashesAt s res k) (s .cells) (s .cells) (le-refl (s .cells))) ∙ le-ltb (s .cells) (s .cells) (le-refl (s .cells)))
+  mark-none = sym (ap (λ (i : ℕ). ltb i (s .cells)) (first-end (clashesAt s res k) (s .cells) (s .cells) (le-refl (s .cells)))
+      ∙ le-ltb (s .cells) (s .cells) (le-refl (s .cells)))
 
   -- cell a joined to the cells above it
   pub mark-more : (a x : ℕ) → a < s .cells

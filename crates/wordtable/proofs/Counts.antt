@@ -1,5 +1,5 @@
--- The cells of a word, from the lowest up: when those below k are looked at, the counts have them, and what they meet of their clash rows is not 0 exactly where one of
--- them clashes with a cell of the word above it. Assumes nothing.
+-- The cells of a word, from the lowest up: when those below k are looked at, the counts have them, and what they meet of their clash rows is not 0 exactly
+-- where one of them clashes with a cell of the word above it. Assumes nothing.
 use mathlib.Core.Path.{_≡_, refl, sym, ap, ap₂, _∙_}
 use mathlib.Core.Bool.{true, false, _&&_, _||_, not}
 use mathlib.Core.List.{List}
@@ -23,7 +23,7 @@ use Rattle.laws.proofs.Upward.{fromOn, walk-done, walk-inside, walk-from, walk-
 use Rattle.laws.proofs.Words.{word-mod, word-eq}
 use Rattle.words.specs.Clashes.{secondIn, clashesIn, firstIn}
 use Rattle.words.proofs.Words.{from-shares}
-use Rattle.wordtable.specs.Tally.{clashing, Added}
+use Rattle.wordtable.specs.Tally.{clashingWord, Added}
 
 module _ (n word times : ℕ) (rows before : List ℕ) where
   -- the cells of the word below k are looked at
@@ -40,7 +40,8 @@ module _ (n word times : ℕ) (rows before : List ℕ) where
   none-tallied left e =
       record {
         most = zero-le;
-        rest = e ∙ and-mask word n ∙ word-mod word n ∙ word-eq (bitAt word) (fromOn (bitAt word) 0) n (λ j h. sym (ap (λ b. b && bitAt word j) (le-leb 0 j zero-le)));
+        rest = e ∙ and-mask word n ∙ word-mod word n ∙ word-eq (bitAt word) (fromOn (bitAt word) 0) n
+            (λ j h. sym (ap (λ b. b && bitAt word j) (le-leb 0 j zero-le)));
         meets = refl;
         added = λ j h. rw (le-ltb j 0 zero-le) (omega arith);
         long = refl;
@@ -62,7 +63,7 @@ module _ (n word times : ℕ) (rows before : List ℕ) where
             (λ e. ap (λ b. b && bitAt word j) e ∙ sym (silent j (ltb-false j k e) h)) (cases (ltb j k))),
       )
 
-      pub all-meet : not (eqb met 0) ≡ clashing rows n word
+      pub all-meet : not (eqb met 0) ≡ clashingWord rows n word
       unfolding firstIn clashesIn
       all-meet =
           t .meets
@@ -135,4 +136,5 @@ module _ (n word times : ℕ) (rows before : List ℕ) where
               ∙ ap₂ (λ (m : ℕ) b. getD before m 0 + pick b times 0) (sym q) (sym (ap₂ _&&_ (lt-ltb j (at + 1) (omega arith)) (ap (bitAt word) q ∙ there .1)))
 
           higher : (j : ℕ) → j < n → at < j → getD (set after at v) j 0 ≡ getD before j 0 + pick (ltb j (at + 1) && bitAt word j) times 0
-          higher j h g = other j h (λ e. omega arith) (ap (λ b. b && bitAt word j) (le-ltb j k (omega (arith, there .0)) ∙ sym (le-ltb j (at + 1) (omega arith))))
+          higher j h g = other j h (λ e. omega arith) (ap (λ b. b && bitAt word j)
+              (le-ltb j k (omega (arith, there .0)) ∙ sym (le-ltb j (at + 1) (omega arith))))

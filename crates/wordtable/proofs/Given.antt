@@ -1,5 +1,6 @@
--- The numbers given back tell the answers to a change of form apart, but for a refusal with no fault, and no call answers that. An answer is read back from its number
--- and values. The word planner and the word checker answer by the planner's and the checker's own numbers. Assumes nothing.
+-- The numbers given back tell the answers to a change of form apart, but for a refusal with no fault, and no call answers that.
+-- An answer is read back from its number and values. The word planner and the word checker answer by the planner's and the checker's own numbers.
+-- Assumes nothing.
 use mathlib.Core.Path.{_≡_, refl, sym, ap, _∙_}
 use mathlib.Core.Bool.{true, false≢true}
 use mathlib.Core.List.{List, [], _∷_, map}

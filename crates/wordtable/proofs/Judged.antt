@@ -21,7 +21,7 @@ use Rattle.checker.specs.Check.{verdictOf}
 use Rattle.checker.specs.declared.CheckAnswer.the-variants.{Valid, Clash, Count}
 use Rattle.checker.proofs.Judged.{judged-by}
 use Rattle.wordtable.specs.Words.{sendsAt}
-use Rattle.wordtable.specs.Tally.{clashing, Counted, miscounted}
+use Rattle.wordtable.specs.Tally.{clashingWord, CountedTo, miscounted}
 use Rattle.wordtable.specs.Check.{checkWordsAnswer}
 
 module _ (cells n : ℕ) (loads rows words : List ℕ) where
@@ -31,7 +31,7 @@ module _ (cells n : ℕ) (loads rows words : List ℕ) where
 
   -- the lowest position whose word has two cells that clash
   abbrev lowest : ℕ
-  lowest = first (λ k. clashing rows cells (getD words k 0)) 0 n
+  lowest = first (λ k. clashingWord rows cells (getD words k 0)) 0 n
 
   lowest-is : lowest ≡ lowestClash whole (sendsAt words)
   unfolding lowestClash firstAt clashesAt secondAt firstIn clashesIn secondIn
@@ -52,7 +52,7 @@ module _ (cells n : ℕ) (loads rows words : List ℕ) where
   module _ {p : ℕ} (at : p ≡ lowest) where
     pub first-inside : {a : ℕ} → p < n → a ≡ firstIn (getD words p 0) rows cells → a < cells
     first-inside h f =
-        rw (f, at) (ltb-true _ cells (first-passes (λ k. clashing rows cells (getD words k 0)) 0 n zero-le (rw at at h)))
+        rw (f, at) (ltb-true _ cells (first-passes (λ k. clashingWord rows cells (getD words k 0)) 0 n zero-le (rw at at h)))
 
     pub is-clash : {a c : ℕ} → p < n → a ≡ firstIn (getD words p 0) rows cells → c ≡ secondIn (getD words p 0) rows cells a
         → Clash p (a + 1) (c + 1) ≡ verdictOf (tableVerdict whole (sendsAt words))
@@ -62,12 +62,13 @@ module _ (cells n : ℕ) (loads rows words : List ℕ) where
         rw (sym (at ∙ lowest-is), lt-ltb p n h, sym (f ∙ first-is p), sym (g ∙ second-is p a)) in
         ap verdictOf e
 
-    module _ (none : n ≤ p) (counts : List ℕ) (counted : Counted cells words n counts) {i : ℕ} (low : i ≡ first (miscounted counts loads) 0 cells) where
+    module _ (none : n ≤ p) (counts : List ℕ) (counted : CountedTo cells words n counts) {i : ℕ} (low : i ≡ first (miscounted counts loads) 0 cells) where
       wrong-is : i ≡ lowestWrong whole (sendsAt words)
       unfolding lowestWrong wrongIn
       wrong-is =
           low
-          ∙ first-same (miscounted counts loads) (wrongIn whole (sendsAt words)) 0 cells zero-le (λ j l h. ap (λ (m : ℕ). not (eqb m (getD loads j 0))) (counted .1 j h))
+          ∙ first-same (miscounted counts loads) (wrongIn whole (sendsAt words)) 0 cells zero-le
+          (λ j l h. ap (λ (m : ℕ). not (eqb m (getD loads j 0))) (counted .1 j h))
 
       pub is-count : i < cells → Count (i + 1) (getD counts i 0) ≡ verdictOf (tableVerdict whole (sendsAt words))
       unfolding tableVerdict verdictOf

@@ -1,4 +1,5 @@
--- The changes of form, a row at a time: a row of bytes joined to the words of the rows before it, and a row of bytes put after those before it. Assumes nothing.
+-- The changes of form, a row at a time: a row of bytes joined to the words of the rows before it, and a row of bytes put after those before it.
+-- Assumes nothing.
 use mathlib.Core.Path.{_≡_, sym, ap, ap₂, _∙_}
 use mathlib.Core.List.{List, _++_, append-assoc}
 use Prim.Native.Nat.{ℕ, zero, suc, _+_, _-_, _*_, _^_, _≤_}
@@ -17,7 +18,7 @@ use Rattle.laws.proofs.Stores.{sets-first, sets-next, length-list}
 use Rattle.laws.proofs.Words.{word-zero, word-more}
 use Rattle.theory.specs.Net.{Reserved}
 use Rattle.theory.specs.Greedy.{reserved}
-use Rattle.words.specs.Words.{wordAt, joinedAt}
+use Rattle.words.specs.Words.{wordAt, joinedAt, joinedRow}
 use Rattle.wordtable.specs.Words.{bytesOf}
 
 -- ---- rows of bytes into words: w is what stands at first
@@ -32,7 +33,7 @@ module _ (n : ℕ) (table w : List ℕ) where
   none-gathered l h e = sets-first (wordAt 0 (reserved n table)) n l w h e (λ k. word-zero (λ i. reserved n table i k))
 
   pub one-gathered : (i b : ℕ) (words after : List ℕ) → n ≤ length w → b ≡ 2 ^ i → Gathered i words
-      → after ≡ sets words 0 (listOf (joinedAt words table (i * n) b) n) → Gathered (i + 1) after
+      → after ≡ joinedRow words table (i * n) n b → Gathered (i + 1) after
   one-gathered i b words after h e g d =
       sets-next (wordAt i (reserved n table)) (joinedAt words table (i * n) b) (wordAt (i + 1) (reserved n table)) n w words after h g d
       (λ k l was. ap₂ (λ x y. bitOr x (pick (reserved n table i k) y 0)) was e ∙ word-more (λ c. reserved n table c k) i)

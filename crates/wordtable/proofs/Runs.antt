@@ -1,4 +1,5 @@
--- A run of equal words, from p up to where another stands: all of them have a clash or none has, and each of their cells is counted as often as the run is long.
+-- A run of equal words, from p up to where another stands: all of them have a clash or none has,
+-- and each of their cells is counted as often as the run is long.
 -- Assumes nothing.
 use mathlib.Core.Path.{_≡_, sym, ap, _∙_}
 use mathlib.Core.Bool.{Bool, false}
@@ -17,10 +18,10 @@ use Rattle.laws.specs.Sum.{sum, count}
 use Rattle.laws.proofs.Search.{first-least, first-most, first-before, first-skip}
 use Rattle.laws.proofs.Sums.{count-same, count-most}
 use Rattle.wordtable.specs.Words.{sendsAt}
-use Rattle.wordtable.specs.Tally.{differs, Room, Added, Counted}
+use Rattle.wordtable.specs.Tally.{differs, Room, Added, CountedTo}
 
 -- no word yet
-pub none-counted : (cells : ℕ) (words : List ℕ) → cells ≤ 32 → Counted cells words 0 (replicate 32 0)
+pub none-counted : (cells : ℕ) (words : List ℕ) → cells ≤ 32 → CountedTo cells words 0 (replicate 32 0)
 unfolding sum
 none-counted cells words h = (rw length-replicate h, λ j l. getD-replicate 32 j 0 0 (omega arith))
 
@@ -44,17 +45,18 @@ module _ (words : List ℕ) (p n to : ℕ) (inside : p < n) (run : to ≡ first 
       i ∙ first-skip (λ k. clash (getD words k 0)) p to n (omega (arith, run-least)) run-most (λ j l h. ap clash (same-word j l h) ∙ e)
 
   -- and counted
-  pub run-room : (cells : ℕ) (counts : List ℕ) → Counted cells words p counts → n ≤ 2048 → Room cells (to - p) counts
+  pub run-room : (cells : ℕ) (counts : List ℕ) → CountedTo cells words p counts → n ≤ 2048 → Room cells (to - p) counts
   run-room cells counts c small = (c .0, λ j h. omega (arith, c .1 j h, count-most (sendsAt words j) p, run-least, run-most))
 
-  pub run-counted : (cells : ℕ) (counts after : List ℕ) → Counted cells words p counts → Added cells (getD words p 0) (to - p) counts after
-      → Counted cells words to after
+  pub run-counted : (cells : ℕ) (counts after : List ℕ) → CountedTo cells words p counts → Added cells (getD words p 0) (to - p) counts after
+      → CountedTo cells words to after
   run-counted cells counts after c a = (
     omega (arith, c .0, a .0),
     λ j h.
         let e : p + (to - p) ≡ to = omega (arith, run-least) in
         a .1 j h
         ∙ ap (λ (m : ℕ). m + pick (bitAt (getD words p 0) j) (to - p) 0) (c .1 j h)
-        ∙ sym (count-same (sendsAt words j) (bitAt (getD words p 0) j) p (to - p) (λ k l m. ap (λ (w : ℕ). bitAt w j) (same-word k l (omega (arith, run-least)))))
+        ∙ sym (count-same (sendsAt words j) (bitAt (getD words p 0) j) p (to - p)
+        (λ k l m. ap (λ (w : ℕ). bitAt w j) (same-word k l (omega (arith, run-least)))))
         ∙ ap (count (sendsAt words j)) e,
   )

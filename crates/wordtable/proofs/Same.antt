@@ -1,5 +1,5 @@
--- The two table forms say the same. The words of a table send where the table does (`words-send`), and the bytes of words where the words do (`bytes-send`), within the
--- cells and positions of the site; the verdict and the forms look no further.
+-- The two table forms say the same. The words of a table send where the table does (`words-send`), and the bytes of words where the words do (`bytes-send`),
+-- within the cells and positions of the site; the verdict and the forms look no further.
 --     check-bytes, check-table      the word checker's answer is the checker's, over the bytes of the words, and over the table of which they are the words
 --     plan-answer-same, plan-words-are      the word planner's answer is the planner's, and its words are those of the planner's table
 --     words-say      the words of a table send where it does
@@ -52,10 +52,11 @@ use Rattle.wordtable.proofs.Ways.{refused-words, refused-bytes, done-wo
 
 pub words-send : (cells n : ℕ) (res : Reserved) (x : List ℕ) (i k : ℕ) → i < cells → k < n → sendsAt (wordsOf cells n res ++ x) i k ≡ res i k
 words-send cells n res x i k l h =
-    ap (λ (w : ℕ). bitAt w i) (List·getD-append (wordsOf cells n res) x 0 k (omega (arith, length-list (wordAt cells res) n)) ∙ list-at (wordAt cells res) n k h)
+    ap (λ (w : ℕ). bitAt w i) (List·getD-append (wordsOf cells n res) x 0 k (omega (arith, length-list (wordAt cells res) n))
+    ∙ list-at (wordAt cells res) n k h)
     ∙ word-bit (λ c. res c k) cells i l
 
--- "1 where a cell is reserved, and 0 elsewhere"
+-- 1 where a cell is reserved, and 0 elsewhere
 row-byte : (cells n : ℕ) (res : Reserved) (i k : ℕ) → i < cells → k < n → getD (bytesOf cells n res) (i * n + k) 0 ≡ bit (res i k)
 unfolding bytesOf
 row-byte zero n res i k l h = absurd (omega arith)
@@ -95,34 +96,41 @@ module _ (s : Site) (t w : List ℕ) (table : size s ≤ length t) (words : posi
   words-kept-long : length (toWords s t w) ≡ length w
   words-kept-long =
       ⊎-elim
-      (λ e. ap length (done-words s t w (fine-is (faultOf s) e) table words) ∙ front-long (wordsOf (s .cells) (positions s) (reserved (positions s) t)) w (positions s) (length-list (wordAt (s .cells) (reserved (positions s) t)) (positions s)) words)
+      (λ e. ap length (done-words s t w (fine-is (faultOf s) e) table words)
+      ∙ front-long (wordsOf (s .cells) (positions s) (reserved (positions s) t)) w (positions s)
+      (length-list (wordAt (s .cells) (reserved (positions s) t)) (positions s)) words)
       (λ e. ap length (refused-words s t w (faultOf s) refl e))
       (cases (isFine (faultOf s)))
 
   bytes-kept-long : length (toBytes s w t) ≡ length t
   bytes-kept-long =
       ⊎-elim
-      (λ e. ap length (done-bytes s t w (fine-is (faultOf s) e) table words) ∙ front-long (bytesOf (s .cells) (positions s) (sendsAt w)) t (size s) (bytes-long (s .cells) (positions s) (sendsAt w)) table)
+      (λ e. ap length (done-bytes s t w (fine-is (faultOf s) e) table words)
+      ∙ front-long (bytesOf (s .cells) (positions s) (sendsAt w)) t (size s) (bytes-long (s .cells) (positions s) (sendsAt w)) table)
       (λ e. ap length (refused-bytes s t w (faultOf s) refl e))
       (cases (isFine (faultOf s)))
 
   module _ (fine : faultOf s ≡ Fine) where
     pub words-say : (i k : ℕ) → i < s .cells → k < positions s → sendsAt (toWords s t w) i k ≡ reserved (positions s) t i k
     words-say i k l h =
-        ap (λ (x : List ℕ). sendsAt x i k) (done-words s t w fine table words) ∙ words-send (s .cells) (positions s) (reserved (positions s) t) (drop (positions s) w) i k l h
+        ap (λ (x : List ℕ). sendsAt x i k) (done-words s t w fine table words)
+        ∙ words-send (s .cells) (positions s) (reserved (positions s) t) (drop (positions s) w) i k l h
 
     bytes-say : (i k : ℕ) → i < s .cells → k < positions s → reserved (positions s) (toBytes s w t) i k ≡ sendsAt w i k
     bytes-say i k l h =
-        ap (λ (x : List ℕ). reserved (positions s) x i k) (done-bytes s t w fine table words) ∙ bytes-send (s .cells) (positions s) (sendsAt w) (drop (size s) t) i k l h
+        ap (λ (x : List ℕ). reserved (positions s) x i k) (done-bytes s t w fine table words)
+        ∙ bytes-send (s .cells) (positions s) (sendsAt w) (drop (size s) t) i k l h
 
     -- there and back: each reservation is kept, every other byte is 0, and what is past the site's bytes is as it was
-    pub there-and-back : (u : List ℕ) → size s ≤ length u → toBytes s (toWords s t w) u ≡ bytesOf (s .cells) (positions s) (reserved (positions s) t) ++ drop (size s) u
+    pub there-and-back : (u : List ℕ) → size s ≤ length u → toBytes s (toWords s t w) u
+        ≡ bytesOf (s .cells) (positions s) (reserved (positions s) t) ++ drop (size s) u
     there-and-back u h =
         done-bytes s u (toWords s t w) fine h (omega (arith, words-kept-long))
         ∙ ap (λ (b : List ℕ). b ++ drop (size s) u) (bytes-eq (s .cells) (positions s) (sendsAt (toWords s t w)) (reserved (positions s) t) words-say)
 
     -- and the other way: each word with its bits above I gone
-    pub back-and-there : (v : List ℕ) → positions s ≤ length v → toWords s (toBytes s w t) v ≡ listOf (λ k. getD w k 0 % 2 ^ s .cells) (positions s) ++ drop (positions s) v
+    pub back-and-there : (v : List ℕ) → positions s ≤ length v → toWords s (toBytes s w t) v
+        ≡ listOf (λ k. getD w k 0 % 2 ^ s .cells) (positions s) ++ drop (positions s) v
     back-and-there v h =
         done-words s (toBytes s w t) v fine (omega (arith, bytes-kept-long)) h
         ∙ ap (λ (b : List ℕ). b ++ drop (positions s) v)

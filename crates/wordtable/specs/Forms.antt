@@ -13,14 +13,14 @@ use Rattle.wordtable.specs.declared.FormAnswer.{FormAnswer}
 use Rattle.wordtable.specs.declared.FormAnswer.the-variants.{Done, TableShort, Refused}
 use Rattle.wordtable.specs.Words.{sendsAt, bytesOf}
 
--- "Refusal 4 when fewer than N words are lent (the changes of form: also when fewer than IN bytes are)"
+-- "Refusal 4 is given when fewer than N words are lent", and for a change of form also when fewer than IN bytes are
 abbrev pub lentShort : Site → List ℕ → List ℕ → Bool
 lentShort s t w = ltb (length t) (size s) || ltb (length w) (positions s)
 
 unfoldable pub formAnswer : Site → List ℕ → List ℕ → FormAnswer
 formAnswer s t w = pick (isFine (faultOf s)) (pick (lentShort s t w) TableShort Done) (Refused (faultOf s))
 
--- "bits above I are .. written as 0", and "words past N, and bytes past IN, are never written. No other refusal writes."
+-- "bits above I are .. written as 0", and "words past N are never written", bytes past IN neither. No other refusal writes.
 -- "Only 1 means transmit": of a table's bytes, 1 alone sets a bit.
 unfoldable pub toWords : Site → List ℕ → List ℕ → List ℕ
 toWords s t w =

@@ -11,22 +11,14 @@ use Rattle.site.specs.declared.Site.{Site}
 use Rattle.words.specs.Words.{outWords}
 use Rattle.planner.specs.Plan.{answerOf}
 use Rattle.planner.specs.declared.PlanAnswer.{PlanAnswer}
-use Rattle.planner.specs.declared.PlanAnswer.the-variants.{Done, TableShort, NoRoom, Refused}
-use Rattle.stretches.specs.declared.Stood.{Stood}
-use Rattle.stretches.specs.declared.Stood.the-variants.{Planned}
-use Rattle.stretches.specs.declared.Stood.the-variants as stood
+use Rattle.planner.specs.declared.PlanAnswer.the-variants.{TableShort, Refused}
 
--- the planner's answer for how a run stood
-abbrev pub stoodAnswer : Stood → PlanAnswer
-stoodAnswer Planned = Done
-stoodAnswer (stood.NoRoom cell short) = NoRoom cell short
-
--- "Refusal 4 when fewer than N words are lent": after the record's 1 to 3, and before 5
+-- "Refusal 4 is given when fewer than N words are lent": after the record's 1 to 3, and before 5
 unfoldable pub planWordsAnswer : Site → List ℕ → PlanAnswer
 planWordsAnswer s w =
     pick (isFine (faultOf s)) (pick (ltb (length w) (positions s)) TableShort (answerOf (greedy (netOf s)))) (Refused (faultOf s))
 
--- "5 leaves N words of 0; words past N .. are never written. No other refusal writes."
+-- "5 leaves N words of 0; words past N are never written." No other refusal writes.
 unfoldable pub planWords : Site → List ℕ → List ℕ
 planWords s w =
     pick (isFine (faultOf s))

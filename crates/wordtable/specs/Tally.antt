@@ -12,8 +12,8 @@ use Rattle.words.specs.Clashes.{firstIn}
 use Rattle.wordtable.specs.Words.{sendsAt}
 
 -- two of the word's cells clash, of n cells in all, by their clash rows
-abbrev pub clashing : List ℕ → ℕ → ℕ → Bool
-clashing rows n word = ltb (firstIn word rows n) n
+abbrev pub clashingWord : List ℕ → ℕ → ℕ → Bool
+clashingWord rows n word = ltb (firstIn word rows n) n
 
 -- word k is another than word p
 abbrev pub differs : List ℕ → ℕ → ℕ → Bool
@@ -29,8 +29,8 @@ Added n word times before after =
     (length after ≡ length before) × ((j : ℕ) → j < n → getD after j 0 ≡ getD before j 0 + pick (bitAt word j) times 0)
 
 -- how often each of n cells is reserved in the first p words
-abbrev pub Counted : ℕ → List ℕ → ℕ → List ℕ → Type 0
-Counted n words p counts = (n ≤ length counts) × ((j : ℕ) → j < n → getD counts j 0 ≡ count (sendsAt words j) p)
+abbrev pub CountedTo : ℕ → List ℕ → ℕ → List ℕ → Type 0
+CountedTo n words p counts = (n ≤ length counts) × ((j : ℕ) → j < n → getD counts j 0 ≡ count (sendsAt words j) p)
 
 -- cell i is not counted as often as its load says
 abbrev pub miscounted : List ℕ → List ℕ → ℕ → Bool

@@ -1,12 +1,12 @@
 // The second table form: one word for each position, with bit i-1 where cell i transmits. Bits above I are silence.
 //
-// What planning costs stands in crates/stretches/src/lib.rt; the local room is the clash rows and a load for each cell. What the check costs: a run of equal words is
-// passed at a compare a word, and its word is looked at once, in it only the cells that are set; the local room is the clash rows and a count for each cell. The changes
-// of form go row by row over neighbouring places, without a branch.
+// What planning costs stands in crates/stretches/src/lib.rt; the local room is the clash rows and a load for each cell.
+// What the check costs: a run of equal words is passed at a compare a word, and its word is looked at once, in it only the cells that are set;
+// the local room is the clash rows and a count for each cell. The changes of form go row by row over neighbouring places, without a branch.
 ghost use mathlib.Core.Path.{_≡_};
 ghost use mathlib.Core.Bool.{not};
 ghost use mathlib.Core.List.{_++_};
-ghost use Prim.Native.Nat.{_+_, _-_, _*_, _^_, _≤_, _<_};
+ghost use Prim.Native.Nat.{_+_, _*_, _≤_, _<_};
 ghost use lib.Dec.{eqb};
 ghost use lib.ListN.{length, getD, drop};
 ghost use lib.Seq.{sets};
@@ -21,31 +21,21 @@ ghost use Rattle.site.specs.Reach.{netIn};
 ghost use Rattle.words.specs.Words.{wordsOf};
 ghost use Rattle.checker.specs.Check.{verdictOf};
 ghost use Rattle.wordtable.specs.Words.{sendsAt, bytesOf};
-ghost use Rattle.wordtable.specs.Tally.{clashing, differs, Room, Added, Counted, miscounted};
-ghost use Rattle.wordtable.specs.Plan.{stoodAnswer, planWordsAnswer, planWords};
+ghost use Rattle.wordtable.specs.Tally.{clashingWord, differs, Room, Added, CountedTo, miscounted};
+ghost use Rattle.wordtable.specs.Plan.{planWordsAnswer, planWords};
 ghost use Rattle.wordtable.specs.Check.{checkWordsAnswer};
 ghost use Rattle.wordtable.specs.Forms.{formAnswer, toWords, toBytes};
 use checker::CheckAnswer;
 use planner::PlanAnswer;
 use site::Fault;
 use site::Site;
-use stretches::Stood;
+use square::low_bits;
 
 // The answer to a change of form: done; 4, a lent part is short; or what is wrong with the record.
 pub enum FormAnswer {
     Done,
     TableShort,
     Refused(Fault),
-}
-
-// The planner's answer for how a run stood.
-fn answer_of(stood: Stood) -> PlanAnswer
-    ensures { λ r. ⌜ r ≡ stoodAnswer stood ⌝ }
-{
-    match stood {
-        Stood::Planned => PlanAnswer::Done,
-        Stood::NoRoom(cell, short) => PlanAnswer::NoRoom(cell, short),
-    }
 }
 
 // Plans the site into the lent words: the answer of the byte planner, and the words of its table.
@@ -64,24 +54,15 @@ pub fn plan_words(site: Site, words: &mut [u32]) -> PlanAnswer
     }
     let clash = site.clash_rows();
     let loads = site.loads;
-    let stood = stretches::plan_stretches(words, &clash, loads, cells, n);
-    answer_of(stood)
+    stretches::plan_stretches(words, &clash, loads, cells, n)
 }
 
-// The bits of the cells below `cells`.
-fn low_bits(cells: usize) -> u32
-    requires { ⌜ cells ≤ 32 ⌝ }
-    ensures { λ r. ⌜ r ≡ 2 ^ cells - 1 ⌝ }
-{
-    ((1u64 << cells) - 1) as u32
-}
-
-// Adds `times` to the count of each cell of a word, and answers what those cells meet of their clash rows above them: not 0 exactly where two of them clash. Only cells
-// that the word has are looked at, from the lowest up.
+// Adds `times` to the count of each cell of a word, and answers what those cells meet of their clash rows above them: not 0 exactly where two of them clash.
+// Only cells that the word has are looked at, from the lowest up.
 fn tally(counts: &mut [u32; 32], word: u32, times: u32, clash: &[u32; 32], cells: usize) -> u32
     requires { ⌜ cells ≤ 32 ⌝ }
     requires { ⌜ Room cells times (now counts) ⌝ }
-    ensures met { λ r. ⌜ not (eqb r 0) ≡ clashing (now (clash .entry)) cells word ⌝ }
+    ensures met { λ r. ⌜ not (eqb r 0) ≡ clashingWord (now (clash .entry)) cells word ⌝ }
     ensures counted { λ _. ⌜ Added cells word times (now (counts .entry)) (now (counts .exit)) ⌝ }
 {
     let mut met: u32 = 0;
@@ -114,9 +95,9 @@ fn run_end(words: &[u32], p: usize, n: usize) -> usize
 // The lowest position with a clash; n where there is none, and then each cell is counted. Equal words that stand together are counted at once.
 fn walk(counts: &mut [u32; 32], words: &[u32], n: usize, clash: &[u32; 32], cells: usize) -> usize
     requires { ⌜ (cells ≤ 32) × (n ≤ 2048) × (n ≤ length (now words)) ⌝ }
-    requires { ⌜ Counted cells (now words) 0 (now counts) ⌝ }
-    ensures lowest { λ r. ⌜ r ≡ first (λ k. clashing (now (clash .entry)) cells (getD (now (words .entry)) k 0)) 0 n ⌝ }
-    ensures counted { λ r. ⌜ (n ≤ r → Counted cells (now (words .entry)) n (now (counts .exit))) ⌝ }
+    requires { ⌜ CountedTo cells (now words) 0 (now counts) ⌝ }
+    ensures lowest { λ r. ⌜ r ≡ first (λ k. clashingWord (now (clash .entry)) cells (getD (now (words .entry)) k 0)) 0 n ⌝ }
+    ensures counted { λ r. ⌜ (n ≤ r → CountedTo cells (now (words .entry)) n (now (counts .exit))) ⌝ }
 {
     let mut p: usize = 0;
     while p < n {

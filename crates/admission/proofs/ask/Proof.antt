@@ -37,7 +37,8 @@ enum-known-a c = search needs
 returns-2 : tie.Need-returns-2
 returns-2 c =
     let a = c .before .before .before .before .before .args in
-    let none : isShare (shareIn (a .slots) (a .f)) ≡ false = ap isShare (sym (c .before .share-in .ensures)) ∙ no-share (c .before .share-in .result) (c .match .keys2) in
+    let none : isShare (shareIn (a .slots) (a .f)) ≡ false = ap isShare (sym (c .before .share-in .ensures))
+    ∙ no-share (c .before .share-in .result) (c .match .keys2) in
     rw (bad-share (a .cells) (a .slots) (a .f) none)
 
 sub-t10 : tie.Need-sub-t10
@@ -45,13 +46,15 @@ sub-t10 c = up-to _ _ (inside (c .before .before .before .before .before)) .0
 
 -- the share fits
 share-is : (c : tie.After-struct-known3) → let a = c .before .before .before .before .before .before .before .before .before .args in
-    shareIn (a .slots) (a .f) ≡ Done (c .before .before .before .a .given .0 .0) (c .before .before .before .a .given .0 .1 .0) (c .before .before .before .a .given .0 .1 .1 .0)
+    shareIn (a .slots) (a .f) ≡ Done (c .before .before .before .a .given .0 .0) (c .before .before .before .a .given .0 .1 .0)
+    (c .before .before .before .a .given .0 .1 .1 .0)
 share-is c = sym (c .before .before .before .before .before .share-in .ensures) ∙ c .before .before .before .a .given .1
 
 small : (c : tie.After-struct-known3) → c .before .before .before .a .given .0 .0 .0 ≤ 65535
 small c =
     let a = c .before .before .before .before .before .before .before .before .before .args in
-    share-most (a .slots) (a .f) (c .before .before .before .a .given .0 .0) (c .before .before .before .a .given .0 .1 .0) (c .before .before .before .a .given .0 .1 .1 .0) (share-is c)
+    share-most (a .slots) (a .f) (c .before .before .before .a .given .0 .0) (c .before .before .before .a .given .0 .1 .0)
+    (c .before .before .before .a .given .0 .1 .1 .0) (share-is c)
 
 cast-t11 : tie.Need-cast-t11
 cast-t11 c = record { fits = omega (arith, small c) }

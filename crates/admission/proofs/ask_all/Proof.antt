@@ -11,7 +11,7 @@ use Rattle.laws.specs.Part.{listOf}
 use Rattle.laws.specs.Search.{first}
 use Rattle.laws.proofs.Search.{found, missed, ended}
 use Rattle.laws.proofs.Stores.{sets-none, sets-more}
-use Rattle.flowlist.specs.List.{none}
+use Rattle.flowlist.specs.List.{zeroFlow}
 use Rattle.flowlist.specs.declared.Flow.{Flow}
 use Rattle.admission.specs.Admit.{shareIn, amount, badIn, firstBadIn}
 use Rattle.admission.specs.declared.Asked.{Asked}
@@ -21,7 +21,7 @@ use Rattle.admission.proofs.ask_all.Tie as tie
 
 -- the flow at a place, and what the search takes of it
 abbrev at : List Flow → ℕ → Flow
-at list k = getD list k none
+at list k = getD list k zeroFlow
 
 abbrev bad : ℕ → ℕ → List Flow → ℕ → Bool
 bad cells slots list k = badIn cells slots (at list k)
@@ -56,8 +56,10 @@ returns c =
     let a = lp .before .before .args in
     let list = a .l .list in
     let here : badIn (a .cells) (a .slots) (at list (lp .loop .i)) ≡ true
-    = sym (asked-bad (a .cells) (a .slots) (at list (lp .loop .i))) ∙ ap (λ (r : Asked). r .bad) (sym (c .before .ask .ensures)) ∙ c .if1 .taken in
-    (found (bad (a .cells) (a .slots) list) (lp .loop .i) (a .count) (lp .loop .inv .1) (omega arith) here, (lp .loop .inv .2, (lp .loop .inv .3, lp .loop .inv .4)))
+    = sym (asked-bad (a .cells) (a .slots) (at list (lp .loop .i))) ∙ ap (λ (r : Asked). r .bad) (sym (c .before .ask .ensures)) ∙ c .if1 .taken in (
+      found (bad (a .cells) (a .slots) list) (lp .loop .i) (a .count) (lp .loop .inv .1) (omega arith) here,
+      (lp .loop .inv .2, (lp .loop .inv .3, lp .loop .inv .4)),
+    )
 
 mul-own : tie.Need-mul-own Inv-loop μ-loop
 mul-own c = search needs
@@ -94,8 +96,10 @@ loop-again c =
     = sym (asked-bad (a .cells) (a .slots) f) ∙ ap (λ (r : Asked). r .bad) (sym (got .ensures)) ∙ c .if1 .left in (
       omega arith,
       missed (bad (a .cells) (a .slots) list) (lp .loop .i) (a .count) (lp .loop .inv .1) (omega arith) fine,
-      sets-more (λ k. at list k .cell - 1) (lp .loop .i) _ (lp .loop .own) zeros (ap (λ (r : Asked). r .cell) (got .ensures) ∙ asked-cell (a .cells) (a .slots) f fine) (lp .loop .inv .2),
-      sets-more (λ k. amount (shareIn (a .slots) (at list k))) (lp .loop .i) _ (lp .loop .shares) zeros (ap (λ (r : Asked). r .share) (got .ensures) ∙ asked-share (a .cells) (a .slots) f fine) (lp .loop .inv .3),
+      sets-more (λ k. at list k .cell - 1) (lp .loop .i) _ (lp .loop .own) zeros
+          (ap (λ (r : Asked). r .cell) (got .ensures) ∙ asked-cell (a .cells) (a .slots) f fine) (lp .loop .inv .2),
+      sets-more (λ k. amount (shareIn (a .slots) (at list k))) (lp .loop .i) _ (lp .loop .shares) zeros
+          (ap (λ (r : Asked). r .share) (got .ensures) ∙ asked-share (a .cells) (a .slots) f fine) (lp .loop .inv .3),
       sets-more (λ k. at list k .value) (lp .loop .i) _ (lp .loop .values) zeros refl (lp .loop .inv .4),
     )
 

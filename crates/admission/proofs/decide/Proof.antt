@@ -1,5 +1,5 @@
--- `admission::decide` meets its contract: each way out is one of the ways of proofs/Answer.antt; where no flow is refused the arrays state the list's flows, and the clash rows
--- the site's problem. Assumes nothing.
+-- `admission::decide` meets its contract: each way out is one of the ways of proofs/Answer.antt; where no flow is refused the arrays state the list's flows,
+-- and the clash rows the site's problem. Assumes nothing.
 use Prim.Native.Nat.{ℕ, _≤_}
 use mathlib.Core.Bool.{true}
 use mathlib.Core.Path.{_≡_, sym, ap, _∙_}
@@ -14,7 +14,7 @@ use Rattle.site.specs.Reach.{netOf}
 use Rattle.site.specs.declared.Fault.the-variants.{Fine}
 use Rattle.site.proofs.Faults.{not-fine, fine-sized, few-positions}
 use Rattle.bestset.proofs.Problem.{best-in-is}
-use Rattle.flowlist.specs.List.{none}
+use Rattle.flowlist.specs.List.{zeroFlow}
 use Rattle.flowlist.specs.declared.Flow.{Flow}
 use Rattle.flowlist.specs.declared.FlowList.{FlowList}
 use Rattle.admission.specs.Admit.{isChained}
@@ -27,7 +27,7 @@ use Rattle.admission.proofs.decide.Tie as tie
 
 -- the flows that are here, by place
 abbrev here : FlowList → ℕ → Flow
-here l k = getD (l .list) k none
+here l k = getD (l .list) k zeroFlow
 
 -- past the match the record has no fault
 fine : (c : tie.After-enum-told) → faultOf (c .before .before .before .args .site) ≡ Fine
@@ -42,7 +42,8 @@ enum-told c = search needs
 returns : tie.Need-returns
 returns c =
     let a = c .before .before .args in
-    sym (fault-answer (a .site) (here (a .l)) (a .count) (c .before .fault-in .result) (sym (c .before .fault-in .ensures)) (not-fine (c .before .fault-in .result) (c .match .keys2)))
+    sym (fault-answer (a .site) (here (a .l)) (a .count) (c .before .fault-in .result) (sym (c .before .fault-in .ensures))
+    (not-fine (c .before .fault-in .result) (c .match .keys2)))
 
 returns-2 : tie.Need-returns-2
 returns-2 c = let a = c .before .before .before .before .args in sym (many-answer (a .site) (here (a .l)) (a .count) (fine (c .before)) (c .if1 .taken))
@@ -57,15 +58,18 @@ chained-requires : tie.Need-chained-requires
 chained-requires c κs = fine-sized _ (fine (c .before .before .before)) .cells-most
 
 -- what the test of the chain says of the site
-verdict : (c : tie.After-chained) → c .chained .result ≡ isChained (chainVerdict (netOf (c .before .before .before .before .before .before .before .args .site)) everyone)
+verdict : (c : tie.After-chained) → c .chained .result ≡ isChained (chainVerdict
+    (netOf (c .before .before .before .before .before .before .before .args .site)) everyone)
 verdict c =
     let a = c .before .before .before .before .before .before .before .args in
-    c .chained .ensures ∙ ap isChained (chain-of (a .site) (c .before .before .clash-rows .result) (c .before .before .clash-rows .ensures .1 (fine (c .before .before .before .before))))
+    c .chained .ensures ∙ ap isChained (chain-of (a .site) (c .before .before .clash-rows .result)
+    (c .before .before .clash-rows .ensures .1 (fine (c .before .before .before .before))))
 
 returns-3 : tie.Need-returns-3
 returns-3 c =
     let a = c .before .before .before .before .before .before .before .before .args in
-    sym (broken-answer (a .site) (here (a .l)) (a .count) (fine (c .before .before .before .before .before)) (c .before .before .before .before .if1 .left) (sym (verdict (c .before)) ∙ not-true _ (c .if2 .taken)))
+    sym (broken-answer (a .site) (here (a .l)) (a .count) (fine (c .before .before .before .before .before)) (c .before .before .before .before .if1 .left)
+    (sym (verdict (c .before)) ∙ not-true _ (c .if2 .taken)))
 
 -- past the test it is chained
 chain : (c : tie.Else2) → isChained (chainVerdict (netOf (c .before .before .before .before .before .before .before .before .args .site)) everyone) ≡ true
@@ -90,7 +94,9 @@ returns-4 : tie.Need-returns-4
 returns-4 c =
     let a = c .before .before .before .before .before .before .before .before .before .before .before .before .before .args in
     c .refusal .ensures
-    ∙ sym (bad-answer (a .site) (here (a .l)) (a .count) (fine (c .before .before .before .before .before .before .before .before .before .before)) (c .before .before .before .before .before .before .before .before .before .if1 .left) (chain (c .before .before .before .before .before)) _ (c .before .before .before .before .ask-all .ensures .0) (c .before .before .before .if3 .taken))
+    ∙ sym (bad-answer (a .site) (here (a .l)) (a .count) (fine (c .before .before .before .before .before .before .before .before .before .before))
+    (c .before .before .before .before .before .before .before .before .before .if1 .left) (chain (c .before .before .before .before .before)) _
+    (c .before .before .before .before .ask-all .ensures .0) (c .before .before .before .if3 .taken))
 
 cast-room : tie.Need-cast-room
 cast-room c = search needs
@@ -103,30 +109,40 @@ mul-room c = omega (arith, few-positions (fine-sized _ (fine (c .before .before 
 
 best-set-requires : tie.Need-best-set-requires
 best-set-requires c κs =
-    let a = c .before .before .before .before .before .before .before .before .before .before .before .before .before .before .before .before .before .before .before .args in
+    let a =
+    c .before .before .before .before .before .before .before .before .before .before .before .before .before .before .before .before .before .before .before
+    .args in
     let asked = c .before .before .before .before .before .before .before .before .before .before .ask-all in
     let fine-here = fine (c .before .before .before .before .before .before .before .before .before .before .before .before .before .before .before .before) in
-    let few : a .count ≤ 16 = c .before .before .before .before .before .before .before .before .before .before .before .before .before .before .before .if1 .left in (
+    let few : a .count ≤ 16 =
+    c .before .before .before .before .before .before .before .before .before .before .before .before .before .before .before .if1 .left in (
       (omega (arith, few-positions (fine-sized _ fine-here)), few),
-      inside-most (a .site) fine-here (here (a .l)) (a .count) few (asked .result .bad) (asked .ensures .0) (c .before .before .before .before .before .before .before .before .before .if3 .left) (asked .result .cells) (asked .ensures .1 .0),
+      inside-most (a .site) fine-here (here (a .l)) (a .count) few (asked .result .bad) (asked .ensures .0)
+          (c .before .before .before .before .before .before .before .before .before .if3 .left) (asked .result .cells) (asked .ensures .1 .0),
     )
 
 returns-5 : tie.Need-returns-5
 returns-5 c =
-    let a = c .before .before .before .before .before .before .before .before .before .before .before .before .before .before .before .before .before .before .before .before .args in
+    let a =
+    c .before .before .before .before .before .before .before .before .before .before .before .before .before .before .before .before .before .before .before
+    .before .args in
     let f = here (a .l) in
     let asked = c .before .before .before .before .before .before .before .before .before .before .before .ask-all in
     let rows = c .before .before .before .before .before .before .before .before .before .before .before .before .before .before .before .clash-rows in
-    let fine-here = fine (c .before .before .before .before .before .before .before .before .before .before .before .before .before .before .before .before .before) in
-    let few : a .count ≤ 16 = c .before .before .before .before .before .before .before .before .before .before .before .before .before .before .before .before .if1 .left in
+    let fine-here =
+    fine (c .before .before .before .before .before .before .before .before .before .before .before .before .before .before .before .before .before) in
+    let few : a .count ≤ 16 =
+    c .before .before .before .before .before .before .before .before .before .before .before .before .before .before .before .before .if1 .left in
     let all : a .count ≤ asked .result .bad = c .before .before .before .before .before .before .before .before .before .before .if3 .left in
     let own = asked .result .cells in
     let chain-here = chain (c .before .before .before .before .before .before .before .before .before .before .before .before) in
     ap Admitted
     (c .best-set .ensures
     ∙ best-in-is _ (rows .result) own (asked .result .shares) (asked .result .values) (a .count) few (netOf (a .site))
-    (stands (a .site) fine-here f (a .count) few (asked .result .bad) (asked .ensures .0) all own (asked .ensures .1 .0) (rows .result) (rows .ensures .1 fine-here) chain-here)
-    ∙ same-best (a .site) fine-here f (a .count) few (asked .result .bad) (asked .ensures .0) all own (asked .ensures .1 .0) (asked .result .shares) (asked .result .values)
+    (stands (a .site) fine-here f (a .count) few (asked .result .bad) (asked .ensures .0) all own (asked .ensures .1 .0) (rows .result)
+    (rows .ensures .1 fine-here) chain-here)
+    ∙ same-best (a .site) fine-here f (a .count) few (asked .result .bad) (asked .ensures .0) all own (asked .ensures .1 .0) (asked .result .shares)
+    (asked .result .values)
     (asked .ensures .1 .1 .0) (asked .ensures .1 .1 .1))
     ∙ sym (set-answer (a .site) f (a .count) fine-here few chain-here (rw (← asked .ensures .0) all))
 

@@ -33,13 +33,15 @@ returns-2 : tie.Need-returns-2
 unfolding refusedIn
 returns-2 c =
     let a = c .before .before .before .before .before .args in
-    rw (inside (c .before .before)) (sym (not-big (c .before .share-in .result) (a .number) (c .match .keys2)) ∙ ap (shareRefused (a .number)) (c .before .share-in .ensures))
+    rw (inside (c .before .before)) (sym (not-big (c .before .share-in .result) (a .number) (c .match .keys2))
+    ∙ ap (shareRefused (a .number)) (c .before .share-in .ensures))
 
 returns-3 : tie.Need-returns-3
 unfolding refusedIn
 returns-3 c =
     let a = c .before .before .before .before .before .before .args in
-    rw (inside (c .before .before .before)) (sym (ap (shareRefused (a .number)) (c .enum-told .given .1)) ∙ ap (shareRefused (a .number)) (c .before .before .share-in .ensures))
+    rw (inside (c .before .before .before)) (sym (ap (shareRefused (a .number)) (c .enum-told .given .1))
+    ∙ ap (shareRefused (a .number)) (c .before .before .share-in .ensures))
 
 pub refusal-spec : {M : Type 1} → statement M
 refusal-spec =

@@ -6,15 +6,15 @@ use Rattle.capi.proofs.dugg_write_site.Tie as tie
 write-site-requires : tie.Need-write-site-requires
 write-site-requires c κs = search needs
 
-site-written-requires : tie.Need-site-written-requires
-site-written-requires c κs = search needs
+written-answer-requires : tie.Need-written-answer-requires
+written-answer-requires c κs = search needs
 
 same-length : tie.Need-same-length
 same-length c = search needs
 
 returns : tie.Need-returns
-returns c = let e = c .before .before .before .write-site .ensures in (rw (e .0) at (c .site-written .ensures), e .1)
+returns c = let e = c .before .before .before .write-site .ensures in (rw (e .0) at (c .written-answer .ensures), e .1)
 
 pub dugg-write-site-spec : {M : Type 1} → statement M
 dugg-write-site-spec =
-    tie.close (tie.spec write-site-requires site-written-requires same-length returns)
+    tie.close (tie.spec write-site-requires written-answer-requires same-length returns)

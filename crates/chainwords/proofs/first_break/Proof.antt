@@ -2,15 +2,16 @@
 use Prim.Native.Nat.{ℕ, _-_}
 use mathlib.Core.Bool.{Bool}
 use mathlib.Core.List.{List}
-use mathlib.Core.Path.{_≡_, refl, sym}
+use mathlib.Core.Path.{_≡_, refl, _∙_}
 use native.Mathlib.Omega.{arith}
 use borrow.Author.Tests.{lt-ltb, le-ltb}
 use lib.Dec.{ltb}
 use Rattle.laws.specs.Bits.{bitAt, bitIn}
 use Rattle.laws.specs.Search.{first}
 use Rattle.laws.proofs.Search.{found, missed, ended}
-use Rattle.theory.specs.Verdict.{gap, breaks, breakOf, firstBreak}
+use Rattle.theory.specs.Verdict.{breakOf, firstBreak}
 use Rattle.chainwords.specs.Chain.{chainIn}
+use Rattle.chainwords.proofs.Rows.{break-row}
 use borrow.Author.Needs.{needs}
 use Rattle.chainwords.proofs.first_break.Statement.{statement}
 use Rattle.chainwords.proofs.first_break.Tie as tie
@@ -37,12 +38,22 @@ element-copy-out-break-of c = search needs
 break-of-requires : tie.Need-break-of-requires Inv-loop μ-loop
 break-of-requires c κs = search needs
 
+-- what is asked of the row is the definition's
+named : (c : tie.After-break-of Inv-loop μ-loop)
+    → let at = c .before .before .before in
+    let args = at .before .args in
+    c .break-of .result ≡ breakOf (chainIn (args .cells) (bitIn (args .clash .now))) (bitAt (args .who)) (at .loop .a)
+named c =
+    let at = c .before .before .before in
+    let args = at .before .args in
+    c .break-of .ensures ∙ break-row (args .clash .now) (args .who) (args .cells) (at .loop .a) (omega arith)
+
 returns : tie.Need-returns Inv-loop μ-loop
-unfolding breakOf breaks gap
 returns c =
     let at = c .before .before .before .before in
     let args = at .before .args in
-    found (test (args .clash .now) (args .who) (args .cells)) (at .loop .a) (args .cells) (at .loop .inv) (omega arith) (simp (sym (c .before .break-of .ensures)) (lt-ltb _ _ (c .if1 .taken)))
+    found (test (args .clash .now) (args .who) (args .cells)) (at .loop .a) (args .cells) (at .loop .inv) (omega arith)
+    (rw (named (c .before)) at (lt-ltb _ _ (c .if1 .taken)))
 
 add-a : tie.Need-add-a Inv-loop μ-loop
 add-a c = search needs
@@ -51,11 +62,11 @@ loop-less : tie.Need-loop-less Inv-loop μ-loop
 loop-less c = search needs
 
 loop-again : tie.Need-loop-again Inv-loop μ-loop
-unfolding breakOf breaks gap
 loop-again c =
     let at = c .before .before .before .before in
     let args = at .before .args in
-    missed (test (args .clash .now) (args .who) (args .cells)) (at .loop .a) (args .cells) (at .loop .inv) (omega arith) (simp (sym (c .before .break-of .ensures)) (le-ltb _ _ (c .if1 .left)))
+    missed (test (args .clash .now) (args .who) (args .cells)) (at .loop .a) (args .cells) (at .loop .inv) (omega arith)
+    (rw (named (c .before)) at (le-ltb _ _ (c .if1 .left)))
 
 returns-2 : tie.Need-returns-2 Inv-loop μ-loop
 returns-2 c =

@@ -8,7 +8,7 @@ use Rattle.laws.specs.Bits.{bitAt}
 use Rattle.laws.proofs.Lowest.{bit-not}
 use Rattle.laws.proofs.Bits.{bit-and}
 use Rattle.laws.proofs.Search.{first-same}
-use Rattle.theory.specs.Verdict.{gap}
+use Rattle.chainwords.specs.Chain.{gapIn}
 use borrow.Author.Needs.{needs}
 use Rattle.chainwords.proofs.gap.Statement.{statement}
 use Rattle.chainwords.proofs.gap.Tie as tie
@@ -23,7 +23,7 @@ lowest-requires : tie.Need-lowest-requires
 lowest-requires c κs = search needs
 
 returns : tie.Need-returns
-unfolding gap
+unfolding gapIn
 returns c =
     let at = c .before in
     let row = at .args .row in

@@ -2,6 +2,7 @@
 use mathlib.Core.Path.{_∙_}
 use native.Mathlib.Omega.{arith}
 use lib.ListN.{getD-replicate}
+use Rattle.checker.specs.Marks.{clashingIn}
 use Rattle.checker.proofs.Marks.{marks-lowest}
 use borrow.Author.Needs.{needs}
 use Rattle.checker.proofs.clash_in.Statement.{statement}
@@ -26,7 +27,8 @@ returns : tie.Need-returns
 returns c =
     let m = c .before .before .before .before in
     let a = c .before .before .before .before .before .before .before .before .args in
-    c .lowest-marked .ensures ∙ marks-lowest (a .cells) (a .n) (a .clash .now) (a .table .now) (a .from) (a .m) (m .mark-clashes .last .1 .0) (m .mark-clashes .ensures)
+    c .lowest-marked .ensures
+    ∙ marks-lowest (clashingIn (a .cells) (a .n) (a .clash .now) (a .table .now)) (a .from) (a .m) (m .mark-clashes .last .1 .0) (m .mark-clashes .ensures)
 
 pub clash-in-spec : {M : Type 1} → statement M
 clash-in-spec =

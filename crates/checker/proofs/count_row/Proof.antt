@@ -52,7 +52,13 @@ add-count : tie.Need-add-count Inv-loop μ-loop
 add-count c =
     let q = c .before .before in
     let a = q .before .loop .from in
-    omega (arith, inside q, few (q .before), lent-most a (a + 128 - a) (q .before .before .before .args .row .now) (c .count-stretch .ensures), q .before .before .before .pre)
+    omega (
+      arith,
+      inside q,
+      few (q .before),
+      lent-most a (a + 128 - a) (q .before .before .before .args .row .now) (c .count-stretch .ensures),
+      q .before .before .before .pre,
+    )
 
 add-from : tie.Need-add-from Inv-loop μ-loop
 add-from c = omega (arith, inside (c .before .before), c .before .before .before .before .before .pre)
@@ -63,8 +69,10 @@ loop-less c = omega (arith, inside (c .before .before))
 loop-again : tie.Need-loop-again Inv-loop μ-loop
 loop-again c =
     let q = c .before .before in
-    let a = q .before .loop .from in
-    (stretch-more a (a + 128) (q .before .before .before .args .row .now) (q .before .loop .inv .0) (c .count-stretch .ensures) (omega arith) (inside q), omega (arith, inside q))
+    let a = q .before .loop .from in (
+      stretch-more a (a + 128) (q .before .before .before .args .row .now) (q .before .loop .inv .0) (c .count-stretch .ensures) (omega arith) (inside q),
+      omega (arith, inside q),
+    )
 
 sub-count-stretch-2 : tie.Need-sub-count-stretch-2 Inv-loop μ-loop
 sub-count-stretch-2 c = c .before .loop .inv .1

@@ -21,7 +21,8 @@ inside : (c : tie.After-first-in) → c .first-in .result < c .before .before .b
 inside c =
     let k = c .before .before .before in
     let a = k .before .before .args in
-    first-inside (a .cells) (a .n) (a .clash .now) (a .table .now) (k .lowest-clash .result) (c .before .word-at .ensures) (k .lowest-clash .ensures) (c .before .before .if1 .taken) (c .first-in .ensures)
+    first-inside (a .cells) (a .n) (a .clash .now) (a .table .now) (k .lowest-clash .result) (c .before .word-at .ensures) (k .lowest-clash .ensures)
+    (c .before .before .if1 .taken) (c .first-in .ensures)
 
 second-in-requires : tie.Need-second-in-requires
 second-in-requires c κs = omega (arith, inside c)
@@ -32,13 +33,18 @@ add-t12 c = omega (arith, inside (c .before))
 add-t13 : tie.Need-add-t13
 add-t13 c =
     let a = c .before .before .before .before .before .before .args in
-    omega (arith, c .second-in .ensures, second-most (a .cells) (a .n) (a .clash .now) (a .table .now) (c .before .before .word-at .result) (c .before .first-in .result) (inside (c .before)))
+    omega (
+      arith,
+      c .second-in .ensures,
+      second-most (a .cells) (a .n) (a .clash .now) (a .table .now) (c .before .before .word-at .result) (c .before .first-in .result) (inside (c .before)),
+    )
 
 returns : tie.Need-returns
 returns c =
     let k = c .before .before .before .before in
     let a = k .before .before .args in
-    is-clash (a .cells) (a .n) (a .loads) (a .clash .now) (a .table .now) (k .lowest-clash .ensures) (c .before .before .before .if1 .taken) (c .before .before .word-at .ensures) (c .before .first-in .ensures) (c .second-in .ensures)
+    is-clash (a .cells) (a .n) (a .loads) (a .clash .now) (a .table .now) (k .lowest-clash .ensures) (c .before .before .before .if1 .taken)
+    (c .before .before .word-at .ensures) (c .before .first-in .ensures) (c .second-in .ensures)
 
 lowest-wrong-requires : tie.Need-lowest-wrong-requires
 lowest-wrong-requires c κs = search needs
@@ -54,14 +60,16 @@ returns-2 c =
     let w = c .before .before in
     let k = w .before .before in
     let a = k .before .before .args in
-    is-count (a .cells) (a .n) (a .loads) (a .clash .now) (a .table .now) (k .lowest-clash .ensures) (w .before .if1 .left) (w .lowest-wrong .ensures) (c .before .if2 .taken) (c .row-count .ensures)
+    is-count (a .cells) (a .n) (a .loads) (a .clash .now) (a .table .now) (k .lowest-clash .ensures) (w .before .if1 .left) (w .lowest-wrong .ensures)
+    (c .before .if2 .taken) (c .row-count .ensures)
 
 returns-3 : tie.Need-returns-3
 returns-3 c =
     let w = c .before in
     let k = w .before .before in
     let a = k .before .before .args in
-    is-valid (a .cells) (a .n) (a .loads) (a .clash .now) (a .table .now) (k .lowest-clash .ensures) (w .before .if1 .left) (w .lowest-wrong .ensures) (c .if2 .left)
+    is-valid (a .cells) (a .n) (a .loads) (a .clash .now) (a .table .now) (k .lowest-clash .ensures) (w .before .if1 .left) (w .lowest-wrong .ensures)
+    (c .if2 .left)
 
 pub judge-spec : {M : Type 1} → statement M
 judge-spec =

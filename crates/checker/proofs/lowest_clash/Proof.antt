@@ -43,7 +43,8 @@ returns : tie.Need-returns Inv-loop μ-loop
 returns c =
     let at = c .before .before .before .before in
     let a = at .before .before .args in
-    part-found (test (a .table .now) (a .n) (a .clash .now) (a .cells)) (at .loop .from) (c .before .before .together .result) (a .n) (omega arith) (at .loop .inv .1)
+    part-found (test (a .table .now) (a .n) (a .clash .now) (a .cells)) (at .loop .from) (c .before .before .together .result) (a .n) (omega arith)
+    (at .loop .inv .1)
     (c .before .clash-in .ensures) (c .if1 .taken)
 
 add-from : tie.Need-add-from Inv-loop μ-loop
@@ -57,7 +58,8 @@ loop-again c =
     let at = c .before .before .before .before in
     let a = at .before .before .args in (
       omega arith,
-      part-missed (test (a .table .now) (a .n) (a .clash .now) (a .cells)) (at .loop .from) (c .before .before .together .result) (a .n) (omega arith) (at .loop .inv .1)
+      part-missed (test (a .table .now) (a .n) (a .clash .now) (a .cells)) (at .loop .from) (c .before .before .together .result) (a .n) (omega arith)
+          (at .loop .inv .1)
           (c .before .clash-in .ensures) (c .if1 .left),
     )
 

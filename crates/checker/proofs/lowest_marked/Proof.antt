@@ -1,23 +1,18 @@
 -- `checker::lowest_marked` meets its contract: a search: what is left gives the answer. Assumes nothing.
 use mathlib.Core.Path.{_≡_, refl, ap}
-use Prim.Native.Nat.{ℕ, _-_}
+use Prim.Native.Nat.{_-_}
 use native.Mathlib.Omega.{arith}
 use borrow.Author.Tests.{eq-eqb, ne-eqb}
-use mathlib.Core.Bool.{Bool, not}
-use mathlib.Core.List.{List}
-use lib.Dec.{eqb}
-use lib.ListN.{getD}
+use mathlib.Core.Bool.{not}
 use Rattle.laws.specs.Search.{first}
 use Rattle.laws.proofs.Search.{found, missed, ended}
+use Rattle.checker.specs.Marks.{markSet}
 use borrow.Author.Needs.{needs}
 use Rattle.checker.proofs.lowest_marked.Statement.{statement}
 use Rattle.checker.proofs.lowest_marked.Tie as tie
 
-abbrev test : List ℕ → ℕ → Bool
-test marks k = not (eqb (getD marks k 0) 0)
-
 abbrev Inv-loop : tie.InvT-loop
-Inv-loop marks n p₀ p = first (test marks) 0 n ≡ first (test marks) p n
+Inv-loop marks n p₀ p = first (markSet marks) 0 n ≡ first (markSet marks) p n
 
 abbrev μ-loop : tie.MeasureT-loop
 μ-loop marks n p₀ p = n - p
@@ -35,7 +30,7 @@ returns : tie.Need-returns Inv-loop μ-loop
 returns c =
     let at = c .before .before .before in
     let a = at .before .args in
-    found (test (a .marks .now)) (at .loop .p) (a .n) (at .loop .inv) (omega arith) (ap not (ne-eqb _ _ (c .if1 .taken)))
+    found (markSet (a .marks .now)) (at .loop .p) (a .n) (at .loop .inv) (omega arith) (ap not (ne-eqb _ _ (c .if1 .taken)))
 
 add-p : tie.Need-add-p Inv-loop μ-loop
 add-p c = search needs
@@ -47,13 +42,13 @@ loop-again : tie.Need-loop-again Inv-loop μ-loop
 loop-again c =
     let at = c .before .before .before in
     let a = at .before .args in
-    missed (test (a .marks .now)) (at .loop .p) (a .n) (at .loop .inv) (omega arith) (ap not (eq-eqb _ _ (c .if1 .left)))
+    missed (markSet (a .marks .now)) (at .loop .p) (a .n) (at .loop .inv) (omega arith) (ap not (eq-eqb _ _ (c .if1 .left)))
 
 returns-2 : tie.Need-returns-2 Inv-loop μ-loop
 returns-2 c =
     let at = c .before in
     let a = at .before .args in
-    ended (test (a .marks .now)) (at .loop .p) (a .n) (at .loop .inv) (omega arith)
+    ended (markSet (a .marks .now)) (at .loop .p) (a .n) (at .loop .inv) (omega arith)
 
 pub lowest-marked-spec : {M : Type 1} → statement M
 lowest-marked-spec =

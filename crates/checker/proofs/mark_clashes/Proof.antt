@@ -10,8 +10,7 @@ use Rattle.laws.proofs.Stores.{sets-long, sets-same}
 use Rattle.theory.specs.Greedy.{reserved}
 use Rattle.words.specs.Words.{wordFrom}
 use Rattle.words.proofs.Words.{from-none}
-use Rattle.checker.specs.Marks.{clashNet, Marks}
-use Rattle.checker.proofs.Marks.{marks-none, words-more, marks-more}
+use Rattle.checker.proofs.Marks.{MarksFrom, marks-none, words-more, marks-more, marks-all}
 use borrow.Author.Needs.{needs}
 use Rattle.checker.proofs.mark_clashes.Statement.{statement}
 use Rattle.checker.proofs.mark_clashes.Tie as tie
@@ -22,7 +21,7 @@ Inv-loop words₀ marks₀ table n from m clash cells a₀ words marks a =
     × (length words ≡ length words₀)
     × (length marks ≡ length marks₀)
     × (words ≡ sets words₀ 0 (listOf (λ k. wordFrom a cells (reserved n table) (from + k)) m))
-    × Marks (clashNet cells n clash) (reserved n table) from m a marks
+    × MarksFrom cells n clash table from m a marks
 
 abbrev μ-loop : tie.MeasureT-loop
 μ-loop words₀ marks₀ table n from m clash cells a₀ words marks a = a
@@ -43,7 +42,8 @@ sub-a : tie.Need-sub-a Inv-loop μ-loop
 sub-a c = search needs
 
 -- the cell that is joined is one of the cells
-lower : (c : tie.After-join-row-arg2 Inv-loop μ-loop) → c .before .before .before .loop .a - 1 < c .before .before .before .before .before .before .before .args .cells
+lower : (c : tie.After-join-row-arg2 Inv-loop μ-loop) → c .before .before .before .loop .a - 1
+    < c .before .before .before .before .before .before .before .args .cells
 lower c = omega arith
 
 mul-join-row : tie.Need-mul-join-row Inv-loop μ-loop
@@ -76,12 +76,16 @@ loop-again c =
     let l = c .before .before .before .before .before .before .before .before .before .loop in
     let r = c .before .before .before .before .join-row in
     let e : l .a ≡ l .a - 1 + 1 = omega arith in
-    let words = rw e at (l .inv .3) in (
+    let words = rw e at (l .inv .3) in
+    let below : l .a - 1 < a .cells = omega arith in
+    let long : a .m ≤ length (a .words .now) = omega arith in (
       omega arith,
       sets-long _ (a .m) (l .words) _ (r .ensures .0) ∙ l .inv .1,
       sets-long _ (a .m) (l .marks) _ (r .ensures .1) ∙ l .inv .2,
-      words-more (a .cells) (a .n) (a .clash .now) (a .table .now) (a .from) (a .m) (l .a - 1) (omega arith) (a .words .now) (l .words) (omega arith) words (r .last .0) (omega arith) (r .ensures .0),
-      marks-more (a .cells) (a .n) (a .clash .now) (a .table .now) (a .from) (a .m) (l .a - 1) (omega arith) (a .words .now) (l .words) (omega arith) words (l .marks) (r .last .1 .0) (omega arith) (rw e at (l .inv .4)) (r .ensures .1),
+      words-more (a .cells) (a .n) (a .clash .now) (a .table .now) (a .from) (a .m) (l .a - 1) below (a .words .now) (l .words) long words
+          (r .last .0) (omega arith) (r .ensures .0),
+      marks-more (a .cells) (a .n) (a .clash .now) (a .table .now) (a .from) (a .m) (l .a - 1) below (a .words .now) (l .words) long words
+          (l .marks) (r .last .1 .0) (omega arith) (rw e at (l .inv .4)) (r .ensures .1),
     )
 
 same-length : tie.Need-same-length Inv-loop μ-loop
@@ -92,8 +96,10 @@ same-length-2 c = search needs
 
 returns : tie.Need-returns Inv-loop μ-loop
 returns c =
-    let e : c .before .loop .a ≡ 0 = omega arith in
-    rw e at (c .before .loop .inv .4)
+    let a = c .before .before .before .before .before .args in
+    let l = c .before .loop in
+    let e : l .a ≡ 0 = omega arith in
+    marks-all (a .cells) (a .n) (a .clash .now) (a .table .now) (a .from) (a .m) (l .marks) (rw e at (l .inv .4))
 
 pub mark-clashes-spec : {M : Type 1} → statement M
 mark-clashes-spec =

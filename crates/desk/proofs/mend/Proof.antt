@@ -1,4 +1,4 @@
--- `desk::mend` is safe: the room for words keeps its length through every call. Assumes nothing.
+-- `desk::mend` is safe: the room for text keeps its length through every call. Assumes nothing.
 use native.Mathlib.Omega.{arith}
 use borrow.Author.Needs.{needs}
 use Rattle.desk.proofs.mend.Statement.{statement}
@@ -22,8 +22,8 @@ read-plan-requires c κs = search needs
 mend-only-requires : tie.Need-mend-only-requires
 mend-only-requires c κs = search needs
 
-mend-words-requires : tie.Need-mend-words-requires
-mend-words-requires c κs = search needs
+put-mend-requires : tie.Need-put-mend-requires
+put-mend-requires c κs = search needs
 
 enum-told : tie.Need-enum-told
 enum-told c = search needs
@@ -47,7 +47,7 @@ put-mended-requires : tie.Need-put-mended-requires
 put-mended-requires c κs =
     let said = c .before .before .before .before .before .before .before .before in
     let read = said .before .before .before .before .before .before .before .before .before .before .before .before .before .before .before .before .before in
-    omega (arith, said .mend-words .kept .0, read .read-pair .kept .1 .1 .1 .0, read .before .before .before .before .before .before .before .before .before .pre)
+    omega (arith, said .put-mend .kept .0, read .read-pair .kept .1 .1 .1 .0, read .before .before .before .before .before .before .before .before .before .pre)
 
 same-length-6 : tie.Need-same-length-6
 same-length-6 c = search needs
@@ -74,7 +74,7 @@ mend-spec =
     returns
     read-plan-requires
     mend-only-requires
-    mend-words-requires
+    put-mend-requires
     enum-told
     no-requires
     same-length-3

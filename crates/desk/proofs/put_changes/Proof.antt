@@ -8,10 +8,10 @@ use Rattle.desk.proofs.put_changes.Statement.{statement}
 use Rattle.desk.proofs.put_changes.Tie as tie
 
 abbrev Inv-loop : tie.InvT-loop
-Inv-loop old new words₀ cells slots channels at₀ i₀ words at i = (i ≤ cells) × (length words ≡ length words₀)
+Inv-loop old new text₀ cells slots channels at₀ i₀ text at i = (i ≤ cells) × (length text ≡ length text₀)
 
 abbrev μ-loop : tie.MeasureT-loop
-μ-loop old new words₀ cells slots channels at₀ i₀ words at i = cells - i
+μ-loop old new text₀ cells slots channels at₀ i₀ text at i = cells - i
 
 cast-cells : tie.Need-cast-cells Inv-loop μ-loop
 cast-cells c = search needs
@@ -32,7 +32,10 @@ add-put-row : tie.Need-add-put-row Inv-loop μ-loop
 add-put-row c = search needs
 
 put-row-requires : tie.Need-put-row-requires Inv-loop μ-loop
-put-row-requires c κs = (omega (arith, c .before .before .before .before .before .before .before .before .before .before .pre, c .before .before .loop .inv .1), omega arith)
+put-row-requires c κs = (
+  omega (arith, c .before .before .before .before .before .before .before .before .before .before .pre, c .before .before .loop .inv .1),
+  omega arith,
+)
 
 same-length : tie.Need-same-length Inv-loop μ-loop
 same-length c = let r = c .before .before .before .before in r .put-row .kept .1 .1 .0 ∙ r .before .before .before .loop .inv .1

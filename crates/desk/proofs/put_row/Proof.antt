@@ -9,10 +9,10 @@ use Rattle.desk.proofs.put_row.Statement.{statement}
 use Rattle.desk.proofs.put_row.Tie as tie
 
 abbrev Inv-loop : tie.InvT-loop
-Inv-loop old new words₀ from slots channels cell at₀ slot₀ words at slot = (slot ≤ slots) × (length words ≡ length words₀)
+Inv-loop old new text₀ from slots channels cell at₀ slot₀ text at slot = (slot ≤ slots) × (length text ≡ length text₀)
 
 abbrev μ-loop : tie.MeasureT-loop
-μ-loop old new words₀ from slots channels cell at₀ slot₀ words at slot = slots - slot
+μ-loop old new text₀ from slots channels cell at₀ slot₀ text at slot = slots - slot
 
 loop-holds : tie.Need-loop-holds Inv-loop μ-loop
 loop-holds c = (omega arith, refl)
@@ -35,11 +35,11 @@ same-length-2 c = search needs
 returns-2 : tie.Need-returns-2 Inv-loop μ-loop
 returns-2 c = search needs
 
-add-slot-words : tie.Need-add-slot-words Inv-loop μ-loop
-add-slot-words c = search needs
+add-put-changes : tie.Need-add-put-changes Inv-loop μ-loop
+add-put-changes c = search needs
 
-slot-words-requires : tie.Need-slot-words-requires Inv-loop μ-loop
-slot-words-requires c κs =
+put-changes-requires : tie.Need-put-changes-requires Inv-loop μ-loop
+put-changes-requires c κs =
     let s = c .before .before .before .before .before .before .before .before .before .before in
     let l = c .before .before .before .before .before .before .loop in (
       c .before .before .before .before .holds .ensures (not-false _ (c .before .before .before .if1 .left)),
@@ -47,13 +47,13 @@ slot-words-requires c κs =
       omega (arith, s .pre .0, s .pre .1, l .inv .1),
     )
 
-words-requires : tie.Need-words-requires Inv-loop μ-loop
-words-requires c κs = search needs
+message-requires : tie.Need-message-requires Inv-loop μ-loop
+message-requires c κs = search needs
 
 same-length-3 : tie.Need-same-length-3 Inv-loop μ-loop
 same-length-3 c =
     let w = c .before .before .before .before .before in
-    w .slot-words .kept .0 ∙ w .before .before .before .before .before .before .before .loop .inv .1
+    w .put-changes .kept .0 ∙ w .before .before .before .before .before .before .before .loop .inv .1
 
 returns-3 : tie.Need-returns-3 Inv-loop μ-loop
 returns-3 c = search needs
@@ -70,7 +70,7 @@ loop-less c = omega arith
 loop-again : tie.Need-loop-again Inv-loop μ-loop
 loop-again c =
     let w = c .before .before .before .before .before in
-    (omega arith, w .slot-words .kept .0 ∙ w .before .before .before .before .before .before .before .loop .inv .1)
+    (omega arith, w .put-changes .kept .0 ∙ w .before .before .before .before .before .before .before .loop .inv .1)
 
 same-length-4 : tie.Need-same-length-4 Inv-loop μ-loop
 same-length-4 c = c .before .loop .inv .1
@@ -91,9 +91,9 @@ put-row-spec =
     holds-requires-2
     same-length-2
     returns-2
-    add-slot-words
-    slot-words-requires
-    words-requires
+    add-put-changes
+    put-changes-requires
+    message-requires
     same-length-3
     returns-3
     add-at

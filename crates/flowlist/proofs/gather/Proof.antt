@@ -1,4 +1,5 @@
--- `flowlist::gather` meets its contract: a walk of its MIR, by hand, with a loop. Each turn calls `flow_at` on a copy of the slice reference, and the covered `push`.
+-- `flowlist::gather` meets its contract: a walk of its MIR, by hand, with a loop.
+-- Each turn calls `flow_at` on a copy of the slice reference, and the covered `push`.
 -- The loop's variant is the index, with what whoever holds the list so far knows of it.
 -- Assumes nothing.
 use mathlib.Core.Path.{_≡_, refl, sym, ap, subst, _∙_}
@@ -23,8 +24,10 @@ use prog.Wp.{Heap, Out, Env, afterSeq, afterBlock, afterTurn, Calls, Loops, Wp, 
 use ghost.Atoms.{Atoms, sem}
 use contract.Monad.{Fun, fact}
 use contract.Running.{givenOf, tables, tablesOf}
-use types.Kit.{Given, Item, ‵, raw, runs, anyQ, atRet, Sq, _⊛_, ⋆, some, later, _$_, _∵_, !, qed, by, move, keep, drop, use1, use2, split, join, pick, rewrite, fsplit, fjoin, suffices, frame, await, done}
-use types.Run.{look, store, init, forget, stop, fld, from, load, lit, bin, and-then, no-more, land, of-opd, assigns, assigns-last, first, skips, jumps, blocks, branches, returns, enter, alloc1, alloc0, params1, pass1, pass0, free1, free0, exec, Below, again, loops}
+use types.Kit.{Given, Item, ‵, raw, runs, anyQ, atRet, Sq, _⊛_, ⋆, some, later, _$_, _∵_, !, qed, by, move, keep, drop}
+use types.Kit.{use1, use2, split, join, pick, rewrite, fsplit, fjoin, suffices, frame, await, done}
+use types.Run.{look, store, init, forget, stop, fld, from, load, lit, bin, and-then, no-more, land, of-opd, assigns, assigns-last, first, skips}
+use types.Run.{jumps, blocks, branches, returns, enter, alloc1, alloc0, params1, pass1, pass0, free1, free0, exec, Below, again, loops}
 use types.Part.{whole, sub, look-in}
 use sound.WpLaws.{FmC, fmOf, WpFn-mono}
 use denote.RattleType.{RattleType, owns}
@@ -128,7 +131,8 @@ slice = sliceTy (tyRef (named 0) imm (pointee (R .written)))
 abbrev more : Body
 more =
     seq (call #flowlist·flow-at (copy (place 1 []) ∷ copy (place 4 []) ∷ []) (place 5 []))
-    (seq (call #flowlist·push (copy (place 3 []) ∷ copy (place 5 []) ∷ []) (place 3 [])) (assign (place 4 []) (op2 (add unsigned) (copy (place 4 [])) (int w64 1))))
+    (seq (call #flowlist·push (copy (place 3 []) ∷ copy (place 5 []) ∷ []) (place 3 []))
+    (assign (place 4 []) (op2 (add unsigned) (copy (place 4 [])) (int w64 1))))
 
 abbrev rest : Body
 rest = code.Mir.t-6
@@ -156,13 +160,16 @@ module _ {M : Type 1} (𝓤 : URA M) (H : Heap 𝓤) (A : Atoms 𝓤) (at-mem : 
   empty-of : (r : FlowList) → ent 𝓤 (ensured 𝓤 H A empty.ended (empty.clauses 𝓤 H A at-mem run) tt tt tt r) (fact 𝓤 (r ≡ noFlows))
   empty-of r = exE 𝓤 _ (λ ws. snd∗ 𝓤 (sem 𝓤 H A (lasts empty.ended tt tt ws)) (fact 𝓤 (r ≡ noFlows)))
 
-  push-of : (l : FlowList) (f : Flow) (r : FlowList) → ent 𝓤 (ensured 𝓤 H A push.ended (push.clauses 𝓤 H A at-mem run) tt (l, (f, tt)) tt r) (fact 𝓤 (r ≡ withFlow l f))
+  push-of : (l : FlowList) (f : Flow) (r : FlowList) → ent 𝓤 (ensured 𝓤 H A push.ended (push.clauses 𝓤 H A at-mem run) tt (l, (f, tt)) tt r)
+      (fact 𝓤 (r ≡ withFlow l f))
   push-of l f r = exE 𝓤 _ (λ ws. snd∗ 𝓤 (sem 𝓤 H A (lasts push.ended tt (l, (f, tt)) ws)) (fact 𝓤 (r ≡ withFlow l f)))
 
-  flow-of : (κ : Lft) (t : RefT (List Flow)) (k : ℕ) (r : Flow) → ent 𝓤 (ensured 𝓤 H A flow-at.ended (flow-at.clauses 𝓤 H A at-mem run) (κ, tt) (t, (k, tt)) tt r) (fact 𝓤 (r ≡ flowAt (t .now) k))
+  flow-of : (κ : Lft) (t : RefT (List Flow)) (k : ℕ) (r : Flow) → ent 𝓤 (ensured 𝓤 H A flow-at.ended (flow-at.clauses 𝓤 H A at-mem run) (κ, tt) (t, (k, tt)) tt
+      r) (fact 𝓤 (r ≡ flowAt (t .now) k))
   flow-of κ t k r = exE 𝓤 _ (λ ws. snd∗ 𝓤 (sem 𝓤 H A (lasts flow-at.ended (κ, tt) (t, (k, tt)) ws)) (fact 𝓤 (r ≡ flowAt (t .now) k)))
 
-module _ {M : Type 1} (𝓤 : URA M) (H : Heap 𝓤) (A : Atoms 𝓤) (W : Given 𝓤 H A) (at-mem : Memory → SProp 𝓤) (run : Routine → Fun 𝓤) (κ : Lft) (q : Share) (b o : ℕ) (γ : GName) (ys : List Flow) (room : Room R (length ys)) where
+module _ {M : Type 1} (𝓤 : URA M) (H : Heap 𝓤) (A : Atoms 𝓤) (W : Given 𝓤 H A) (at-mem : Memory → SProp 𝓤) (run : Routine → Fun 𝓤) (κ : Lft) (q : Share)
+    (b o : ℕ) (γ : GName) (ys : List Flow) (room : Room R (length ys)) where
   abbrev t : RefT (List Flow)
   t = record { ptr = (b, o); name = γ; now = ys }
 
@@ -186,7 +193,8 @@ module _ {M : Type 1} (𝓤 : URA M) (H : Heap 𝓤) (A : Atoms 𝓤) (W : Given
 
   exits : (d : FlowList) → d ≡ gathered ys (few n) → Is GR d (mach d ∷ []) → ent 𝓤 (⋆ 𝓤 H A ((‵ (flft κ q) ⊛ ‵ ftrue) ∷ ‵ Own ∷ [])) (Post (mach d))
   exits d e g =
-      qed W ((‵ (flft κ q) ⊛ ‵ ftrue) ∷ ‵ Own ∷ []) ∵ suffices ! _ (ends-at 𝓤 H A F.ended stayed (F.clauses 𝓤 H A at-mem run) W (((κ, tt), (q, tt), tt, x, at), tt) (mach d) d (tt, tt) (tt, tt)) $ says ! e $
+      qed W ((‵ (flft κ q) ⊛ ‵ ftrue) ∷ ‵ Own ∷ []) ∵ suffices ! _ (ends-at 𝓤 H A F.ended stayed (F.clauses 𝓤 H A at-mem run) W
+      (((κ, tt), (q, tt), tt, x, at), tt) (mach d) d (tt, tt) (tt, tt)) $ says ! e $
       frame ! $ nothing ! $ move ! (1 ∷ 0 ∷ []) $ fjoin ! $ owned ! GR (Is GR) (LL.makes G.the-type G′.the-plain 𝓤 H A) d _ g $ move ! (1 ∷ 0 ∷ []) $ done !
 
   -- ---- what each callee is handed
@@ -200,21 +208,25 @@ module _ {M : Type 1} (𝓤 : URA M) (H : Heap 𝓤) (A : Atoms 𝓤) (W : Given
   to-limit = ((tt, tt, tt, (n, tt), (vint w64 n ∷ [], tt)), tt)
 
   goes-limit : ent 𝓤 (sem 𝓤 H A ftrue) (Limit 𝓤 H A at-mem run .pre to-limit)
-  goes-limit = qed W (‵ ftrue ∷ []) ∵ nothing ! $ owned ! usize (Is usize) (uint-makes 𝓤 H A W w64) n _ (refl, room .0) $ fjoin ! $ move ! (1 ∷ 0 ∷ []) $ join ! $ frame ! $ done !
+  goes-limit = qed W (‵ ftrue ∷ []) ∵ nothing ! $ owned ! usize (Is usize) (uint-makes 𝓤 H A W w64) n _ (refl, room .0) $ fjoin ! $ move ! (1 ∷ 0 ∷ []) $
+      join ! $ frame ! $ done !
 
   abbrev to-flow : ℕ → FlowAt 𝓤 H A at-mem run .Ghost
   to-flow k = (((κ, tt), (q, tt), tt, (t, (k, tt)), (s ∷ [], (vint w64 k ∷ [], tt))), tt)
 
   goes-flow : (k : ℕ) → k < n → k < 2 ^ 64 → ent 𝓤 (sep 𝓤 (sep 𝓤 (A .lft κ q) (sem 𝓤 H A ftrue)) (sem 𝓤 H A Own)) (FlowAt 𝓤 H A at-mem run .pre (to-flow k))
   goes-flow k within fits =
-      qed W ((‵ (flft κ q) ⊛ ‵ ftrue) ∷ ‵ Own ∷ []) ∵ says ! within $ frame ! $ nothing ! $ owned ! usize (Is usize) (uint-makes 𝓤 H A W w64) k _ (refl, fits) $ fjoin ! $ move ! (1 ∷ 0 ∷ []) $ fjoin ! $ done !
+      qed W ((‵ (flft κ q) ⊛ ‵ ftrue) ∷ ‵ Own ∷ []) ∵ says ! within $ frame ! $ nothing ! $ owned ! usize (Is usize) (uint-makes 𝓤 H A W w64) k _ (refl, fits) $
+      fjoin ! $ move ! (1 ∷ 0 ∷ []) $ fjoin ! $ done !
 
   abbrev to-push : FlowList → Flow → Val → Push 𝓤 H A at-mem run .Ghost
   to-push l f w = ((tt, tt, tt, (l, (f, tt)), (mach l ∷ [], (w ∷ [], tt))), tt)
 
-  goes-push : (l : FlowList) (f : Flow) (w : Val) → l .count < 16 → Is GR l (mach l ∷ []) → Is R f (w ∷ []) → ent 𝓤 (sem 𝓤 H A ftrue) (Push 𝓤 H A at-mem run .pre (to-push l f w))
+  goes-push : (l : FlowList) (f : Flow) (w : Val) → l .count < 16 → Is GR l (mach l ∷ []) → Is R f (w ∷ [])
+      → ent 𝓤 (sem 𝓤 H A ftrue) (Push 𝓤 H A at-mem run .pre (to-push l f w))
   goes-push l f w some-room g is =
-      qed W (‵ ftrue ∷ []) ∵ says ! some-room $ frame ! $ nothing ! $ owned ! R (Is R) (LL.makes T.the-type T′.the-plain 𝓤 H A) f _ is $ fjoin ! $ owned ! GR (Is GR) (LL.makes G.the-type G′.the-plain 𝓤 H A) l _ g $ fjoin ! $ done !
+      qed W (‵ ftrue ∷ []) ∵ says ! some-room $ frame ! $ nothing ! $ owned ! R (Is R) (LL.makes T.the-type T′.the-plain 𝓤 H A) f _ is $ fjoin ! $
+      owned ! GR (Is GR) (LL.makes G.the-type G′.the-plain 𝓤 H A) l _ g $ fjoin ! $ done !
 
   -- ---- the loop, up to m. Its variant: the index, and what is known of the list so far
   module _ (m : ℕ) (most : m ≤ n) (m-16 : m ≤ 16) (m-is : m ≡ few n) where
@@ -245,42 +257,60 @@ module _ {M : Type 1} (𝓤 : URA M) (H : Heap 𝓤) (A : Atoms 𝓤) (W : Given
 
       abbrev At : Upto → List (Item 𝓤)
       At i =
-          ‵ (froom tyBool l₇ 0) ∷ ‵ (fdies tyBool l₇) ∷ ‵ (fat fullShare word l₆ 0 (vint w64 n)) ∷ ‵ (fdies word l₆) ∷ ‵ (froom T′.mir l₅ 0) ∷ ‵ (fdies T′.mir l₅) ∷ ‵ (fat fullShare word l₄ 0 (vint w64 (i .0))) ∷ ‵ (fdies word l₄) ∷
-          ‵ (fat fullShare G′.mir l₃ 0 (mach (gathered ys (i .0)))) ∷ ‵ (fdies G′.mir l₃) ∷ ‵ (fat fullShare word l₂ 0 (vint w64 m)) ∷ ‵ (fdies word l₂) ∷ ‵ (fat fullShare slice l₁ 0 s) ∷ ‵ (fdies slice l₁) ∷
+          ‵ (froom tyBool l₇ 0) ∷ ‵ (fdies tyBool l₇) ∷ ‵ (fat fullShare word l₆ 0 (vint w64 n)) ∷ ‵ (fdies word l₆) ∷ ‵ (froom T′.mir l₅ 0)
+          ∷ ‵ (fdies T′.mir l₅) ∷ ‵ (fat fullShare word l₄ 0 (vint w64 (i .0))) ∷ ‵ (fdies word l₄) ∷
+          ‵ (fat fullShare G′.mir l₃ 0 (mach (gathered ys (i .0)))) ∷ ‵ (fdies G′.mir l₃) ∷ ‵ (fat fullShare word l₂ 0 (vint w64 m)) ∷ ‵ (fdies word l₂)
+          ∷ ‵ (fat fullShare slice l₁ 0 s) ∷ ‵ (fdies slice l₁) ∷
           ‵ (froom G′.mir l₀ 0) ∷ ‵ (fdies G′.mir l₀) ∷ (‵ (flft κ q) ⊛ ‵ ftrue) ∷ ‵ Own ∷ []
 
       abbrev Turned : Upto → Out → SProp 𝓤
       Turned i = afterTurn 𝓤 H (Below 𝓤 H A Nearer At i) (afterBlock 𝓤 H (afterSeq 𝓤 H (Wp 𝓤 H C Λ En rest (atReturn 𝓤 H En Post)) (atReturn 𝓤 H En Post)))
 
-      module _ (fm : FmC 𝓤 H (W .laws) C) (known-flow : Triple 𝓤 (C #flowlist·flow-at) (FlowAt 𝓤 H A at-mem run)) (known-push : Triple 𝓤 (C #flowlist·push) (Push 𝓤 H A at-mem run)) where
+      module _ (fm : FmC 𝓤 H (W .laws) C) (known-flow : Triple 𝓤 (C #flowlist·flow-at) (FlowAt 𝓤 H A at-mem run))
+          (known-push : Triple 𝓤 (C #flowlist·push) (Push 𝓤 H A at-mem run)) where
         turns : (i : Upto) → Sq W (At i) (runs C Λ En code.Mir.turn-1 (anyQ (Turned i)))
         unfolding afterTurn
         turns i =
             -- [_7; …; len; …; _5; …; i; …; l; …; m; …; flows; …; room for _0; …; the token; what flows owns]
-            assigns ! (bin ! (load ! (from ! (stop !)) (look ! 6 refl)) (load ! (from ! (stop !)) (look ! 10 refl)) tt) (from ! (stop !)) (init ! 0 refl (tt, tt)) $
+            assigns ! (bin ! (load ! (from ! (stop !)) (look ! 6 refl)) (load ! (from ! (stop !)) (look ! 10 refl)) tt) (from ! (stop !))
+            (init ! 0 refl (tt, tt)) $
             first ! $ branches ! (load ! (from ! (stop !)) (look ! 0 refl))
             (λ less. skips ! $ exec ! C Λ En more (anyQ (Turned i)) $
             -- `flow_at`, on a copy of the slice reference
             move ! (17 ∷ []) $ use1 W (‵ Own ⊛ ‵ Own) (shr-slice-copy 𝓤 H A W (named 0) κ R .twice t (s ∷ [])) $ split ! $ move ! (18 ∷ 0 ∷ []) $
             use2 W (raw (FlowAt 𝓤 H A at-mem run .pre (to-flow (i .0)))) (goes-flow (i .0) (lt-of-lt-of-le (ltb→lt (i .0) m less) most) (within (i .1))) $
-            calls-at ! fm (FlowAt 𝓤 H A at-mem run) known-flow (to-flow (i .0)) (and-then ! (load ! (from ! (stop !)) (look ! 14 refl)) (and-then ! (load ! (from ! (stop !)) (look ! 8 refl)) (no-more !))) (λ w.
-            use1 W (later (some (λ (r : Flow). ((‵ (flft κ q) ⊛ ‵ ftrue) ⊛ ‵ (R .own r (w ∷ []))) ⊛ raw (ensured 𝓤 H A flow-at.ended (flow-at.clauses 𝓤 H A at-mem run) (κ, tt) (t, (i .0, tt)) tt r)))) (id⊢ 𝓤 _) $ await ! tt $ pick ! (λ r.
-            split ! $ move ! (1 ∷ []) $ use1 W (raw (fact 𝓤 (r ≡ flowAt ys (i .0)))) (flow-of 𝓤 H A at-mem run κ t (i .0) r) $ heard ! (r ≡ flowAt ys (i .0)) (λ e. split ! $
-            move ! (1 ∷ []) $ peeks ! R (Is R) (shows 𝓤 H A R) r (w ∷ []) (λ is. land ! (from ! (stop !)) (init ! 7 refl (LL.lawful T.the-type T′.the-laws 𝓤 H A W .typed r _ is .0)) $ drop ! $
+            calls-at ! fm (FlowAt 𝓤 H A at-mem run) known-flow (to-flow (i .0))
+            (and-then ! (load ! (from ! (stop !)) (look ! 14 refl)) (and-then ! (load ! (from ! (stop !)) (look ! 8 refl)) (no-more !))) (λ w.
+            use1 W (later (some (λ (r : Flow). ((‵ (flft κ q) ⊛ ‵ ftrue) ⊛ ‵ (R .own r (w ∷ [])))
+            ⊛ raw (ensured 𝓤 H A flow-at.ended (flow-at.clauses 𝓤 H A at-mem run) (κ, tt) (t, (i .0, tt)) tt r)))) (id⊢ 𝓤 _) $ await ! tt $ pick ! (λ r.
+            split ! $ move ! (1 ∷ []) $ use1 W (raw (fact 𝓤 (r ≡ flowAt ys (i .0)))) (flow-of 𝓤 H A at-mem run κ t (i .0) r) $
+            heard ! (r ≡ flowAt ys (i .0)) (λ e. split ! $
+            move ! (1 ∷ []) $ peeks ! R (Is R) (shows 𝓤 H A R) r (w ∷ []) (λ is.
+            land ! (from ! (stop !)) (init ! 7 refl (LL.lawful T.the-type T′.the-laws 𝓤 H A W .typed r _ is .0)) $ drop ! $
             -- [the token; what flows owns; _7; …; len; …; f; …; i; …; l; …; m; …; flows; …; room for _0; …]: `push`
-            nothing ! $ use1 W (raw (Push 𝓤 H A at-mem run .pre (to-push (gathered ys (i .0)) r w))) (goes-push (gathered ys (i .0)) r w (space i (ltb→lt (i .0) m less)) (i .2) is) $
-            calls-at ! fm (Push 𝓤 H A at-mem run) known-push (to-push (gathered ys (i .0)) r w) (and-then ! (load ! (from ! (stop !)) (look ! 11 refl)) (and-then ! (load ! (from ! (stop !)) (look ! 7 refl)) (no-more !))) (λ w′.
-            use1 W (later (some (λ (r′ : FlowList). (‵ ftrue ⊛ ‵ (GR .own r′ (w′ ∷ []))) ⊛ raw (ensured 𝓤 H A push.ended (push.clauses 𝓤 H A at-mem run) tt (gathered ys (i .0), (r, tt)) tt r′)))) (id⊢ 𝓤 _) $ await ! tt $ pick ! (λ r′.
-            split ! $ move ! (1 ∷ []) $ use1 W (raw (fact 𝓤 (r′ ≡ withFlow (gathered ys (i .0)) r))) (push-of 𝓤 H A at-mem run (gathered ys (i .0)) r r′) $ heard ! (r′ ≡ withFlow (gathered ys (i .0)) r) (λ e′. split ! $ drop ! $
-            peeks ! GR (Is GR) (shows 𝓤 H A GR) r′ (w′ ∷ []) (λ is′. land ! (from ! (stop !)) (store ! 11 refl (LL.lawful G.the-type G′.the-laws 𝓤 H A W .typed r′ _ is′ .0)) $
+            nothing ! $ use1 W (raw (Push 𝓤 H A at-mem run .pre (to-push (gathered ys (i .0)) r w)))
+            (goes-push (gathered ys (i .0)) r w (space i (ltb→lt (i .0) m less)) (i .2) is) $
+            calls-at ! fm (Push 𝓤 H A at-mem run) known-push (to-push (gathered ys (i .0)) r w)
+            (and-then ! (load ! (from ! (stop !)) (look ! 11 refl)) (and-then ! (load ! (from ! (stop !)) (look ! 7 refl)) (no-more !))) (λ w′.
+            use1 W (later (some (λ (r′ : FlowList). (‵ ftrue ⊛ ‵ (GR .own r′ (w′ ∷ [])))
+            ⊛ raw (ensured 𝓤 H A push.ended (push.clauses 𝓤 H A at-mem run) tt (gathered ys (i .0), (r, tt)) tt r′)))) (id⊢ 𝓤 _) $ await ! tt $ pick ! (λ r′.
+            split ! $ move ! (1 ∷ []) $ use1 W (raw (fact 𝓤 (r′ ≡ withFlow (gathered ys (i .0)) r))) (push-of 𝓤 H A at-mem run (gathered ys (i .0)) r r′) $
+            heard ! (r′ ≡ withFlow (gathered ys (i .0)) r) (λ e′. split ! $ drop ! $
+            peeks ! GR (Is GR) (shows 𝓤 H A GR) r′ (w′ ∷ []) (λ is′. land ! (from ! (stop !))
+            (store ! 11 refl (LL.lawful G.the-type G′.the-laws 𝓤 H A W .typed r′ _ is′ .0)) $
             rewrite ! 11 (λ (u : Val). ‵ (fat fullShare G′.mir l₃ 0 u)) (spells r′ w′ is′ ∙ ap mach (one-more r r′ e e′)) refl $ drop ! $
-            assigns-last ! (bin ! (load ! (from ! (stop !)) (look ! 8 refl)) (lit ! tt) (record { fits = within (add-one-le (ltb→lt (i .0) m less)) })) (from ! (stop !)) (store ! 8 refl (tt, record { fits = within (add-one-le (ltb→lt (i .0) m less)) })) $
+            assigns-last ! (bin ! (load ! (from ! (stop !)) (look ! 8 refl)) (lit ! tt) (record { fits = within (add-one-le (ltb→lt (i .0) m less)) }))
+            (from ! (stop !)) (store ! 8 refl (tt, record { fits = within (add-one-le (ltb→lt (i .0) m less)) })) $
             forget ! 2 refl $ forget ! 6 refl $ move ! (2 ∷ 3 ∷ 4 ∷ 5 ∷ 6 ∷ 7 ∷ 8 ∷ 9 ∷ 10 ∷ 11 ∷ 12 ∷ 13 ∷ 14 ∷ 15 ∷ 16 ∷ 17 ∷ []) $
-            again ! Nearer At i (i .0 + 1, add-one-le (ltb→lt (i .0) m less), known-at r′ (gathered ys (i .0 + 1)) w′ is′ (one-more r r′ e e′)) (add-one-dec m (i .0) (ltb→lt (i .0) m less)))))))))))
+            again ! Nearer At i (i .0 + 1, add-one-le (ltb→lt (i .0) m less), known-at r′ (gathered ys (i .0 + 1)) w′ is′ (one-more r r′ e e′))
+            (add-one-dec m (i .0) (ltb→lt (i .0) m less)))))))))))
             (λ over. jumps ! $ exec ! C Λ En rest (atRet En Post) $
-            assigns ! (of-opd ! (load ! (from ! (stop !)) (look ! 8 refl))) (from ! (stop !)) (init ! 14 refl (LL.lawful G.the-type G′.the-laws 𝓤 H A W .typed (gathered ys (i .0)) _ (i .2) .0)) $
-            returns ! (look ! 14 refl) $ forget ! 0 refl $ forget ! 2 refl $ forget ! 6 refl $ forget ! 8 refl $ forget ! 10 refl $ forget ! 12 refl $ forget ! 14 refl $
-            move ! (14 ∷ 15 ∷ []) $ free1 ! $ move ! (12 ∷ 13 ∷ []) $ free1 ! $ move ! (10 ∷ 11 ∷ []) $ free1 ! $ move ! (8 ∷ 9 ∷ []) $ free1 ! $ move ! (6 ∷ 7 ∷ []) $ free1 ! $ move ! (4 ∷ 5 ∷ []) $ free1 ! $ move ! (2 ∷ 3 ∷ []) $ free1 ! $ free1 ! $ free0 ! $
+            assigns ! (of-opd ! (load ! (from ! (stop !)) (look ! 8 refl))) (from ! (stop !))
+            (init ! 14 refl (LL.lawful G.the-type G′.the-laws 𝓤 H A W .typed (gathered ys (i .0)) _ (i .2) .0)) $
+            returns ! (look ! 14 refl) $ forget ! 0 refl $ forget ! 2 refl $ forget ! 6 refl $ forget ! 8 refl $ forget ! 10 refl $ forget ! 12 refl $
+            forget ! 14 refl $
+            move ! (14 ∷ 15 ∷ []) $ free1 ! $ move ! (12 ∷ 13 ∷ []) $ free1 ! $ move ! (10 ∷ 11 ∷ []) $ free1 ! $ move ! (8 ∷ 9 ∷ []) $ free1 ! $
+            move ! (6 ∷ 7 ∷ []) $ free1 ! $ move ! (4 ∷ 5 ∷ []) $ free1 ! $ move ! (2 ∷ 3 ∷ []) $ free1 ! $ free1 ! $ free0 ! $
             by ! (exits (gathered ys (i .0)) (ap (gathered ys) (le-antisymm (i .1) (nltb→le (i .0) m over) ∙ m-is)) (i .2)))
           where
             one-more : (r : Flow) (r′ : FlowList) → r ≡ flowAt ys (i .0) → r′ ≡ withFlow (gathered ys (i .0)) r → r′ ≡ gathered ys (i .0 + 1)
@@ -290,38 +320,50 @@ module _ {M : Type 1} (𝓤 : URA M) (H : Heap 𝓤) (A : Atoms 𝓤) (W : Given
         looped : (i : Upto) → Sq W (At i) (runs C Λ En code.Mir.t-5 (atRet En Post))
         looped i = first ! $ blocks ! $ loops ! 𝓣 Nearer Nearer-wf At turns i
 
-  walk : (𝓣 : Tables 𝓤 H) → Triple 𝓤 (𝓣 .C #flowlist·limit) (Limit 𝓤 H A at-mem run) → Triple 𝓤 (𝓣 .C #flowlist·empty) (Empty 𝓤 H A at-mem run) → Triple 𝓤 (𝓣 .C #flowlist·flow-at) (FlowAt 𝓤 H A at-mem run) → Triple 𝓤 (𝓣 .C #flowlist·push) (Push 𝓤 H A at-mem run)
+  walk : (𝓣 : Tables 𝓤 H) → Triple 𝓤 (𝓣 .C #flowlist·limit) (Limit 𝓤 H A at-mem run) → Triple 𝓤 (𝓣 .C #flowlist·empty) (Empty 𝓤 H A at-mem run)
+      → Triple 𝓤 (𝓣 .C #flowlist·flow-at) (FlowAt 𝓤 H A at-mem run) → Triple 𝓤 (𝓣 .C #flowlist·push) (Push 𝓤 H A at-mem run)
       → ent 𝓤 (onEntry 𝓤 H A F.signature (κ, tt) (q, tt) x at) (WpFn 𝓤 H (𝓣 .C) (𝓣 .Λ) code.function (s ∷ []) Post)
   walk 𝓣 known-limit known-empty known-flow known-push =
       qed W ((‵ (flft κ q) ⊛ ‵ ftrue) ∷ ‵ (owns (ShrSlice (named 0) κ R ∷ []) x at) ∷ []) ∵ enter ! (𝓣 .C) (𝓣 .Λ) code.function (s ∷ []) _ $
-      alloc1 ! (λ l₀. alloc1 ! (λ l₁. alloc1 ! (λ l₂. alloc1 ! (λ l₃. alloc1 ! (λ l₄. alloc1 ! (λ l₅. alloc1 ! (λ l₆. alloc1 ! (λ l₇. alloc0 ! $ params1 ! $ pass1 ! (init ! 12 refl (tt, (tt, (record { fits = room .0 }, tt)))) $ pass0 ! $
-      assigns ! (of-opd ! (load ! (from ! (fld ! refl (stop !))) (look-in ! 12 (sub ! 1 refl (whole !))))) (from ! (stop !)) (init ! 2 refl (tt, record { fits = room .0 })) $
+      alloc1 ! (λ l₀. alloc1 ! (λ l₁. alloc1 ! (λ l₂. alloc1 ! (λ l₃. alloc1 ! (λ l₄.
+      alloc1 ! (λ l₅. alloc1 ! (λ l₆. alloc1 ! (λ l₇. alloc0 ! $ params1 ! $ pass1 ! (init ! 12 refl (tt, (tt, (record { fits = room .0 }, tt)))) $ pass0 ! $
+      assigns ! (of-opd ! (load ! (from ! (fld ! refl (stop !))) (look-in ! 12 (sub ! 1 refl (whole !))))) (from ! (stop !))
+      (init ! 2 refl (tt, record { fits = room .0 })) $
       -- `limit`
       nothing ! $ use1 W (raw (Limit 𝓤 H A at-mem run .pre to-limit)) goes-limit $
       calls-at ! (fmOf 𝓤 H (W .laws) 𝓣) (Limit 𝓤 H A at-mem run) known-limit to-limit (and-then ! (load ! (from ! (stop !)) (look ! 3 refl)) (no-more !)) (λ w₀.
-      use1 W (later (some (λ (m : ℕ). (‵ ftrue ⊛ ‵ (usize .own m (w₀ ∷ []))) ⊛ raw (ensured 𝓤 H A limit.ended (limit.clauses 𝓤 H A at-mem run) tt (n, tt) tt m)))) (id⊢ 𝓤 _) $ await ! tt $ pick ! (λ m.
-      split ! $ move ! (1 ∷ []) $ use1 W (raw (fact 𝓤 ((m ≤ n) × (m ≤ 16) × (m ≡ few n)))) (limit-of 𝓤 H A at-mem run n m) $ heard ! ((m ≤ n) × (m ≤ 16) × (m ≡ few n)) (λ lim. split ! $ drop ! $
+      use1 W (later (some (λ (m : ℕ). (‵ ftrue ⊛ ‵ (usize .own m (w₀ ∷ [])))
+      ⊛ raw (ensured 𝓤 H A limit.ended (limit.clauses 𝓤 H A at-mem run) tt (n, tt) tt m)))) (id⊢ 𝓤 _) $ await ! tt $ pick ! (λ m.
+      split ! $ move ! (1 ∷ []) $ use1 W (raw (fact 𝓤 ((m ≤ n) × (m ≤ 16) × (m ≡ few n)))) (limit-of 𝓤 H A at-mem run n m) $
+      heard ! ((m ≤ n) × (m ≤ 16) × (m ≡ few n)) (λ lim. split ! $ drop ! $
       peeks ! usize (Is usize) (shows 𝓤 H A usize) m (w₀ ∷ []) (λ is₀. land ! (from ! (stop !)) (init ! 11 refl (uint-lawful 𝓤 H A W w64 .typed m _ is₀ .0)) $
       rewrite ! 11 (λ (u : Val). ‵ (fat fullShare word l₂ 0 u)) (number-is m w₀ is₀) refl $ drop ! $
       -- `empty`
       nothing ! $ use1 W (raw (Empty 𝓤 H A at-mem run .pre to-empty)) goes-empty $
       calls-at ! (fmOf 𝓤 H (W .laws) 𝓣) (Empty 𝓤 H A at-mem run) known-empty to-empty (no-more !) (λ w.
-      use1 W (later (some (λ (r : FlowList). (‵ ftrue ⊛ ‵ (GR .own r (w ∷ []))) ⊛ raw (ensured 𝓤 H A empty.ended (empty.clauses 𝓤 H A at-mem run) tt tt tt r)))) (id⊢ 𝓤 _) $ await ! tt $ pick ! (λ r.
+      use1 W (later (some (λ (r : FlowList). (‵ ftrue ⊛ ‵ (GR .own r (w ∷ []))) ⊛ raw (ensured 𝓤 H A empty.ended (empty.clauses 𝓤 H A at-mem run) tt tt tt r))))
+      (id⊢ 𝓤 _) $ await ! tt $ pick ! (λ r.
       split ! $ move ! (1 ∷ []) $ use1 W (raw (fact 𝓤 (r ≡ noFlows))) (empty-of 𝓤 H A at-mem run r) $ heard ! (r ≡ noFlows) (λ e. split ! $ drop ! $
-      peeks ! GR (Is GR) (shows 𝓤 H A GR) r (w ∷ []) (λ is. land ! (from ! (stop !)) (init ! 9 refl (LL.lawful G.the-type G′.the-laws 𝓤 H A W .typed r _ is .0)) $
+      peeks ! GR (Is GR) (shows 𝓤 H A GR) r (w ∷ []) (λ is. land ! (from ! (stop !))
+      (init ! 9 refl (LL.lawful G.the-type G′.the-laws 𝓤 H A W .typed r _ is .0)) $
       rewrite ! 9 (λ (u : Val). ‵ (fat fullShare G′.mir l₃ 0 u)) (spells r w is ∙ ap mach (from-none ys r e)) refl $ drop ! $
       assigns ! (of-opd ! (lit ! tt)) (from ! (stop !)) (init ! 6 refl (tt, record { fits = lit< tt })) $
       move ! (17 ∷ []) $ fsplit ! $ keep ! (2 ∷ 3 ∷ 4 ∷ 5 ∷ 6 ∷ 7 ∷ 8 ∷ 9 ∷ 10 ∷ 11 ∷ 12 ∷ 13 ∷ 14 ∷ 15 ∷ 16 ∷ 17 ∷ 18 ∷ 0 ∷ []) $
-      looped m (lim .0) (lim .1) (lim .2) 𝓣 l₀ l₁ l₂ l₃ l₄ l₅ l₆ l₇ (fmOf 𝓤 H (W .laws) 𝓣) known-flow known-push (0, zero-le, known-at r (gathered ys 0) w is (from-none ys r e))))))))))))))))))
+      looped m (lim .0) (lim .1) (lim .2) 𝓣 l₀ l₁ l₂ l₃ l₄ l₅ l₆ l₇ (fmOf 𝓤 H (W .laws) 𝓣) known-flow known-push
+      (0, zero-le, known-at r (gathered ys 0) w is (from-none ys r e))))))))))))))))))
 
 module _ {M : Type 1} (𝓤 : URA M) (H : Heap 𝓤) (A : Atoms 𝓤) (W : Given 𝓤 H A) (at-mem : Memory → SProp 𝓤) (run : Routine → Fun 𝓤) where
-  walks : (𝓣 : Tables 𝓤 H) → Triple 𝓤 (𝓣 .C #flowlist·limit) (Limit 𝓤 H A at-mem run) → Triple 𝓤 (𝓣 .C #flowlist·empty) (Empty 𝓤 H A at-mem run) → Triple 𝓤 (𝓣 .C #flowlist·flow-at) (FlowAt 𝓤 H A at-mem run) → Triple 𝓤 (𝓣 .C #flowlist·push) (Push 𝓤 H A at-mem run)
+  walks : (𝓣 : Tables 𝓤 H) → Triple 𝓤 (𝓣 .C #flowlist·limit) (Limit 𝓤 H A at-mem run) → Triple 𝓤 (𝓣 .C #flowlist·empty) (Empty 𝓤 H A at-mem run)
+      → Triple 𝓤 (𝓣 .C #flowlist·flow-at) (FlowAt 𝓤 H A at-mem run) → Triple 𝓤 (𝓣 .C #flowlist·push) (Push 𝓤 H A at-mem run)
       → Walks 𝓤 H A F.ended stayed (WpFn 𝓤 H (𝓣 .C) (𝓣 .Λ) code.function) (F.clauses 𝓤 H A at-mem run)
-  walks 𝓣 known-limit known-empty known-flow known-push = walked 𝓤 H A F.ended stayed (F.clauses 𝓤 H A at-mem run) (WpFn 𝓤 H (𝓣 .C) (𝓣 .Λ) code.function) (λ κs. (slice-vals, tt)) (λ κs. (shr-slice-tells (named 0) (κs .0) R, tt))
-      (λ κs qs bounds a g are. via 𝓤 _ (fst∗ 𝓤 _ (emp 𝓤)) (walk 𝓤 H A W at-mem run (κs .0) (qs .0) (a .0 .ptr .0) (a .0 .ptr .1) (a .0 .name) (a .0 .now) (are .0 .0 .1) 𝓣 known-limit known-empty known-flow known-push))
+  walks 𝓣 known-limit known-empty known-flow known-push = walked 𝓤 H A F.ended stayed (F.clauses 𝓤 H A at-mem run) (WpFn 𝓤 H (𝓣 .C) (𝓣 .Λ) code.function)
+      (λ κs. (slice-vals, tt)) (λ κs. (shr-slice-tells (named 0) (κs .0) R, tt))
+      (λ κs qs bounds a g are. via 𝓤 _ (fst∗ 𝓤 _ (emp 𝓤)) (walk 𝓤 H A W at-mem run (κs .0) (qs .0) (a .0 .ptr .0) (a .0 .ptr .1) (a .0 .name) (a .0 .now)
+      (are .0 .0 .1) 𝓣 known-limit known-empty known-flow known-push))
 
 meets : {M : Type 1} (𝓤 : URA M) (H : Heap 𝓤) (A : Atoms 𝓤) → Given 𝓤 H A → (at-mem : Memory → SProp 𝓤) (run : Routine → Fun 𝓤) (𝓣 : Tables 𝓤 H)
-    → Triple 𝓤 (𝓣 .C #flowlist·limit) (Limit 𝓤 H A at-mem run) → Triple 𝓤 (𝓣 .C #flowlist·empty) (Empty 𝓤 H A at-mem run) → Triple 𝓤 (𝓣 .C #flowlist·flow-at) (FlowAt 𝓤 H A at-mem run) → Triple 𝓤 (𝓣 .C #flowlist·push) (Push 𝓤 H A at-mem run)
+    → Triple 𝓤 (𝓣 .C #flowlist·limit) (Limit 𝓤 H A at-mem run) → Triple 𝓤 (𝓣 .C #flowlist·empty) (Empty 𝓤 H A at-mem run)
+    → Triple 𝓤 (𝓣 .C #flowlist·flow-at) (FlowAt 𝓤 H A at-mem run) → Triple 𝓤 (𝓣 .C #flowlist·push) (Push 𝓤 H A at-mem run)
     → Meets 𝓤 H A F.signature (WpFn 𝓤 H (𝓣 .C) (𝓣 .Λ) code.function) (F.spec 𝓤 H A at-mem run)
 meets 𝓤 H A W at-mem run 𝓣 known-limit known-empty known-flow known-push =
     walk-meets 𝓤 H A F.ended stayed W (goes-none-slice 𝓤 H A W 1 (0 ∷ []) tt (plain (λ _. R)) yes, tt) (F.clauses 𝓤 H A at-mem run)

@@ -5,7 +5,7 @@ use mathlib.Core.Path.{_∙_}
 use lib.ListN.{length}
 use denote.Ref.{now}
 use Rattle.lines.specs.Match.{nowhere}
-use Rattle.flowsheet.proofs.Fields.{no-line, fit, line-read}
+use Rattle.flowsheet.proofs.Fields.{Parts, no-line, fit, line-read}
 use borrow.Author.Needs.{needs}
 use Rattle.flowsheet.proofs.read_flow.Statement.{statement}
 use Rattle.flowsheet.proofs.read_flow.Tie as tie
@@ -35,16 +35,37 @@ no-flow-requires c κs = search needs
 short : (c : tie.After-eat) → length (now (c .before .before .before .before .before .before .before .args .s)) < nowhere
 short c = omega arith
 
+-- the parts that are read, last first
+abbrev parts : (c : tie.After-eat)
+    → Parts (now (c .before .before .before .before .before .before .before .args .s)) (c .before .before .before .before .before .before .before .args .at)
+parts c =
+    let five = c .before in
+    let four = five .before in
+    let three = four .before in
+    let two = three .before in
+    let one = two .before in
+    record {
+      cell = one .read-field .result;
+      burst = two .read-field2 .result;
+      period = three .read-field3 .result;
+      repeats = four .read-field4 .result;
+      value = five .read-field5 .result;
+      end = c .eat .result;
+      is-cell = one .read-field .ensures;
+      is-burst = two .read-field2 .ensures;
+      is-period = three .read-field3 .ensures;
+      is-repeats = four .read-field4 .ensures;
+      is-value = five .read-field5 .ensures;
+      is-end = c .eat .ensures;
+    }
+
 -- each number fits
-fits : (c : tie.Else1) → let e = c .before in
-    (e .before .before .before .before .before .read-field .result .value ≤ 65535) × (e .before .before .before .before .read-field2 .result .value ≤ 65535)
-    × (e .before .before .before .read-field3 .result .value ≤ 65535) × (e .before .before .read-field4 .result .value ≤ 65535) × (e .before .read-field5 .result .value ≤ 65535)
-fits c = let e = c .before in
-    fit _ _ (short e) (e .before .before .before .before .before .read-field .result) (e .before .before .before .before .read-field2 .result) (e .before .before .before .read-field3 .result) (e .before .before .read-field4 .result) (e .before .read-field5 .result) (e .eat .result) (e .before .before .before .before .before .read-field .ensures) (e .before .before .before .before .read-field2 .ensures) (e .before .before .before .read-field3 .ensures) (e .before .before .read-field4 .ensures) (e .before .read-field5 .ensures) (e .eat .ensures) (c .if1 .left)
+fits : (c : tie.Else1) → let p = parts (c .before) in
+    (p .cell .value ≤ 65535) × (p .burst .value ≤ 65535) × (p .period .value ≤ 65535) × (p .repeats .value ≤ 65535) × (p .value .value ≤ 65535)
+fits c = fit _ _ (short (c .before)) (parts (c .before)) (c .if1 .left)
 
 returns : tie.Need-returns
-returns c = let e = c .before .before in
-    c .no-flow .ensures ∙ no-line _ _ (short e) (e .before .before .before .before .before .read-field .result) (e .before .before .before .before .read-field2 .result) (e .before .before .before .read-field3 .result) (e .before .before .read-field4 .result) (e .before .read-field5 .result) (e .eat .result) (e .before .before .before .before .before .read-field .ensures) (e .before .before .before .before .read-field2 .ensures) (e .before .before .before .read-field3 .ensures) (e .before .before .read-field4 .ensures) (e .before .read-field5 .ensures) (e .eat .ensures) (c .before .if1 .taken)
+returns c = let e = c .before .before in c .no-flow .ensures ∙ no-line _ _ (short e) (parts e) (c .before .if1 .taken)
 
 cast-t11 : tie.Need-cast-t11
 cast-t11 c = record { fits = omega (arith, fits (c .before)) }
@@ -62,9 +83,7 @@ cast-t15 : tie.Need-cast-t15
 cast-t15 c = record { fits = omega (arith, fits (c .before .before .before .before .before)) }
 
 returns-2 : tie.Need-returns-2
-returns-2 c = let i = c .before .before .before .before .before in
-    let e = i .before in
-    line-read _ _ (short e) (e .before .before .before .before .before .read-field .result) (e .before .before .before .before .read-field2 .result) (e .before .before .before .read-field3 .result) (e .before .before .read-field4 .result) (e .before .read-field5 .result) (e .eat .result) (e .before .before .before .before .before .read-field .ensures) (e .before .before .before .before .read-field2 .ensures) (e .before .before .before .read-field3 .ensures) (e .before .before .read-field4 .ensures) (e .before .read-field5 .ensures) (e .eat .ensures) (i .if1 .left)
+returns-2 c = let i = c .before .before .before .before .before in line-read _ _ (short (i .before)) (parts (i .before)) (i .if1 .left)
 
 pub read-flow-spec : {M : Type 1} → statement M
 read-flow-spec =

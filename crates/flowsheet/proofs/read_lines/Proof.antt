@@ -4,10 +4,11 @@ use Prim.Native.Nat.{suc, _+_, _-_, _≤_, _<_}
 use mathlib.Core.Path.{_≡_, sym, ap, _∙_}
 use lib.ListN.{length, drop}
 use denote.Ref.{now}
+use Rattle.lines.specs.Format.{lineNumber}
 use Rattle.lines.specs.Match.{nowhere}
 use Rattle.flowlist.specs.List.{noFlows}
 use Rattle.flowlist.specs.declared.FlowList.{FlowList}
-use Rattle.flowsheet.specs.Read.{badAt, lineNumber, flowsFrom}
+use Rattle.flowsheet.specs.Read.{badFlows, flowsFrom}
 use Rattle.flowsheet.proofs.Reading.{none-yet, ended, full, stopped, passed}
 use borrow.Author.Needs.{needs}
 use Rattle.flowsheet.proofs.read_lines.Statement.{statement}
@@ -50,7 +51,7 @@ returns-2 c = let r = c .before .before in
     let l = r .before .before .before in
     let e : 16 - l .loop .k ≡ suc (15 - l .loop .k) = omega arith in
     let n : lineNumber (l .loop .k) ≡ lineNumber (l .loop .l .count) = ap lineNumber (sym (l .loop .inv .1)) in
-    c .bad-at .ensures ∙ ap badAt n
+    c .bad-at .ensures ∙ ap badFlows n
     ∙ stopped _ (l .loop .p) (shorter l) (omega arith) (r .read-flow .result) (r .read-flow .ensures) (15 - l .loop .k) (l .loop .l) (c .before .if2 .taken)
     ∙ rw e at (l .loop .inv .2)
 
@@ -69,7 +70,8 @@ loop-again c = let r = c .before .before in
     let e : 16 - l .loop .k ≡ suc (16 - (l .loop .k + 1)) = omega arith in (
       omega arith,
       ap (λ (x : FlowList). x .count) (c .push .ensures) ∙ omega (arith, l .loop .inv .1),
-      passed _ (l .loop .p) (shorter l) (omega arith) (r .read-flow .result) (r .read-flow .ensures) (16 - (l .loop .k + 1)) (l .loop .l) (c .before .if2 .left) (c .push .result) (c .push .ensures)
+      passed _ (l .loop .p) (shorter l) (omega arith) (r .read-flow .result) (r .read-flow .ensures) (16 - (l .loop .k + 1)) (l .loop .l) (c .before .if2 .left)
+          (c .push .result) (c .push .ensures)
           ∙ rw e at (l .loop .inv .2),
     )
 

@@ -9,22 +9,22 @@ use Rattle.inputs.proofs.house_file.Tie as tie
 returns : tie.Need-returns
 returns c = house-short _ (c .if1 .taken)
 
-word-requires : tie.Need-word-requires
-word-requires c κs = search needs
+two-bytes-requires : tie.Need-two-bytes-requires
+two-bytes-requires c κs = search needs
 
 returns-2 : tie.Need-returns-2
-returns-2 c = house-length _ _ (c .before .before .if1 .left) (c .before .word .ensures) (c .if2 .taken)
+returns-2 c = house-length _ _ (c .before .before .if1 .left) (c .before .two-bytes .ensures) (c .if2 .taken)
 
-word-requires-2 : tie.Need-word-requires-2
-word-requires-2 c κs = search needs
+two-bytes-requires-2 : tie.Need-two-bytes-requires-2
+two-bytes-requires-2 c κs = search needs
 
 returns-3 : tie.Need-returns-3
 returns-3 c =
     let t = c .before .before in
-    house-kind _ _ _ (t .before .before .if1 .left) (t .before .word .ensures) (t .if2 .left) (c .before .word2 .ensures) (c .if3 .taken)
+    house-kind _ _ _ (t .before .before .if1 .left) (t .before .two-bytes .ensures) (t .if2 .left) (c .before .two-bytes2 .ensures) (c .if3 .taken)
 
-word-requires-3 : tie.Need-word-requires-3
-word-requires-3 c κs = search needs
+two-bytes-requires-3 : tie.Need-two-bytes-requires-3
+two-bytes-requires-3 c κs = search needs
 
 by-kind-requires : tie.Need-by-kind-requires
 by-kind-requires c κs = search needs
@@ -34,18 +34,18 @@ returns-4 c =
     let k = c .before .before in
     let t = k .before .before in
     c .by-kind .ensures
-    ∙ ap byKind (c .before .word3 .ensures)
-    ∙ house-is _ _ _ (t .before .before .if1 .left) (t .before .word .ensures) (t .if2 .left) (k .before .word2 .ensures) (k .if3 .left)
+    ∙ ap byKind (c .before .two-bytes3 .ensures)
+    ∙ house-is _ _ _ (t .before .before .if1 .left) (t .before .two-bytes .ensures) (t .if2 .left) (k .before .two-bytes2 .ensures) (k .if3 .left)
 
 pub house-file-spec : {M : Type 1} → statement M
 house-file-spec =
     tie.close
     (tie.spec
     returns
-    word-requires
+    two-bytes-requires
     returns-2
-    word-requires-2
+    two-bytes-requires-2
     returns-3
-    word-requires-3
+    two-bytes-requires-3
     by-kind-requires
     returns-4)

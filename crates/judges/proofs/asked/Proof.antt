@@ -2,7 +2,7 @@
 use mathlib.Core.Path.{sym, ap, _∙_}
 use borrow.Author.Needs.{needs}
 use Rattle.laws.specs.Choice.{pick}
-use Rattle.judges.specs.Words.{demandIn}
+use Rattle.judges.specs.Words.{demandAt}
 use Rattle.judges.proofs.asked.Statement.{statement}
 use Rattle.judges.proofs.asked.Tie as tie
 
@@ -16,12 +16,12 @@ returns : tie.Need-returns
 returns c =
     let args = c .before .before .before .args in
     c .demand .ensures
-    ∙ sym (ap (λ t. pick t (demandIn (args .loads .now) (args .row) (args .i)) 0) (sym (c .before .before .has .ensures) ∙ c .before .if1 .taken))
+    ∙ sym (ap (λ t. pick t (demandAt (args .loads .now) (args .row) (args .i)) 0) (sym (c .before .before .has .ensures) ∙ c .before .if1 .taken))
 
 returns-2 : tie.Need-returns-2
 returns-2 c =
     let args = c .before .before .args in
-    sym (ap (λ t. pick t (demandIn (args .loads .now) (args .row) (args .i)) 0) (sym (c .before .has .ensures) ∙ c .if1 .left))
+    sym (ap (λ t. pick t (demandAt (args .loads .now) (args .row) (args .i)) 0) (sym (c .before .has .ensures) ∙ c .if1 .left))
 
 pub asked-spec : {M : Type 1} → statement M
 asked-spec = tie.close (tie.spec has-requires demand-requires returns returns-2)

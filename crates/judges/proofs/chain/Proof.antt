@@ -3,13 +3,14 @@ use mathlib.Core.Path.{_≡_, sym, _∙_}
 use Prim.Native.Nat.{_+_, _≤_, _<_}
 use native.Mathlib.Omega.{arith}
 use Rattle.laws.specs.Bits.{bitAt, bitIn}
-use Rattle.theory.specs.Verdict.{gap, breaks, breakOf}
+use Rattle.theory.specs.Verdict.{gap, breakOf}
 use Rattle.site.specs.Record.{faultOf}
 use Rattle.site.specs.declared.Fault.the-variants.{Fine}
 use Rattle.site.proofs.Faults.{not-fine, fine-sized}
 use Rattle.judges.specs.Judges.{chainAnswer}
 use Rattle.chainwords.specs.Chain.{chainIn}
-use Rattle.chainwords.proofs.Laws.{gap-most, break-least, break-inside}
+use Rattle.chainwords.proofs.Laws.{break-least, break-inside}
+use Rattle.chainwords.proofs.Rows.{gap-row-most, break-row}
 use Rattle.judges.proofs.Laws.{chain-broken, chain-none}
 use borrow.Author.Needs.{needs}
 use Rattle.judges.proofs.chain.Statement.{statement}
@@ -52,20 +53,22 @@ break-of-requires c κs = omega (arith, fine-sized _ (fine (c .before .before .b
 
 -- where the searches for c and for b end
 c-range : (c : tie.After-break-of) → (c .before .before .first-break .result + 1 ≤ c .break-of .result) × (c .break-of .result < 32)
-unfolding breakOf breaks gap
 c-range c =
     let at = c .before .before in
     let cells = at .before .before .before .before .before .before .before .before .before .before .args .site .cells in
-    let net = chainIn cells (bitIn (at .before .before .before .before .clash-rows .result)) in
-    let who = bitAt (at .before .before .loaded .result) in
+    let rows = at .before .before .before .before .clash-rows .result in
+    let net = chainIn cells (bitIn rows) in
+    let word = at .before .before .loaded .result in
+    let who = bitAt word in
     let most = fine-sized _ (fine (at .before .before .before .before .before .before .before)) .cells-most in
     let low = break-least net who (at .first-break .result) in
     let high = break-inside net who (at .first-break .result) (at .first-break .ensures) (c .before .if1 .taken) in
-    let same : c .break-of .result ≡ breakOf net who (at .first-break .result) = c .break-of .ensures in
+    let same : c .break-of .result ≡ breakOf net who (at .first-break .result)
+    = c .break-of .ensures ∙ break-row rows word cells (at .first-break .result) (c .before .if1 .taken) in
     (omega arith, omega arith)
 
 b-range : (c : tie.After-gap) → c .gap .result ≤ c .before .break-of .result
-b-range c = rw (c .gap .ensures) (gap-most _ _ _ _ (c-range (c .before) .0))
+b-range c = rw (c .gap .ensures) (gap-row-most _ _ _ _ (c-range (c .before) .0))
 
 mul-gap : tie.Need-mul-gap
 mul-gap c = omega (arith, c-range c)

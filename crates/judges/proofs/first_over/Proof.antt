@@ -37,7 +37,8 @@ returns : tie.Need-returns Inv-loop μ-loop
 returns c =
     let at = c .before .before .before .before in
     let args = at .before .args in
-    found (test (args .loads .now) (args .clash .now) (args .who) (args .room)) (at .loop .i) (args .cells) (at .loop .inv) (omega arith) (sym (c .before .is-over .ensures) ∙ c .if1 .taken)
+    found (test (args .loads .now) (args .clash .now) (args .who) (args .room)) (at .loop .i) (args .cells) (at .loop .inv) (omega arith)
+    (sym (c .before .is-over .ensures) ∙ c .if1 .taken)
 
 add-i : tie.Need-add-i Inv-loop μ-loop
 add-i c = search needs
@@ -49,7 +50,8 @@ loop-again : tie.Need-loop-again Inv-loop μ-loop
 loop-again c =
     let at = c .before .before .before .before in
     let args = at .before .args in
-    missed (test (args .loads .now) (args .clash .now) (args .who) (args .room)) (at .loop .i) (args .cells) (at .loop .inv) (omega arith) (sym (c .before .is-over .ensures) ∙ c .if1 .left)
+    missed (test (args .loads .now) (args .clash .now) (args .who) (args .room)) (at .loop .i) (args .cells) (at .loop .inv) (omega arith)
+    (sym (c .before .is-over .ensures) ∙ c .if1 .left)
 
 returns-2 : tie.Need-returns-2 Inv-loop μ-loop
 returns-2 c =

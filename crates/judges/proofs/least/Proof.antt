@@ -1,4 +1,5 @@
--- `judges::least` meets its contract: the greatest of what the rows ask is the greatest demand, and the search over the rows says whether the site is chained. Assumes nothing.
+-- `judges::least` meets its contract: the greatest of what the rows ask is the greatest demand, and the search over the rows says whether the site is chained.
+-- Assumes nothing.
 use mathlib.Core.Path.{_≡_, sym, _∙_}
 use Rattle.site.specs.Record.{faultOf}
 use Rattle.site.specs.declared.Fault.the-variants.{Fine}

@@ -54,14 +54,21 @@ mul-demand : tie.Need-mul-demand
 mul-demand c = search needs
 
 array-read-demand : tie.Need-array-read-demand
-array-read-demand c = omega (arith, fine-sized _ (fine (c .before .before .before .before .before .before .before .before .before .before .before .before)) .cells-most)
+array-read-demand c = omega (
+  arith,
+  fine-sized _ (fine (c .before .before .before .before .before .before .before .before .before .before .before .before)) .cells-most,
+)
 
 demand-requires : tie.Need-demand-requires
-demand-requires c κs = omega (arith, fine-sized _ (fine (c .before .before .before .before .before .before .before .before .before .before .before .before)) .cells-most)
+demand-requires c κs = omega (
+  arith,
+  fine-sized _ (fine (c .before .before .before .before .before .before .before .before .before .before .before .before)) .cells-most,
+)
 
 -- what the demand is, and what the call then answers
 told : (c : tie.After-demand)
-    → let site = c .before .before .before .before .before .before .before .before .before .before .before .before .before .before .before .before .args .site in
+    → let site =
+    c .before .before .before .before .before .before .before .before .before .before .before .before .before .before .before .before .args .site in
     (positions site ≤ c .demand .result) × (loadAnswer site ≡ Over (c .before .before .before .first-over .result + 1) (c .demand .result - positions site))
 told c =
     let at = c .before .before .before in
@@ -72,7 +79,8 @@ told c =
     let counted = at .before .before .before .loaded in
     let i = at .first-over .result in
     let d : c .demand .result ≡ demand (netOf site) i = c .demand .ensures ∙ demand-is site rows relation i in
-    rw d (load-over site fine-here rows relation (counted .result) (counted .ensures) (positions site) (sym (net-open site)) i (at .first-over .ensures) (c .before .before .if1 .taken))
+    rw d (load-over site fine-here rows relation (counted .result) (counted .ensures) (positions site) (sym (net-open site)) i (at .first-over .ensures)
+    (c .before .before .if1 .taken))
 
 add-t18 : tie.Need-add-t18
 add-t18 c = search needs
@@ -93,7 +101,8 @@ returns-3 c =
     let site = at .before .before .before .before .before .before .before .before .before .before .before .before .before .args .site in
     let rows = at .before .before .before .before .before .clash-rows .result in
     let counted = at .before .before .before .loaded in
-    sym (load-none site fine-here rows (at .before .before .before .before .before .clash-rows .ensures .1 fine-here) (counted .result) (counted .ensures) (positions site) (sym (net-open site)) _ (at .first-over .ensures) (c .if1 .left))
+    sym (load-none site fine-here rows (at .before .before .before .before .before .clash-rows .ensures .1 fine-here) (counted .result) (counted .ensures)
+    (positions site) (sym (net-open site)) _ (at .first-over .ensures) (c .if1 .left))
 
 pub load-test-spec : {M : Type 1} → statement M
 load-test-spec =

@@ -6,13 +6,13 @@ use native.Mathlib.Omega.{arith}
 use lib.ListN.{getD}
 use Rattle.laws.specs.Most.{greater, most}
 use Rattle.laws.proofs.Most.{most-more}
-use Rattle.judges.specs.Words.{askedIn}
+use Rattle.judges.specs.Words.{demandCounted}
 use borrow.Author.Needs.{needs}
 use Rattle.judges.proofs.most_demand.Statement.{statement}
 use Rattle.judges.proofs.most_demand.Tie as tie
 
 abbrev asks : List ℕ → List ℕ → ℕ → ℕ → ℕ
-asks loads clash who i = askedIn loads (getD clash i 0) who i
+asks loads clash who i = demandCounted loads (getD clash i 0) who i
 
 abbrev Inv-loop : tie.InvT-loop
 Inv-loop loads clash who cells greatest₀ i₀ greatest i = (i ≤ cells) × (greatest ≡ most (asks loads clash who) i)

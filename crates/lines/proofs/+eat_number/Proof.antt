@@ -1,4 +1,5 @@
--- `lines::eat_number` meets its contract: a mirror of `put_number`: the digits of the tenth part, then one more; to eat one text and then another is to eat both. The measure is the number. Assumes nothing.
+-- `lines::eat_number` meets its contract: a mirror of `put_number`: the digits of the tenth part, then one more; to eat one text and then another is to eat
+-- both. The measure is the number. Assumes nothing.
 use Prim.Native.Nat.{_+_, _/_, _%_, ℕ, _<_}
 use mathlib.Core.List.{[], _∷_}
 use denote.Ref.{now}

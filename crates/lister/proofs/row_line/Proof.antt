@@ -8,7 +8,7 @@ use Rattle.lister.proofs.row_line.Tie as tie
 returns : tie.Need-returns
 returns c =
     let a = c .before .before .before .before .before .before .before .args in
-    rw (lent (a .i * a .width) (a .width) (a .table .now)) at (c .before .before .cell-line .ensures)
+    rw (lent (a .i * a .width) (a .width) (a .table .now)) at (c .before .before .put-cell-line .ensures)
 
 pub row-line-spec : {M : Type 1} → statement M
 row-line-spec =

@@ -1,4 +1,5 @@
--- `mender::list_all` meets its contract: at the head of the loop the changes of the cells below i are stored and listed, and later rows are as they were. Assumes nothing.
+-- `mender::list_all` meets its contract: at the head of the loop the changes of the cells below i are stored and listed, and later rows are as they were.
+-- Assumes nothing.
 use mathlib.Core.Path.{_≡_, refl, sym, ap, _∙_}
 use Prim.Native.Nat.{_+_, _-_, _*_, _≤_, _<_}
 use native.Mathlib.Omega.{arith}
@@ -10,7 +11,8 @@ use Rattle.theory.specs.Greedy.{reserved}
 use Rattle.mending.proofs.Follow.{cell-long}
 use Rattle.mender.proofs.Lists.{same-count, room-cell, list-cell, table-cell, next-cell}
 use Rattle.mending.specs.Changes.{changes, follow}
-use Rattle.mender.specs.Words.{standsIn, allCount}
+use Rattle.standing.specs.Words.{standsIn}
+use Rattle.mender.specs.Words.{allCount}
 use borrow.Author.Needs.{needs}
 use Rattle.mender.proofs.list_all.Statement.{statement}
 use Rattle.mender.proofs.list_all.Tie as tie
@@ -47,7 +49,8 @@ list-cell-requires c κs =
       (omega arith, s .pre .0 .1, s .pre .0 .2, omega (arith, row, l .inv .1)),
       (
         s .pre .1 .0 (l .i) inside ∙ sym (same-count (a .n) (l .i) (a .words .now) (a .table .now) (l .table) (l .inv .3)),
-        room-cell (a .n) (l .i) (a .words .now) (a .table .now) (l .table) (l .inv .3) (a .cells) (a .list .now) (l .list) (l .inv .5) (l .inv .4) inside (s .pre .1 .1),
+        room-cell (a .n) (l .i) (a .words .now) (a .table .now) (l .table) (l .inv .3) (a .cells) (a .list .now) (l .list) (l .inv .5) (l .inv .4) inside
+            (s .pre .1 .1),
       ),
     )
 
@@ -64,7 +67,8 @@ loop-again c =
     let call = c .before .before .before .before .list-cell in
     let is = standsIn (a .words .now) in
     let was = reserved (a .n) (a .table .now) in
-    let list′ = list-cell (a .n) (l .i) (a .words .now) (a .table .now) (l .table) (l .inv .3) (a .list .now) (l .list) (l .inv .4) (l .inv .5) (call .ensures .1 .0) in (
+    let list′ = list-cell (a .n) (l .i) (a .words .now) (a .table .now) (l .table) (l .inv .3) (a .list .now) (l .list) (l .inv .4) (l .inv .5)
+    (call .ensures .1 .0) in (
       omega arith,
       ap length (call .ensures .0) ∙ cell-long is (reserved (a .n) (l .table)) (a .n) (l .i) (a .n) (l .table) ∙ l .inv .1,
       ap length list′ ∙ length-sets (a .list .now) 0 (changes is was (a .n) (l .i + 1)),

@@ -12,7 +12,8 @@ use Rattle.mender.proofs.list_at.Statement.{statement}
 use Rattle.mender.proofs.list_at.Tie as tie
 
 -- there is a change
-differs-here : (c : tie.Then1) → let a = c .before .before .before .before .before .args in differ (a .is) (reserved (a .n) (a .table .now) (a .i) (a .k)) ≡ true
+differs-here : (c : tie.Then1) → let a = c .before .before .before .before .before .args in
+    differ (a .is) (reserved (a .n) (a .table .now) (a .i) (a .k)) ≡ true
 differs-here c = sym (c .before .differs .ensures) ∙ c .if1 .taken
 
 mul-x : tie.Need-mul-x
@@ -52,7 +53,11 @@ note-requires : tie.Need-note-requires
 note-requires c κs = omega (arith, ap bit (differs-here (c .before)), c .before .before .before .before .before .before .pre .1)
 
 add-result : tie.Need-add-result
-add-result c = omega (arith, ap bit (differs-here (c .before .before .before .before)), c .before .before .before .before .before .before .before .before .before .pre .1)
+add-result c = omega (
+  arith,
+  ap bit (differs-here (c .before .before .before .before)),
+  c .before .before .before .before .before .before .before .before .before .pre .1,
+)
 
 same-length : tie.Need-same-length
 same-length c = search needs
@@ -67,7 +72,8 @@ returns c =
     let was = reserved (a .n) (a .table .now) (a .i) (a .k) in (
       a-change (a .n) (a .i) (a .k) (a .is) was (a .table .now) (a .list .now) (a .at) e,
       (
-        c .before .before .note .ensures ∙ ap (sets (a .list .now) (a .at)) (its-entry (a .n) (a .i) (a .k) (a .is) was (a .table .now) (a .list .now) (a .at) e),
+        c .before .before .note .ensures ∙ ap (sets (a .list .now) (a .at)) (its-entry (a .n) (a .i) (a .k) (a .is) was (a .table .now)
+            (a .list .now) (a .at) e),
         omega (arith, ap bit e),
       ),
     )

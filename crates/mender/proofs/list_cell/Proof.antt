@@ -1,4 +1,5 @@
--- `mender::list_cell` meets its contract: at the head of the loop the changes below position k are stored and listed, and the bytes from k on are as they were. Assumes nothing.
+-- `mender::list_cell` meets its contract: at the head of the loop the changes below position k are stored and listed, and the bytes from k on are as they were.
+-- Assumes nothing.
 use Rattle.laws.specs.Sum.{sum}
 use Rattle.mending.proofs.Follow.{cell-long}
 use Rattle.mender.proofs.Lists.{still, table-more, list-more, next-more, room-more, none-stored, none-listed}
@@ -9,7 +10,8 @@ use lib.ListN.{length}
 use lib.Seq.{sets, length-sets}
 use Rattle.theory.specs.Greedy.{reserved}
 use Rattle.mending.specs.Changes.{changed, cellChanges, follow}
-use Rattle.mender.specs.Words.{standsIn, cellCount}
+use Rattle.standing.specs.Words.{standsIn}
+use Rattle.mender.specs.Words.{cellCount}
 use Rattle.laws.specs.Sum.{count}
 use borrow.Author.Needs.{needs}
 use Rattle.mender.proofs.list_cell.Statement.{statement}

@@ -3,7 +3,7 @@ use mathlib.Core.Path.{_≡_, _∙_}
 use native.Mathlib.Omega.{arith}
 use lib.ListN.{getD-replicate}
 use Rattle.site.proofs.Faults.{few-positions}
-use Rattle.mender.specs.Mend.{roomFor}
+use Rattle.mender.specs.Mend.{listRoom}
 use Rattle.mender.specs.declared.MendAnswer.the-variants.{Done}
 use Rattle.mender.proofs.Written.{mended, sizes, counted, answer-done, table-done, other-left}
 use borrow.Author.Needs.{needs}
@@ -23,7 +23,7 @@ returns : tie.Need-returns
 returns c =
     let call = c .before .before .before in
     let s = call .before .before .before .before .before .args .site in
-    (call .stand-site .ensures .answers, other-left (call .stand-site .ensures) (c .match .keys2) (roomFor s) .0)
+    (call .stand-site .ensures .answers, other-left (call .stand-site .ensures) (c .match .keys2) (listRoom s) .0)
 
 -- every cell stands
 module _ (c : tie.After-known-told) where
@@ -60,7 +60,7 @@ returns-2 c =
     let written = c .before .before .before in
     let k = written .before .before .before .before .before .before .before .before in
     let st = call k .stand-site .ensures in
-    let l = roomFor (call k .before .before .before .before .before .args .site) in
+    let l = listRoom (call k .before .before .before .before .before .args .site) in
     let room = mended st (done k) .room in
     (answer-done st (done k) l room, written .store-all .ensures ∙ table-done st (done k) l room)
 

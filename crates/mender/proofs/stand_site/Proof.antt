@@ -7,12 +7,13 @@ use native.Mathlib.Omega.{arith}
 use lib.ListN.{length}
 use Rattle.theory.specs.Net.{Net, unblocked}
 use Rattle.site.specs.Record.{faultOf, positions, size}
-use Rattle.site.specs.Reach.{netIn, netOf}
+use Rattle.site.specs.Reach.{netIn, netOf, netBy}
 use Rattle.site.specs.declared.Site.{Site}
 use Rattle.site.specs.declared.Fault.the-variants.{Fine}
 use Rattle.site.proofs.Faults.{not-fine, fine-sized, few-positions, few-bytes}
 use Rattle.mending.specs.Mend.{mend}
-use Rattle.mender.specs.Mend.{netBy, stoodOf, roomFor}
+use Rattle.standing.specs.Stand.{stoodOf}
+use Rattle.mender.specs.Mend.{listRoom}
 use Rattle.mender.specs.declared.MendAnswer.the-variants.{Done}
 use Rattle.mender.proofs.Ends.{both-ways, whole, lacking, no-room, refused-ends, short-ends, good-answer}
 use Rattle.mender.proofs.Meaning.{means-done}
@@ -36,7 +37,7 @@ returns c =
     let a = c .before .before .before .before .before .args in
     let bad = not-fine (call .result) (c .match .keys2) in
     record {
-      answers = refused-ends (a .site) (a .table .now) (roomFor (a .site)) (call .result) (sym (call .ensures)) bad .0;
+      answers = refused-ends (a .site) (a .table .now) (listRoom (a .site)) (call .result) (sym (call .ensures)) bad .0;
       says = λ n e. absurd (false≢true (ap isDone e));
     }
 
@@ -52,7 +53,7 @@ returns-2 c =
     let a = start told .args in
     let short : length (a .table .now) < size (a .site) = omega (arith, c .if1 .taken) in
     record {
-      answers = short-ends (a .site) (a .table .now) (roomFor (a .site)) (fine told) short .0;
+      answers = short-ends (a .site) (a .table .now) (listRoom (a .site)) (fine told) short .0;
       says = λ n e. absurd (false≢true (ap isDone e));
     }
 
@@ -85,7 +86,7 @@ module _ (c : tie.After-stand-all) where
   abbrev rows : tie.After-clash-rows
   rows = c .before .before .before .before .before
 
-  net : netBy (site .cells) (positions site) (site .loads) (rows .clash-rows .result) ≡ netOf site
+  net : netBy (site .cells) (positions site) (site .loads) (rows .clash-rows .result) unblocked ≡ netOf site
   net = ap (λ clash. netIn (site .cells) (positions site) (site .loads) clash unblocked) (rows .clash-rows .ensures .1 (fine told))
 
   fits : size site ≤ length table
@@ -100,7 +101,7 @@ returns-3 c =
     let s = site turns in
     let u = table turns in
     let lack = lacking (netOf s) u _ _ (sym (c .before .stood .given .1) ∙ stood turns) in record {
-      answers = no-room (netOf s) u (roomFor s) _ _ lack ∙ sym (good-answer s u (roomFor s) (fine (told turns)) (fits turns));
+      answers = no-room (netOf s) u (listRoom s) _ _ lack ∙ sym (good-answer s u (listRoom s) (fine (told turns)) (fits turns));
       says = λ n e. absurd (false≢true (ap isDone e));
     }
 
@@ -111,8 +112,8 @@ returns-4 c =
     let u = table turns in
     let all = whole (netOf s) u _ (sym (c .before .stood2 .given .1) ∙ stood turns) in record {
       answers =
-          ap Done (all .all) ∙ sym (means-done s u (roomFor s) (fine (told turns)) (fits turns) (all .table) (all .mends) (room-for s u (all .table)));
-      says = λ n e t m. turns .stand-all .ensures .1 t (ap (λ (x : Net). mend x u) (net turns) ∙ m);
+          ap Done (all .all) ∙ sym (means-done s u (listRoom s) (fine (told turns)) (fits turns) (all .table) (all .mends) (room-for s u (all .table)));
+      says = λ n e t m. turns .stand-all .ensures .1 .1 .1 t (ap (λ (x : Net). mend x u) (net turns) ∙ m);
     }
 
 pub stand-site-spec : {M : Type 1} → statement M

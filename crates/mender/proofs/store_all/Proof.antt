@@ -1,5 +1,5 @@
--- `mender::store_all` meets its contract: at the head of the loop the changes of the cells below j are stored, and later rows are as they were. A row's changes fit the list, since a cell has at
--- most as many as positions. Assumes nothing.
+-- `mender::store_all` meets its contract: at the head of the loop the changes of the cells below j are stored, and later rows are as they were.
+-- A row's changes fit the list, since a cell has at most as many as positions. Assumes nothing.
 use mathlib.Core.Path.{_≡_, refl, sym, ap, _∙_}
 use Prim.Native.Nat.{_-_, _≤_, _<_}
 use native.Mathlib.Omega.{arith}
@@ -10,7 +10,7 @@ use Rattle.laws.proofs.Sums.{count-most}
 use Rattle.theory.specs.Greedy.{reserved}
 use Rattle.mending.specs.Changes.{changed, cellChanges, changes, follow}
 use Rattle.mending.proofs.Follow.{cell-long}
-use Rattle.mender.specs.Words.{standsIn}
+use Rattle.standing.specs.Words.{standsIn}
 use Rattle.mender.proofs.Lists.{same-count, table-cell}
 use borrow.Author.Needs.{needs}
 use Rattle.mender.proofs.store_all.Statement.{statement}

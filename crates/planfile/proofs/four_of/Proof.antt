@@ -41,7 +41,8 @@ is-one-requires-4 : tie.Need-is-one-requires-4
 is-one-requires-4 c κs = search needs
 
 -- each of the four is 0 or 1
-small : (c : tie.After-is-one4) → (c .is-one4 .result < 2) × (c .before .before .is-one3 .result < 2) × (c .before .before .before .before .is-one2 .result < 2) × (c .before .before .before .before .before .before .is-one .result < 2)
+small : (c : tie.After-is-one4) → (c .is-one4 .result < 2) × (c .before .before .is-one3 .result < 2) × (c .before .before .before .before .is-one2 .result < 2)
+    × (c .before .before .before .before .before .before .is-one .result < 2)
 small c = (
   rw (c .is-one4 .ensures) (one-two _),
   rw (c .before .before .is-one3 .ensures) (one-two _),

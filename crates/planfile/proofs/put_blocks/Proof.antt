@@ -13,7 +13,8 @@ use Rattle.planfile.proofs.put_blocks.Tie as tie
 
 abbrev Inv-loop : tie.InvT-loop
 Inv-loop out₀ at table b j₀ out j =
-    (j ≤ b) × (length out ≡ length out₀) × (sets out (at + 32 * j) (packedFrom table (8 * (32 * j)) (32 * (b - j))) ≡ sets out₀ at (packedFrom table 0 (32 * b)))
+    (j ≤ b) × (length out ≡ length out₀) × (sets out (at + 32 * j) (packedFrom table (8 * (32 * j)) (32 * (b - j)))
+    ≡ sets out₀ at (packedFrom table 0 (32 * b)))
 
 abbrev μ-loop : tie.MeasureT-loop
 μ-loop out₀ at table b j₀ out j = b - j

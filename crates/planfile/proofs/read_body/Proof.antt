@@ -8,13 +8,14 @@ use lib.ListN.{length}
 use lib.Seq.{sets}
 use denote.Ref.{now}
 use Rattle.records.specs.Opener.{openAt, openAnswer}
-use Rattle.records.specs.Head.{entriesIn}
+use Rattle.records.specs.Head.{entriesOfHead}
 use Rattle.records.specs.declared.Length.the-variants.{Exact}
 use Rattle.records.specs.declared.Opened.the-variants.{Body}
 use Rattle.records.specs.declared.ReadAnswer.the-variants.{Done, Refused}
 use Rattle.planfile.specs.Bits.{bytesFor, bitsFrom, leftOver}
 use Rattle.planfile.specs.Read.{planAt, bodyIn, endIn, refusedPlan}
-use Rattle.planfile.proofs.ReadLaws.{entries-are, few, due, body-stop, within, ends, body-is, body-long, left-stop, more-stop, short-stop, read-done, refuse, accept}
+use Rattle.planfile.proofs.ReadLaws.{entries-are, few, due, body-stop, within, ends, body-is, body-long}
+use Rattle.planfile.proofs.ReadLaws.{left-stop, more-stop, short-stop, read-done, refuse, accept}
 use Rattle.planfile.proofs.read_body.Statement.{statement}
 use Rattle.planfile.proofs.read_body.Tie as tie
 
@@ -22,7 +23,7 @@ entries-requires : tie.Need-entries-requires
 entries-requires c κs = search needs
 
 -- how many table bytes the plan speaks of
-size : (c : tie.After-entries) → c .entries .result ≡ entriesIn (now (c .before .before .before .args .bytes))
+size : (c : tie.After-entries) → c .entries .result ≡ entriesOfHead (now (c .before .before .before .args .bytes))
 size c =
     let a = c .before .before .before in
     c .entries .ensures ∙ entries-are (now (a .args .bytes)) (now (a .args .table)) (a .args .cells) (a .args .slots) (a .args .channels) (a .pre)
@@ -45,7 +46,8 @@ open-requires : tie.Need-open-requires
 open-requires c κs = search needs
 
 -- what the opener found
-plan-open : (c : tie.After-open) → let s = now (c .before .before .before .before .args .bytes) in c .open .result ≡ openAt s (planAt s) 4 (Exact (2 + bytesFor (entriesIn s)))
+plan-open : (c : tie.After-open) → let s = now (c .before .before .before .before .args .bytes) in
+    c .open .result ≡ openAt s (planAt s) 4 (Exact (2 + bytesFor (entriesOfHead s)))
 plan-open c =
     let a = c .before .before .before .before in
     let s = now (a .args .bytes) in
@@ -69,13 +71,14 @@ returns c =
     let o = t .before .before in
     let a = o .before .before .before .before in
     let e = t .enum-told .given .1 in
-    let r = refuse (now (a .args .bytes)) (now (a .args .table)) _ _ (body-stop (now (a .args .bytes)) (now (a .args .table)) _ _ _ (a .pre) _ _ (sym (plan-open o) ∙ e)) in
+    let r = refuse (now (a .args .bytes)) (now (a .args .table)) _ _ (body-stop (now (a .args .bytes)) (now (a .args .table)) _ _ _ (a .pre) _ _
+    (sym (plan-open o) ∙ e)) in
     (c .refused .ensures ∙ ap refusedPlan (c .before .opened-answer .ensures ∙ ap openAnswer e) ∙ r .0, r .1)
 
 found :
     (c : tie.After-known-told) →
     let s = now (c .before .before .before .before .before .before .before .args .bytes) in
-    openAt s (planAt s) 4 (Exact (2 + bytesFor (entriesIn s))) ≡ Body (c .before .o .given .0 .0) (c .before .o .given .0 .1 .0)
+    openAt s (planAt s) 4 (Exact (2 + bytesFor (entriesOfHead s))) ≡ Body (c .before .o .given .0 .0) (c .before .o .given .0 .1 .0)
 found c = sym (plan-open (c .before .before .before)) ∙ c .before .o .given .1
 
 within-input :
@@ -108,12 +111,13 @@ left-over-requires c κs =
 left :
     (c : tie.After-left-over) →
     let s = now (c .before .before .before .before .before .before .before .before .before .args .bytes) in
-    c .left-over .result ≡ leftOver (bodyIn s) (entriesIn s)
+    c .left-over .result ≡ leftOver (bodyIn s) (entriesOfHead s)
 left c =
     let k = c .before .before in
     let a = k .before .before .before .before .before .before .before in
     c .left-over .ensures
-    ∙ ap (λ (l : List ℕ). leftOver l (k .before .before .before .before .entries .result)) (body-is (now (a .args .bytes)) (now (a .args .table)) _ _ _ (a .pre) _ _ (found k))
+    ∙ ap (λ (l : List ℕ). leftOver l (k .before .before .before .before .entries .result))
+    (body-is (now (a .args .bytes)) (now (a .args .table)) _ _ _ (a .pre) _ _ (found k))
     ∙ ap (λ (n : ℕ). leftOver (bodyIn (now (a .args .bytes))) n) (size (k .before .before .before .before))
 
 refused-requires-2 : tie.Need-refused-requires-2
@@ -140,7 +144,8 @@ returns-3 c =
     let s = now (a .args .bytes) in
     let t = now (a .args .table) in
     let e = ends s t _ _ _ (a .pre) _ _ (found k) in
-    let r = refuse s t 12 (endIn s) (more-stop s t _ _ _ (a .pre) _ _ (found k) (sym (left l) ∙ c .before .before .if1 .left) (rw e at (c .before .if2 .taken))) in
+    let r = refuse s t 12 (endIn s) (more-stop s t _ _ _ (a .pre) _ _ (found k) (sym (left l) ∙ c .before .before .if1 .left)
+    (rw e at (c .before .if2 .taken))) in
     (c .refused3 .ensures ∙ ap (λ (n : ℕ). refusedPlan (Refused 12 n)) e ∙ r .0, r .1)
 
 refused-requires-4 : tie.Need-refused-requires-4
@@ -193,7 +198,8 @@ returns-5 c =
     let t = now (a .args .table) in
     let n = size (k .before .before .before .before) in
     let h = rw n at (e .if3 .left) in
-    let r = accept s t (read-done s t _ _ _ (a .pre) _ _ (found k) (sym (left l) ∙ e .before .before .if1 .left) (rw (ends s t _ _ _ (a .pre) _ _ (found k)) at (e .before .if2 .left)) h) h in (
+    let r = accept s t (read-done s t _ _ _ (a .pre) _ _ (found k) (sym (left l) ∙ e .before .before .if1 .left)
+    (rw (ends s t _ _ _ (a .pre) _ _ (found k)) at (e .before .if2 .left)) h) h in (
       (λ i. record { cells = a .pre .cells-are i; slots = a .pre .slots-are i; channels = a .pre .channels-are i; answer = Done }) ∙ r .0,
       c .before .before .unpack .ensures
           ∙ ap (λ (x : List ℕ). sets t 0 (bitsFrom x 0 (k .before .before .before .before .entries .result))) (body-is s t _ _ _ (a .pre) _ _ (found k))

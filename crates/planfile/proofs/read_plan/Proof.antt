@@ -28,29 +28,30 @@ returns c =
     let h = c .before .before .before in
     let a = h .before .before .before in
     let e = c .before .enum-told2 .given .1 in
-    let r = refuse (now (a .args .bytes)) (now (a .args .table)) _ _ (head-stop (now (a .args .bytes)) (now (a .args .table)) _ _ (sym (h .head-answer .ensures) ∙ e)) in
+    let r = refuse (now (a .args .bytes)) (now (a .args .table)) _ _ (head-stop (now (a .args .bytes)) (now (a .args .table)) _ _
+    (sym (h .head-answer .ensures) ∙ e)) in
     (c .refused .ensures ∙ ap refusedPlan e ∙ r .0, r .1)
 
 done : (c : tie.After-enum-told) → headAnswer (now (c .before .before .before .before .before .args .bytes)) ≡ Done
 done c = sym (c .before .before .head-answer .ensures) ∙ c .enum-told .given .1
 
-word-requires : tie.Need-word-requires
-word-requires c κs = omega (arith, head-read _ (done c) .long)
+two-bytes-requires : tie.Need-two-bytes-requires
+two-bytes-requires c κs = omega (arith, head-read _ (done c) .long)
 
-word-requires-2 : tie.Need-word-requires-2
-word-requires-2 c κs = omega (arith, head-read _ (done (c .before)) .long)
+two-bytes-requires-2 : tie.Need-two-bytes-requires-2
+two-bytes-requires-2 c κs = omega (arith, head-read _ (done (c .before)) .long)
 
-word-requires-3 : tie.Need-word-requires-3
-word-requires-3 c κs = omega (arith, head-read _ (done (c .before .before)) .long)
+two-bytes-requires-3 : tie.Need-two-bytes-requires-3
+two-bytes-requires-3 c κs = omega (arith, head-read _ (done (c .before .before)) .long)
 
 read-body-requires : tie.Need-read-body-requires
 read-body-requires c κs =
     let f = c .before in
     record {
       read = done (f .before .before .before);
-      cells-are = f .before .before .word .ensures;
-      slots-are = f .before .word2 .ensures;
-      channels-are = f .word3 .ensures;
+      cells-are = f .before .before .two-bytes .ensures;
+      slots-are = f .before .two-bytes2 .ensures;
+      channels-are = f .two-bytes3 .ensures;
     }
 
 same-length : tie.Need-same-length
@@ -68,9 +69,9 @@ read-plan-spec =
     enum-told-2
     refused-requires
     returns
-    word-requires
-    word-requires-2
-    word-requires-3
+    two-bytes-requires
+    two-bytes-requires-2
+    two-bytes-requires-3
     read-body-requires
     same-length
     returns-2)

@@ -44,7 +44,8 @@ loop-again c =
     let a = c .before .before .before .before .before .before .args in (
       omega arith,
       length-set (l .bits) _ _ ∙ l .inv .1,
-      more (λ (q : ℕ). ones (now (a .table)) (a .k + 1 * q) 1) (l .bits) (l .i) (c .is-one .result) (omega arith) (l .inv .2) (one-run (now (a .table)) (a .k) (l .i) (c .is-one .result) (c .is-one .ensures)),
+      more (λ (q : ℕ). ones (now (a .table)) (a .k + 1 * q) 1) (l .bits) (l .i) (c .is-one .result) (omega arith) (l .inv .2)
+          (one-run (now (a .table)) (a .k) (l .i) (c .is-one .result) (c .is-one .ensures)),
     )
 
 same-length : tie.Need-same-length Inv-loop μ-loop

@@ -20,7 +20,8 @@ same-length c = search needs
 returns : tie.Need-returns
 returns c =
     let w = c .before .before .before .before .before .before .before .before .before .before .args in
-    rw (c .before .before .unpack-rest .ensures, c .before .before .before .before .before .before .unpack-whole .ensures) (bits-parts (now (w .body)) (now (w .table)) (w .n))
+    rw (c .before .before .unpack-rest .ensures, c .before .before .before .before .before .before .unpack-whole .ensures)
+    (bits-parts (now (w .body)) (now (w .table)) (w .n))
 
 pub unpack-spec : {M : Type 1} → statement M
 unpack-spec =

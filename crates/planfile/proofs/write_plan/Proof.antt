@@ -53,7 +53,8 @@ returns-3 : tie.Need-returns-3
 returns-3 c =
     let a = c .before .before .before .before .before .before .before .before in
     let e = c .before .before .entries .ensures in
-    out-short (a .args .site) (now (a .args .table)) (now (a .args .out)) (fine (c .before .before .before)) (rw e at (c .before .if1 .left)) _ (ap (λ (n : ℕ). headSize + 4 + bytesFor n) e) (c .if2 .taken)
+    out-short (a .args .site) (now (a .args .table)) (now (a .args .out)) (fine (c .before .before .before)) (rw e at (c .before .if1 .left)) _
+    (ap (λ (n : ℕ). headSize + 4 + bytesFor n) e) (c .if2 .taken)
 
 few : (c : tie.After-entries) → c .entries .result ≤ 65536
 few c = rw (c .entries .ensures) (few-bytes (fine-sized _ (fine (c .before))))
@@ -93,7 +94,8 @@ returns-4 c =
     let n = l .before .entries .result in
     let e = l .before .entries .ensures in
     let t = now (a .args .table) in
-    let d = all-done (a .args .site) t (now (a .args .out)) (fine (l .before .before)) (rw e at (l .if1 .left)) _ (ap (λ (k : ℕ). headSize + 4 + bytesFor k) e) (r .if2 .left) in (
+    let d = all-done (a .args .site) t (now (a .args .out)) (fine (l .before .before)) (rw e at (l .if1 .left)) _ (ap (λ (k : ℕ). headSize + 4 + bytesFor k) e)
+    (r .if2 .left) in (
       d .0,
       b .put-bits .ensures ∙ rw (length-take-le n t (l .if1 .left), w .put-start .ensures, p .put-head .ensures, e) (d .1),
     )

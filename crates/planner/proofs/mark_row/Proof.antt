@@ -9,11 +9,12 @@ use lib.ListN.{length}
 use Rattle.planner.proofs.Marked.{marks, marks-long, marks-none, marks-yes, marks-no}
 use Rattle.planner.proofs.mark_row.Statement.{statement}
 use Rattle.laws.specs.Bits.{bitIn}
-use Rattle.planner.specs.Loop.{netBy}
 use Rattle.planner.proofs.mark_row.Tie as tie
+use Rattle.site.specs.Reach.{netIn}
+use Rattle.theory.specs.Net.{unblocked}
 
 abbrev Inv-loop : tie.InvT-loop
-Inv-loop table₀ n i clash j₀ table j = (j ≤ i) × (length table ≡ length table₀) × (table ≡ marks (netBy 0 n [] (bitIn clash)) i j table₀)
+Inv-loop table₀ n i clash j₀ table j = (j ≤ i) × (length table ≡ length table₀) × (table ≡ marks (netIn 0 n [] (bitIn clash) unblocked) i j table₀)
 
 abbrev μ-loop : tie.MeasureT-loop
 μ-loop table₀ n i clash j₀ table j = i - j
@@ -21,7 +22,7 @@ abbrev μ-loop : tie.MeasureT-loop
 loop-holds : tie.Need-loop-holds Inv-loop μ-loop
 loop-holds c =
     let start = c .before in
-    (omega arith, refl, marks-none (netBy 0 (start .args .n) [] (bitIn (start .args .clash .now))) _ _ (start .pre .0 .1) (start .pre .1))
+    (omega arith, refl, marks-none (netIn 0 (start .args .n) [] (bitIn (start .args .clash .now)) unblocked) _ _ (start .pre .0 .1) (start .pre .1))
 
 clashes-requires : tie.Need-clashes-requires Inv-loop μ-loop
 clashes-requires c κs = (omega arith, omega arith)
@@ -39,11 +40,12 @@ loop-less c = omega arith
 turned :
     (c : tie.Joined1 Inv-loop μ-loop) →
     let start = c .before .before .before .before .before in
-    c .if1 .table ≡ marks (netBy 0 (start .args .n) [] (bitIn (start .args .clash .now))) (start .args .i) (c .before .before .before .loop .j + 1) (start .args .table .now)
+    c .if1 .table ≡ marks (netIn 0 (start .args .n) [] (bitIn (start .args .clash .now)) unblocked) (start .args .i) (c .before .before .before .loop .j + 1)
+    (start .args .table .now)
 turned c =
     let at = c .before .before .before in
     let start = at .before .before in
-    let net = netBy 0 (start .args .n) [] (bitIn (start .args .clash .now)) in
+    let net = netIn 0 (start .args .n) [] (bitIn (start .args .clash .now)) unblocked in
     let said = c .before .clashes .ensures in
     ⊎-elim
     (λ w. marks-yes net _ _ (start .pre .0 .1) _ (at .loop .inv .2) (c .before .before .loop-test .taken) (sym (w .0 .taken) ∙ said) (w .5 ∙ w .2 .ensures))
@@ -54,7 +56,8 @@ loop-again : tie.Need-loop-again Inv-loop μ-loop
 loop-again c =
     let start = c .before .before .before .before .before in (
       omega arith,
-      ap length (turned c) ∙ marks-long (netBy 0 (start .args .n) [] (bitIn (start .args .clash .now))) (start .args .i) (start .args .table .now) (start .pre .0 .1) (c .before .before .before .loop .j + 1),
+      ap length (turned c) ∙ marks-long (netIn 0 (start .args .n) [] (bitIn (start .args .clash .now)) unblocked) (start .args .i) (start .args .table .now)
+          (start .pre .0 .1) (c .before .before .before .loop .j + 1),
       turned c,
     )
 

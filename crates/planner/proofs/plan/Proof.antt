@@ -1,19 +1,18 @@
--- `planner::plan` meets its contract: each way out is one of the three ways of proofs/Answer.antt, and no row is planned before the first. The clash rows that are
--- lent state the site's clash relation. Assumes nothing.
+-- `planner::plan` meets its contract: each way out is one of the three ways of proofs/Answer.antt, and no row is planned before the first.
+-- The clash rows that are lent state the site's clash relation. Assumes nothing.
 use mathlib.Core.Path.{_≡_, sym, ap, _∙_}
 use Prim.Native.Nat.{_≤_, _<_}
 use lib.ListN.{length}
 use native.Mathlib.Omega.{arith}
 use borrow.Author.Needs.{needs}
 use Rattle.laws.specs.Bits.{bitIn}
-use Rattle.theory.specs.Net.{Net}
+use Rattle.theory.specs.Net.{Net, unblocked}
 use Rattle.theory.specs.Greedy.{greedy}
 use Rattle.site.specs.Record.{positions, size, faultOf}
-use Rattle.site.specs.Reach.{netOf}
+use Rattle.site.specs.Reach.{netOf, netIn}
 use Rattle.site.specs.declared.Fault.the-variants.{Fine}
 use Rattle.site.proofs.Faults.{not-fine, fine-sized, few-positions, few-bytes}
 use Rattle.planner.specs.Plan.{answerOf, leaves}
-use Rattle.planner.specs.Loop.{netBy}
 use Rattle.planner.proofs.Answer.{refused-answer, refused-table, short-answer, short-table, run-answer, run-table}
 use Rattle.planner.proofs.Cells.{no-rows}
 use Rattle.planner.proofs.plan.Statement.{statement}
@@ -75,7 +74,7 @@ plan-from-requires c κs =
     let args = told .before .before .before .before .args in
     let site = args .site in
     let sized = fine-sized site (fine told) in
-    let net = netBy (site .cells) (positions site) (site .loads) (bitIn (c .before .before .before .clash-rows .result)) in
+    let net = netIn (site .cells) (positions site) (site .loads) (bitIn (c .before .before .before .clash-rows .result)) unblocked in
     ((omega arith, sized .cells-most, sized .channels-most), (omega (arith, long .if1 .left), no-rows net (args .table .now)))
 
 same-length : tie.Need-same-length
@@ -89,8 +88,8 @@ returns-3 c =
     let told = long .before .before .before .before in
     let start = told .before .before .before .before in
     let site = start .args .site in
-    let net : netBy (site .cells) (positions site) (site .loads) (bitIn (rows .result)) ≡ netOf site
-    = ap (netBy (site .cells) (positions site) (site .loads)) (rows .ensures .1 (fine told)) in
+    let net : netIn (site .cells) (positions site) (site .loads) (bitIn (rows .result)) unblocked ≡ netOf site
+    = ap (λ clash. netIn (site .cells) (positions site) (site .loads) clash unblocked) (rows .ensures .1 (fine told)) in
     let fits : size site ≤ length (start .args .table .now) = omega (arith, long .if1 .left) in (
       call .ensures .0 ∙ ap (λ (s : Net). answerOf (greedy s)) net ∙ sym (run-answer site (start .args .table .now) (fine told) fits),
       call .ensures .1 .0 ∙ ap (λ (s : Net). leaves s (start .args .table .now)) net ∙ sym (run-table site (start .args .table .now) (fine told) fits),

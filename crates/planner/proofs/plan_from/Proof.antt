@@ -11,16 +11,18 @@ use lib.Seq.{length-take-le, length-front}
 use Rattle.laws.specs.Bits.{bitIn}
 use Rattle.laws.proofs.Grid.{row-before}
 use Rattle.planner.specs.Plan.{answerOf}
-use Rattle.planner.specs.Loop.{netBy, PlannedTo}
+use Rattle.planner.specs.Loop.{PlannedTo}
 use Rattle.planner.proofs.Cells.{more-long, more-drop, more-planned, more-short, end-done, end-short, rows-kept}
 use Rattle.planner.proofs.plan_from.Statement.{statement}
 use Rattle.planner.proofs.plan_from.Tie as tie
+use Rattle.site.specs.Reach.{netIn}
+use Rattle.theory.specs.Net.{unblocked}
 
 abbrev Inv-loop : tie.InvT-loop
 Inv-loop table₀ first cells slots channels loads clash i₀ table i =
     (i ≤ cells)
     × (length table ≡ length table₀)
-    × PlannedTo (netBy cells (slots * channels) loads (bitIn clash)) i table
+    × PlannedTo (netIn cells (slots * channels) loads (bitIn clash) unblocked) i table
     × (drop (cells * (slots * channels)) table ≡ drop (cells * (slots * channels)) table₀)
 
 abbrev μ-loop : tie.MeasureT-loop
@@ -57,14 +59,16 @@ module _ (c : tie.After-plan-row Inv-loop μ-loop) where
   own = c .before .before .load-of .ensures
 
   long : length (c .plan-row .last .0) ≡ length (at .before .loop .table)
-  long = more-long (start at .args .cells) (size at) (loads at) (clash at) (at .before .loop .i) (at .before .loop .table) (fits at) own (c .plan-row .ensures .0)
+  long = more-long (start at .args .cells) (size at) (loads at) (clash at) (at .before .loop .i) (at .before .loop .table) (fits at) own
+      (c .plan-row .ensures .0)
 
   holds : whole at ≤ length (c .plan-row .last .0)
   holds = omega (arith, long, at .before .loop .inv .1, start at)
 
   past : drop (whole at) (c .plan-row .last .0) ≡ drop (whole at) (start at .args .table .now)
   past =
-      more-drop (start at .args .cells) (size at) (loads at) (clash at) (at .before .loop .i) (at .before .loop .table) (fits at) own (c .plan-row .ensures .0) (whole at) (inside at)
+      more-drop (start at .args .cells) (size at) (loads at) (clash at) (at .before .loop .i) (at .before .loop .table) (fits at) own (c .plan-row .ensures .0)
+      (whole at) (inside at)
       ∙ at .before .loop .inv .3
 
 loop-holds : tie.Need-loop-holds Inv-loop μ-loop
@@ -109,10 +113,13 @@ returns c =
     let branch = c .before .before .before .before in
     let now′ = branch .before .before .before in
     let in′ = at now′ in
-    let e = more-short (start in′ .args .cells) (size in′) (loads in′) (clash in′) (in′ .before .loop .i) (in′ .before .loop .table) (fits in′) (own now′) (now′ .plan-row .ensures .0) (in′ .before .loop .inv .2) (now′ .plan-row .ensures .1) (omega (arith, branch .if1 .taken)) (start in′ .args .cells) (in′ .loop-test .taken) in (
+    let e = more-short (start in′ .args .cells) (size in′) (loads in′) (clash in′) (in′ .before .loop .i) (in′ .before .loop .table) (fits in′) (own now′)
+    (now′ .plan-row .ensures .0) (in′ .before .loop .inv .2) (now′ .plan-row .ensures .1) (omega (arith, branch .if1 .taken)) (start in′ .args .cells)
+    (in′ .loop-test .taken) in (
       sym (ap answerOf e),
       (
-        end-short (whole in′) (c .before .before .clear .last .0) (now′ .plan-row .last .0) (start in′ .args .table .now) e (holds now′) (c .before .before .clear .ensures) (past now′),
+        end-short (whole in′) (c .before .before .clear .last .0) (now′ .plan-row .last .0) (start in′ .args .table .now) e (holds now′)
+            (c .before .before .clear .ensures) (past now′),
         λ done. let z : _≡_ {A = ℕ} 0 1 = cc in absurd (omega arith),
       ),
     )
@@ -130,7 +137,8 @@ loop-again c =
     let none : now′ .plan-row .result ≡ 0 = omega arith in (
       omega arith,
       long now′ ∙ in′ .before .loop .inv .1,
-      more-planned (start in′ .args .cells) (size in′) (loads in′) (clash in′) (in′ .before .loop .i) (in′ .before .loop .table) (fits in′) (own now′) (now′ .plan-row .ensures .0) (in′ .before .loop .inv .2) (now′ .plan-row .ensures .1) none,
+      more-planned (start in′ .args .cells) (size in′) (loads in′) (clash in′) (in′ .before .loop .i) (in′ .before .loop .table) (fits in′) (own now′)
+          (now′ .plan-row .ensures .0) (in′ .before .loop .inv .2) (now′ .plan-row .ensures .1) none,
       past now′,
     )
 
@@ -145,7 +153,8 @@ returns-2 c =
       sym (ap answerOf e),
       (
         end-done (args .cells * (args .slots * args .channels)) (c .before .loop .table) (args .table .now) e (c .before .loop .inv .3),
-        λ _. rows-kept (netBy (args .cells) (args .slots * args .channels) (args .loads .now) (bitIn (args .clash .now))) (args .first) (c .before .loop .table) (args .table .now) (c .before .before .before .pre .1 .1) e (c .before .before .before .pre .0 .0),
+        λ _. rows-kept (netIn (args .cells) (args .slots * args .channels) (args .loads .now) (bitIn (args .clash .now)) unblocked) (args .first)
+            (c .before .loop .table) (args .table .now) (c .before .before .before .pre .1 .1) e (c .before .before .before .pre .0 .0),
       ),
     )
 

@@ -5,8 +5,9 @@ use borrow.Author.Needs.{needs}
 use Rattle.planner.proofs.Marked.{cleared-long, cleared-idle, row-filled, short-filled}
 use Rattle.planner.proofs.plan_row.Statement.{statement}
 use Rattle.laws.specs.Bits.{bitIn}
-use Rattle.planner.specs.Loop.{netBy}
 use Rattle.planner.proofs.plan_row.Tie as tie
+use Rattle.site.specs.Reach.{netIn}
+use Rattle.theory.specs.Net.{unblocked}
 
 mul-n : tie.Need-mul-n
 mul-n c = search needs
@@ -32,7 +33,7 @@ clear-requires c κs = search needs
 mark-row-requires : tie.Need-mark-row-requires
 mark-row-requires c κs =
     let start = c .before .before .before .before .before .before in
-    let net = netBy 0 (start .args .slots * start .args .channels) [] (bitIn (start .args .clash .now)) in
+    let net = netIn 0 (start .args .slots * start .args .channels) [] (bitIn (start .args .clash .now)) unblocked in
     let cleared = c .before .before .before .clear .ensures in (
       (start .pre .0, rw (cleared-long net (start .args .i) (start .args .table .now) (start .pre .2) cleared) (start .pre .2)),
       cleared-idle net (start .args .i) (start .args .table .now) (start .pre .2) cleared,
@@ -57,7 +58,7 @@ returns : tie.Need-returns
 returns c =
     let marking = c .before .before .before .before .before .before in
     let start = marking .before .before .before .before .before .before .before in
-    let net = netBy 0 (start .args .slots * start .args .channels) [] (bitIn (start .args .clash .now)) in
+    let net = netIn 0 (start .args .slots * start .args .channels) [] (bitIn (start .args .clash .now)) unblocked in
     let cleared = marking .before .before .before .before .clear .ensures in
     let filled = c .before .before .fill-row .ensures in (
       row-filled net (start .args .i) (start .args .table .now) (start .pre .2) cleared (marking .mark-row .ensures) (start .args .load) (filled .0),

@@ -13,24 +13,36 @@ use Rattle.putlines.proofs.put_cell.Statement.{statement}
 use Rattle.putlines.proofs.put_cell.Tie as tie
 
 -- part by part: the number, its comma, the load, the marks and the line's end
-start : (s : tie.Start) → let a = s .args in Writing (now (a .out)) (a .at) (cellLine (a .n) (a .k) (a .load) (bitsOf (a .row))) (now (a .out)) (a .at) (decimal (a .k + 1) ++ ((44 ∷ []) ++ (decimal (a .load) ++ (marks (bitsOf (a .row)) 0 (a .n) ++ crlf))))
+start : (s : tie.Start) → let a = s .args in Writing (now (a .out)) (a .at) (cellLine (a .n) (a .k) (a .load) (bitsOf (a .row))) (now (a .out)) (a .at)
+    (decimal (a .k + 1) ++ ((44 ∷ []) ++ (decimal (a .load) ++ (marks (bitsOf (a .row)) 0 (a .n) ++ crlf))))
 start s = let a = s .args in said (line-parts (a .n) (a .k) (a .load) (bitsOf (a .row))) (begun _ _ _)
 
-number : (p : tie.After-put-few) → let a = p .before .before .before .args in Writing (now (a .out)) (a .at) (cellLine (a .n) (a .k) (a .load) (bitsOf (a .row))) (p .put-few .last .0) (p .put-few .result) ((44 ∷ []) ++ (decimal (a .load) ++ (marks (bitsOf (a .row)) 0 (a .n) ++ crlf)))
-number p = let a = p .before .before .before .args in stored (decimal (a .k + 1)) ((44 ∷ []) ++ (decimal (a .load) ++ (marks (bitsOf (a .row)) 0 (a .n) ++ crlf))) (start (p .before .before .before)) (p .put-few .ensures .0) (p .put-few .ensures .1)
+number : (p : tie.After-put-few) → let a = p .before .before .before .args in
+    Writing (now (a .out)) (a .at) (cellLine (a .n) (a .k) (a .load) (bitsOf (a .row))) (p .put-few .last .0) (p .put-few .result)
+    ((44 ∷ []) ++ (decimal (a .load) ++ (marks (bitsOf (a .row)) 0 (a .n) ++ crlf)))
+number p = let a = p .before .before .before .args in stored (decimal (a .k + 1))
+    ((44 ∷ []) ++ (decimal (a .load) ++ (marks (bitsOf (a .row)) 0 (a .n) ++ crlf))) (start (p .before .before .before)) (p .put-few .ensures .0)
+    (p .put-few .ensures .1)
 
 comma-room : (p : tie.After-put-few) → p .put-few .result + 1 ≤ length (p .put-few .last .0)
-comma-room p = let a = p .before .before .before .args in room (44 ∷ []) (decimal (a .load) ++ (marks (bitsOf (a .row)) 0 (a .n) ++ crlf)) (number p) (p .before .before .before .pre .2)
+comma-room p = let a = p .before .before .before .args in room (44 ∷ []) (decimal (a .load) ++ (marks (bitsOf (a .row)) 0 (a .n) ++ crlf)) (number p)
+    (p .before .before .before .pre .2)
 
-comma : (p : tie.After-put-few) → let a = p .before .before .before .args in Writing (now (a .out)) (a .at) (cellLine (a .n) (a .k) (a .load) (bitsOf (a .row))) (set (p .put-few .last .0) (p .put-few .result) 44) (p .put-few .result + 1) (decimal (a .load) ++ (marks (bitsOf (a .row)) 0 (a .n) ++ crlf))
+comma : (p : tie.After-put-few) → let a = p .before .before .before .args in
+    Writing (now (a .out)) (a .at) (cellLine (a .n) (a .k) (a .load) (bitsOf (a .row))) (set (p .put-few .last .0) (p .put-few .result) 44)
+    (p .put-few .result + 1) (decimal (a .load) ++ (marks (bitsOf (a .row)) 0 (a .n) ++ crlf))
 comma p = let a = p .before .before .before .args in stored (44 ∷ []) (decimal (a .load) ++ (marks (bitsOf (a .row)) 0 (a .n) ++ crlf)) (number p) refl refl
 
-loaded : (q : tie.After-put-number) → let a = q .before .before .before .before .before .before .before .args in Writing (now (a .out)) (a .at) (cellLine (a .n) (a .k) (a .load) (bitsOf (a .row))) (q .put-number .last .0) (q .put-number .result) (marks (bitsOf (a .row)) 0 (a .n) ++ crlf)
+loaded : (q : tie.After-put-number) → let a = q .before .before .before .before .before .before .before .args in
+    Writing (now (a .out)) (a .at) (cellLine (a .n) (a .k) (a .load) (bitsOf (a .row))) (q .put-number .last .0) (q .put-number .result)
+    (marks (bitsOf (a .row)) 0 (a .n) ++ crlf)
 loaded q =
     let a = q .before .before .before .before .before .before .before .args in
-    stored (decimal (a .load)) (marks (bitsOf (a .row)) 0 (a .n) ++ crlf) (comma (q .before .before .before .before)) (q .put-number .ensures .0) (q .put-number .ensures .1)
+    stored (decimal (a .load)) (marks (bitsOf (a .row)) 0 (a .n) ++ crlf) (comma (q .before .before .before .before)) (q .put-number .ensures .0)
+    (q .put-number .ensures .1)
 
-marked : (m : tie.After-put-marks) → let a = m .before .before .before .before .before .before .before .before .before .before .before .args in Writing (now (a .out)) (a .at) (cellLine (a .n) (a .k) (a .load) (bitsOf (a .row))) (m .put-marks .last .0) (m .put-marks .result) crlf
+marked : (m : tie.After-put-marks) → let a = m .before .before .before .before .before .before .before .before .before .before .before .args in
+    Writing (now (a .out)) (a .at) (cellLine (a .n) (a .k) (a .load) (bitsOf (a .row))) (m .put-marks .last .0) (m .put-marks .result) crlf
 marked m =
     let a = m .before .before .before .before .before .before .before .before .before .before .before .args in
     stored (marks (bitsOf (a .row)) 0 (a .n)) crlf (loaded (m .before .before .before .before)) (m .put-marks .ensures .0) (m .put-marks .ensures .1)
@@ -39,7 +51,8 @@ end-room : (m : tie.After-put-marks) → m .put-marks .result + 2 ≤ length (m 
 end-room m = room crlf [] (marked m) (m .before .before .before .before .before .before .before .before .before .before .before .pre .2)
 
 closed : (m : tie.After-put-marks) → let a = m .before .before .before .before .before .before .before .before .before .before .before .args in
-    Writing (now (a .out)) (a .at) (cellLine (a .n) (a .k) (a .load) (bitsOf (a .row))) (set (set (m .put-marks .last .0) (m .put-marks .result) 13) (m .put-marks .result + 1) 10) (m .put-marks .result + 2) []
+    Writing (now (a .out)) (a .at) (cellLine (a .n) (a .k) (a .load) (bitsOf (a .row)))
+    (set (set (m .put-marks .last .0) (m .put-marks .result) 13) (m .put-marks .result + 1) 10) (m .put-marks .result + 2) []
 closed m = stored crlf [] (marked m) (two (m .put-marks .last .0) (m .put-marks .result) 13 10) refl
 
 add-put-few : tie.Need-add-put-few

@@ -26,7 +26,11 @@ unfolding column
 space c =
     let l = c .before .loop in
     let a = c .before .before .before .args in
-    omega (arith, room (column (l .k + 1)) (columns (l .k + 1) (a .n - (l .k + 1))) (said (columns-next (l .k) (a .n) (omega arith)) (l .inv .1)) (c .before .before .before .pre .1))
+    omega (
+      arith,
+      room (column (l .k + 1)) (columns (l .k + 1) (a .n - (l .k + 1))) (said (columns-next (l .k) (a .n) (omega arith)) (l .inv .1))
+          (c .before .before .before .pre .1),
+    )
 
 slice-write-out : tie.Need-slice-write-out Inv-loop μ-loop
 slice-write-out c = omega (arith, space c)
@@ -51,8 +55,10 @@ unfolding column
 loop-again c = let l = c .before .before .before .before .before .loop in
     let a = c .before .before .before .before .before .before .before .args in
     let w = said (columns-next (l .k) (a .n) (omega arith)) (l .inv .1) in
-    let e = c .before .before .put-few .ensures in
-    (omega arith, stored (column (l .k + 1)) (columns (l .k + 1) (a .n - (l .k + 1))) w (e .0 ∙ one-run (l .out) (l .p) 44 (decimal (l .k + 1))) (e .1 ∙ omega arith))
+    let e = c .before .before .put-few .ensures in (
+      omega arith,
+      stored (column (l .k + 1)) (columns (l .k + 1) (a .n - (l .k + 1))) w (e .0 ∙ one-run (l .out) (l .p) 44 (decimal (l .k + 1))) (e .1 ∙ omega arith),
+    )
 
 same-length : tie.Need-same-length Inv-loop μ-loop
 same-length c = c .before .loop .inv .1 .long

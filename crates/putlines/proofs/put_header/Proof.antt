@@ -19,12 +19,14 @@ fits s = omega (arith, s .pre .1)
 start : (s : tie.Start) → let a = s .args in Writing (now (a .out)) 0 (header (a .n)) (now (a .out)) 0 (cellLoad ++ (columns 0 (a .n) ++ crlf))
 start s = said (header-parts (s .args .n)) (begun _ _ _)
 
-text : (p : tie.After-put-text) → let a = p .before .before .before .before .args in Writing (now (a .out)) 0 (header (a .n)) (p .put-text .last .0) (p .put-text .result) (columns 0 (a .n) ++ crlf)
+text : (p : tie.After-put-text) → let a = p .before .before .before .before .args in
+    Writing (now (a .out)) 0 (header (a .n)) (p .put-text .last .0) (p .put-text .result) (columns 0 (a .n) ++ crlf)
 text p =
     let s = p .before .before .before .before in
     stored cellLoad (columns 0 (s .args .n) ++ crlf) (start s) (p .put-text .ensures .0) (p .put-text .ensures .1)
 
-headed : (m : tie.After-put-columns) → let a = m .before .before .before .before .before .before .before .before .args in Writing (now (a .out)) 0 (header (a .n)) (m .put-columns .last .0) (m .put-columns .result) crlf
+headed : (m : tie.After-put-columns) → let a = m .before .before .before .before .before .before .before .before .args in
+    Writing (now (a .out)) 0 (header (a .n)) (m .put-columns .last .0) (m .put-columns .result) crlf
 headed m =
     let p = m .before .before .before .before in
     stored (columns 0 (p .before .before .before .before .args .n)) crlf (text p) (m .put-columns .ensures .0) (m .put-columns .ensures .1)
@@ -33,7 +35,8 @@ end-room : (m : tie.After-put-columns) → m .put-columns .result + 2 ≤ length
 end-room m = room crlf [] (headed m) (fits (m .before .before .before .before .before .before .before .before))
 
 closed : (m : tie.After-put-columns) → let a = m .before .before .before .before .before .before .before .before .args in
-    Writing (now (a .out)) 0 (header (a .n)) (set (set (m .put-columns .last .0) (m .put-columns .result) 13) (m .put-columns .result + 1) 10) (m .put-columns .result + 2) []
+    Writing (now (a .out)) 0 (header (a .n)) (set (set (m .put-columns .last .0) (m .put-columns .result) 13) (m .put-columns .result + 1) 10)
+    (m .put-columns .result + 2) []
 closed m = stored crlf [] (headed m) (two (m .put-columns .last .0) (m .put-columns .result) 13 10) refl
 
 slice-aggregate-put-text : tie.Need-slice-aggregate-put-text

@@ -24,7 +24,8 @@ space : (c : tie.In-loop Inv-loop μ-loop) → c .before .loop .p + 2 ≤ length
 space c =
     let l = c .before .loop in
     let a = c .before .before .args in
-    room (44 ∷ (48 + bitsOf (a .row) (l .b)) ∷ []) (marks (bitsOf (a .row)) (l .b + 1) (a .n - (l .b + 1))) (said (marks-next (bitsOf (a .row)) (l .b) (a .n) (omega arith)) (l .inv .1)) (c .before .before .pre .1)
+    room (44 ∷ (48 + bitsOf (a .row) (l .b)) ∷ []) (marks (bitsOf (a .row)) (l .b + 1) (a .n - (l .b + 1)))
+    (said (marks-next (bitsOf (a .row)) (l .b) (a .n) (omega arith)) (l .inv .1)) (c .before .before .pre .1)
 
 slice-write-out : tie.Need-slice-write-out Inv-loop μ-loop
 slice-write-out c = omega (arith, space c)
@@ -60,8 +61,10 @@ loop-again : tie.Need-loop-again Inv-loop μ-loop
 unfolding bitsOf
 loop-again c = let l = c .before .loop in
     let a = c .before .before .args in
-    let w = said (marks-next (bitsOf (a .row)) (l .b) (a .n) (omega arith)) (l .inv .1) in
-    (omega arith, stored (44 ∷ (48 + bitsOf (a .row) (l .b)) ∷ []) (marks (bitsOf (a .row)) (l .b + 1) (a .n - (l .b + 1))) w (two (l .out) (l .p) 44 _) (omega arith))
+    let w = said (marks-next (bitsOf (a .row)) (l .b) (a .n) (omega arith)) (l .inv .1) in (
+      omega arith,
+      stored (44 ∷ (48 + bitsOf (a .row) (l .b)) ∷ []) (marks (bitsOf (a .row)) (l .b + 1) (a .n - (l .b + 1))) w (two (l .out) (l .p) 44 _) (omega arith),
+    )
 
 same-length : tie.Need-same-length Inv-loop μ-loop
 same-length c = c .before .loop .inv .1 .long

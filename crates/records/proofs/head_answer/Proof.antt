@@ -8,7 +8,7 @@ use denote.Ref.{now}
 use Rattle.site.specs.Record.{sizeOk}
 use Rattle.records.specs.Reasons.{firstReason, recordReasons}
 use Rattle.records.specs.Opener.{openAnswer}
-use Rattle.records.specs.Head.{headSize, cellsIn, slotsIn, channelsIn}
+use Rattle.records.specs.Head.{headSize, cellsOfHead, slotsOfHead, channelsOfHead}
 use Rattle.records.specs.declared.Length.the-variants.{Exact}
 use Rattle.records.specs.declared.ReadAnswer.the-variants.{Done}
 use Rattle.records.proofs.Laws.{not-opened, opened-done, record-open, exact}
@@ -45,17 +45,18 @@ long c = let o = record-open (now (c .before .before .before .before .args .s)) 
 in-file :
     (c : tie.After-size-ok) →
     let s = now (c .before .before .before .before .before .before .before .before .args .s) in
-    c .size-ok .result ≡ sizeOk (cellsIn s) (slotsIn s) (channelsIn s)
-in-file c = c .size-ok .ensures ∙ rw (c .before .before .before .word .ensures, c .before .before .word2 .ensures, c .before .word3 .ensures) refl
+    c .size-ok .result ≡ sizeOk (cellsOfHead s) (slotsOfHead s) (channelsOfHead s)
+in-file c = c .size-ok .ensures ∙ rw (c .before .before .before .two-bytes .ensures, c .before .before .two-bytes2 .ensures, c .before .two-bytes3 .ensures)
+    refl
 
-word-requires : tie.Need-word-requires
-word-requires c κs = omega (arith, long c)
+two-bytes-requires : tie.Need-two-bytes-requires
+two-bytes-requires c κs = omega (arith, long c)
 
-word-requires-2 : tie.Need-word-requires-2
-word-requires-2 c κs = omega (arith, long (c .before))
+two-bytes-requires-2 : tie.Need-two-bytes-requires-2
+two-bytes-requires-2 c κs = omega (arith, long (c .before))
 
-word-requires-3 : tie.Need-word-requires-3
-word-requires-3 c κs = omega (arith, long (c .before .before))
+two-bytes-requires-3 : tie.Need-two-bytes-requires-3
+two-bytes-requires-3 c κs = omega (arith, long (c .before .before))
 
 size-ok-requires : tie.Need-size-ok-requires
 size-ok-requires c κs = search needs
@@ -79,9 +80,9 @@ head-answer-spec =
     enum-told-2
     opened-answer-requires
     returns
-    word-requires
-    word-requires-2
-    word-requires-3
+    two-bytes-requires
+    two-bytes-requires-2
+    two-bytes-requires-3
     size-ok-requires
     returns-2
     returns-3)

@@ -13,7 +13,8 @@ use Rattle.rows.proofs.fill_front.Statement.{statement}
 use Rattle.rows.proofs.fill_front.Tie as tie
 
 abbrev Inv-loop : tie.InvT-loop
-Inv-loop row₀ slots channels load size left₀ at₀ slot₀ row left at slot = (slot ≤ slots) × (at ≡ slot * channels) × (row ≡ front unblocked at load row₀) × (left ≡ after unblocked at load row₀)
+Inv-loop row₀ slots channels load size left₀ at₀ slot₀ row left at slot = (slot ≤ slots) × (at ≡ slot * channels) × (row ≡ front unblocked at load row₀)
+    × (left ≡ after unblocked at load row₀)
 
 abbrev μ-loop : tie.MeasureT-loop
 μ-loop row₀ slots channels load size left₀ at₀ slot₀ row left at slot = slots - slot
@@ -105,9 +106,11 @@ loop-again c =
       omega (arith, q .loop-test .taken),
       omega arith,
       back (head .loop .at) n (head .loop .row) (c .before .before .reserve-idle .last .0)
-          ∙ stretch-filled unblocked (start head .args .load) r (head .loop .at) (short head) n (more q) unblocked (λ p. refl) (head .loop .inv .2) (head .loop .inv .3) x counted h
+          ∙ stretch-filled unblocked (start head .args .load) r (head .loop .at) (short head) n (more q) unblocked (λ p. refl) (head .loop .inv .2)
+          (head .loop .inv .3) x counted h
           (c .before .before .reserve-idle .ensures),
-      stretch-left unblocked (start head .args .load) r (head .loop .at) (short head) n (more q) unblocked (λ p. refl) (head .loop .inv .2) (head .loop .inv .3) x counted,
+      stretch-left unblocked (start head .args .load) r (head .loop .at) (short head) n (more q) unblocked (λ p. refl) (head .loop .inv .2)
+          (head .loop .inv .3) x counted,
     )
 
 same-length : tie.Need-same-length Inv-loop μ-loop

@@ -56,7 +56,8 @@ module _ (c : tie.After-slice-known2 Inv-loop μ-loop Inv-slots μ-slots) where
       (λ i. filling unblocked m (c .before .before .fill-front .ensures .1 .1 i) (c .before .before .fill-front .ensures .1 .0 i))
       ∙ front-rest unblocked (start .args .load) r m within-row
 
-  begun-unmet : unmet unblocked m (c .before .before .fill-front .result .left) (drop m (c .before .before .fill-front .last .0)) ≡ unmet unblocked 0 (start .args .load) r
+  begun-unmet : unmet unblocked m (c .before .before .fill-front .result .left) (drop m (c .before .before .fill-front .last .0))
+      ≡ unmet unblocked 0 (start .args .load) r
   begun-unmet =
       (λ i. unmet unblocked m (c .before .before .fill-front .ensures .1 .1 i) (drop m (c .before .before .fill-front .ensures .1 .0 i)))
       ∙ after-rest unblocked (start .args .load) r m within-row

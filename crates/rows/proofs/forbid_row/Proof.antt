@@ -56,7 +56,8 @@ loop-again : tie.Need-loop-again Inv-loop μ-loop
 loop-again c =
     let at = c .before .before .before .before in
     let start = at .before .before in
-    let turned = half-more _ _ _ _ (start .pre .0) (start .pre .1) (at .loop .p) (c .before .before .before .loop-test .taken) (at .loop .inv .2) (c .mark .ensures) in (
+    let turned = half-more _ _ _ _ (start .pre .0) (start .pre .1) (at .loop .p) (c .before .before .before .loop-test .taken) (at .loop .inv .2)
+    (c .mark .ensures) in (
       omega arith,
       ap length turned ∙ half-long _ _ _ (start .args .table .now) (start .pre .0) (start .pre .1) (at .loop .p + 1),
       turned,

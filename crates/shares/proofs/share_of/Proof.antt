@@ -27,7 +27,8 @@ period-in c = sym (c .before .within3 .ensures) ∙ not-false _ (c .if3 .left)
 repeats-in : (c : tie.Else4) → upTo 4 (c .before .before .before .before .before .before .before .before .before .before .before .args .repeats .0) ≡ true
 repeats-in c = sym (c .before .repeats-fit .ensures) ∙ not-false _ (c .if4 .left)
 
-fair : (c : tie.Else4) → let a = c .before .before .before .before .before .before .before .before .before .before .before .args in Fair (a .slots .0) (a .burst .0) (a .period .0) (a .repeats .0)
+fair : (c : tie.Else4) → let a = c .before .before .before .before .before .before .before .before .before .before .before .args in
+    Fair (a .slots .0) (a .burst .0) (a .period .0) (a .repeats .0)
 fair c = record {
   slots = up-to _ _ (slots-in (c .before .before .before .before .before .before .before .before));
   burst = up-to _ _ (burst-in (c .before .before .before .before .before));
@@ -63,7 +64,11 @@ within-requires-3 c κs = search needs
 
 returns-3 : tie.Need-returns-3
 unfolding shareOf
-returns-3 c = simp (slots-in (c .before .before .before .before .before .before), burst-in (c .before .before .before), sym (c .before .within3 .ensures) ∙ not-true _ (c .if3 .taken))
+returns-3 c = simp (
+  slots-in (c .before .before .before .before .before .before),
+  burst-in (c .before .before .before),
+  sym (c .before .within3 .ensures) ∙ not-true _ (c .if3 .taken),
+)
 
 repeats-fit-requires : tie.Need-repeats-fit-requires
 repeats-fit-requires c κs = search needs
@@ -85,7 +90,8 @@ repeated-requires : tie.Need-repeated-requires
 repeated-requires c κs = rw (c .share-for .ensures) (fair-most _ _ _ _ (fair (c .before)))
 
 -- the product is the share
-share-is : (c : tie.After-repeated) → let a = c .before .before .before .before .before .before .before .before .before .before .before .before .before .args in c .repeated .result .0 ≡ shareNeeded (a .slots .0) (a .burst .0) (a .period .0) (a .repeats .0)
+share-is : (c : tie.After-repeated) → let a = c .before .before .before .before .before .before .before .before .before .before .before .before .before .args in
+    c .repeated .result .0 ≡ shareNeeded (a .slots .0) (a .burst .0) (a .period .0) (a .repeats .0)
 share-is c = rw (c .before .share-for .ensures) at (c .repeated .ensures)
 
 -- one sending is no more than all of them

@@ -22,7 +22,10 @@ cast-n : tie.Need-cast-n Inv-loop μ-loop
 cast-n c = search needs
 
 loop-holds : tie.Need-loop-holds Inv-loop μ-loop
-loop-holds c = let a = c .before .before .before .before .args in (omega arith, said (lines-all (plain (a .s .cells) (a .s .loads) (a .s .reach)) (a .s .cells)) (begun _ _ _))
+loop-holds c = let a = c .before .before .before .before .args in (
+  omega arith,
+  said (lines-all (plain (a .s .cells) (a .s .loads) (a .s .reach)) (a .s .cells)) (begun _ _ _),
+)
 
 mul-put-cell : tie.Need-mul-put-cell Inv-loop μ-loop
 mul-put-cell c = omega arith
@@ -40,15 +43,21 @@ array-read-put-cell-2 : tie.Need-array-read-put-cell-2 Inv-loop μ-loop
 array-read-put-cell-2 c = omega arith
 
 -- the room is that of the lines
-fits : (s : tie.Start Inv-loop μ-loop) → let a = s .args in a .at + length (linesFrom (plain (a .s .cells) (a .s .loads) (a .s .reach)) 0 (a .s .cells)) ≤ length (now (a .out))
+fits : (s : tie.Start Inv-loop μ-loop) → let a = s .args in a .at + length (linesFrom (plain (a .s .cells) (a .s .loads) (a .s .reach)) 0 (a .s .cells))
+    ≤ length (now (a .out))
 fits s = let a = s .args in rw (← lines-plain (a .s) (a .s .cells) 0) (s .pre .1)
 
 put-cell-requires : tie.Need-put-cell-requires Inv-loop μ-loop
 unfolding lineOf
 put-cell-requires c κs = let l = c .before .before in
     let s = l .before .before .before .before .before in
-    let a = s .args in
-    (s .pre .0, omega (arith, s .pre .0), room (lineOf (plain (a .s .cells) (a .s .loads) (a .s .reach)) (l .loop .k)) (linesFrom (plain (a .s .cells) (a .s .loads) (a .s .reach)) (l .loop .k + 1) (a .s .cells - (l .loop .k + 1))) (said (lines-next (plain (a .s .cells) (a .s .loads) (a .s .reach)) (l .loop .k) (a .s .cells) (omega arith)) (l .loop .inv .1)) (fits s))
+    let a = s .args in (
+      s .pre .0,
+      omega (arith, s .pre .0),
+      room (lineOf (plain (a .s .cells) (a .s .loads) (a .s .reach)) (l .loop .k))
+          (linesFrom (plain (a .s .cells) (a .s .loads) (a .s .reach)) (l .loop .k + 1) (a .s .cells - (l .loop .k + 1)))
+          (said (lines-next (plain (a .s .cells) (a .s .loads) (a .s .reach)) (l .loop .k) (a .s .cells) (omega arith)) (l .loop .inv .1)) (fits s),
+    )
 
 add-k : tie.Need-add-k Inv-loop μ-loop
 add-k c = omega arith
@@ -61,8 +70,12 @@ unfolding lineOf
 loop-again c = let l = c .before .before .before .before .before in
     let s = l .before .before .before .before .before in
     let a = s .args in
-    let e = c .before .before .put-cell .ensures in
-    (omega arith, stored (lineOf (plain (a .s .cells) (a .s .loads) (a .s .reach)) (l .loop .k)) (linesFrom (plain (a .s .cells) (a .s .loads) (a .s .reach)) (l .loop .k + 1) (a .s .cells - (l .loop .k + 1))) (said (lines-next (plain (a .s .cells) (a .s .loads) (a .s .reach)) (l .loop .k) (a .s .cells) (omega arith)) (l .loop .inv .1)) (e .0) (e .1))
+    let e = c .before .before .put-cell .ensures in (
+      omega arith,
+      stored (lineOf (plain (a .s .cells) (a .s .loads) (a .s .reach)) (l .loop .k))
+          (linesFrom (plain (a .s .cells) (a .s .loads) (a .s .reach)) (l .loop .k + 1) (a .s .cells - (l .loop .k + 1)))
+          (said (lines-next (plain (a .s .cells) (a .s .loads) (a .s .reach)) (l .loop .k) (a .s .cells) (omega arith)) (l .loop .inv .1)) (e .0) (e .1),
+    )
 
 same-length : tie.Need-same-length Inv-loop μ-loop
 same-length c = c .before .loop .inv .1 .long
@@ -71,7 +84,8 @@ returns : tie.Need-returns Inv-loop μ-loop
 returns c = let l = c .before in
     let s = l .before .before .before .before .before in
     let a = s .args in
-    ended (said (lines-none (plain (a .s .cells) (a .s .loads) (a .s .reach)) (l .loop .k) (a .s .cells) (omega arith)) (l .loop .inv .1)) .0 ∙ ap (sets (now (a .out)) (a .at)) (sym (lines-plain (a .s) (a .s .cells) 0))
+    ended (said (lines-none (plain (a .s .cells) (a .s .loads) (a .s .reach)) (l .loop .k) (a .s .cells) (omega arith)) (l .loop .inv .1)) .0
+    ∙ ap (sets (now (a .out)) (a .at)) (sym (lines-plain (a .s) (a .s .cells) 0))
 
 pub put-lines-spec : {M : Type 1} → statement M
 put-lines-spec =

@@ -4,8 +4,8 @@ use Prim.Native.Nat.{_<_}
 use lib.ListN.{length}
 use mathlib.Core.Path.{_∙_}
 use denote.Ref.{now}
-use Rattle.records.proofs.Write.{laid-done, laid-short}
-use Rattle.sheet.proofs.WriteLaws.{sheet-parts, sheet-put, written-done, written-short}
+use Rattle.records.proofs.Write.{written-done, written-short, laid-done, laid-short}
+use Rattle.sheet.proofs.WriteLaws.{sheet-parts, sheet-put}
 use borrow.Author.Needs.{needs}
 use Rattle.sheet.proofs.put_sheet.Statement.{statement}
 use Rattle.sheet.proofs.put_sheet.Tie as tie
@@ -42,7 +42,8 @@ returns-2 c = let m = c .before .before in
     let n = h .before .before .before .before in
     let s = n .before .before in (
       written-done _ _ _ (n .sheet-len .ensures) (h .before .before .before .if1 .left),
-      m .put-lines .ensures ∙ sheet-put (s .args .s) (now (s .args .out)) _ _ (h .put-header .ensures .0) (h .put-header .ensures .1) ∙ laid-done _ _ (omega (arith, n .sheet-len .ensures)),
+      m .put-lines .ensures ∙ sheet-put (s .args .s) (now (s .args .out)) _ _ (h .put-header .ensures .0) (h .put-header .ensures .1)
+          ∙ laid-done _ _ (omega (arith, n .sheet-len .ensures)),
     )
 
 pub put-sheet-spec : {M : Type 1} → statement M

@@ -49,8 +49,17 @@ loop-again : tie.Need-loop-again Inv-loop μ-loop
 loop-again c = let l = c .before .before in
     let s = l .before .before .before .before .args .s in
     let p = plain (s .cells) (s .loads) [] in
-    let e = ap length (lines-next p (l .loop .k) (s .cells) (omega arith)) in
-    (omega arith, omega (arith, e, length-append (lineOf p (l .loop .k)) (linesFrom p (l .loop .k + 1) (s .cells - (l .loop .k + 1))), line-long p (l .loop .k), c .line-len .ensures .0), omega (arith, c .line-len .ensures .1))
+    let e = ap length (lines-next p (l .loop .k) (s .cells) (omega arith)) in (
+      omega arith,
+      omega (
+        arith,
+        e,
+        length-append (lineOf p (l .loop .k)) (linesFrom p (l .loop .k + 1) (s .cells - (l .loop .k + 1))),
+        line-long p (l .loop .k),
+        c .line-len .ensures .0,
+      ),
+      omega (arith, c .line-len .ensures .1),
+    )
 
 returns : tie.Need-returns Inv-loop μ-loop
 returns c = let l = c .before in

@@ -1,4 +1,5 @@
--- `site::fault_bits` meets its contract: a row past the cells or above most is handed back itself; else its own bit is what is left to be wrong. Assumes nothing.
+-- `site::fault_bits` meets its contract: a row past the cells or above most is handed back itself; else its own bit is what is left to be wrong.
+-- Assumes nothing.
 use mathlib.Core.Path.{_≡_, sym, ap, ap₂, _∙_}
 use Prim.Native.Nat.{_*_, _%_, _^_, _<_}
 use native.Mathlib.Omega.{arith}
@@ -10,8 +11,8 @@ use borrow.Author.Needs.{needs}
 use Rattle.site.proofs.fault_bits.Statement.{statement}
 use Rattle.site.proofs.fault_bits.Tie as tie
 
-ones-requires : tie.Need-ones-requires
-ones-requires c κs = search needs
+low-bits-requires : tie.Need-low-bits-requires
+low-bits-requires c κs = search needs
 
 cast-own : tie.Need-cast-own
 cast-own c = search needs
@@ -30,10 +31,10 @@ returns-3 c e =
     let at = c .before .before in
     let a = at .before .args in
     let own : 1 * 2 ^ a .k % 4294967296 ≡ 2 ^ a .k = one-shl (a .k) (omega arith) in
-    let h : a .x < 2 ^ a .n = omega (arith, pow-pos (a .n), at .ones .ensures) in
+    let h : a .x < 2 ^ a .n = omega (arith, pow-pos (a .n), at .low-bits .ensures) in
     let cell : a .k < a .n
-    = cells-bit (a .n) (a .k) (λ z. c .before .if1 .left (ap₂ bitAnd (at .ones .ensures) own ∙ z)) in
+    = cells-bit (a .n) (a .k) (λ z. c .before .if1 .left (ap₂ bitAnd (at .low-bits .ensures) own ∙ z)) in
     row-fine (a .n) (a .x) (a .k) cell h (ap (bitAnd (a .x)) (sym own) ∙ e)
 
 pub fault-bits-spec : {M : Type 1} → statement M
-fault-bits-spec = tie.close (tie.spec ones-requires cast-own shl-own returns returns-2 returns-3)
+fault-bits-spec = tie.close (tie.spec low-bits-requires cast-own shl-own returns returns-2 returns-3)

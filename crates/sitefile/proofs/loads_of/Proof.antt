@@ -1,4 +1,4 @@
--- `sitefile::loads_of` meets its contract. The invariant: to store the words that are left of the body from i on makes the answer. Assumes nothing.
+-- `sitefile::loads_of` meets its contract. The invariant: to store the numbers that are left of the body from i on makes the answer. Assumes nothing.
 use Prim.Native.Nat.{ℕ, _+_, _-_, _*_, _/_, _≤_}
 use mathlib.Core.Path.{_≡_, refl, sym, ap, _∙_}
 use mathlib.Core.List.{List}
@@ -6,7 +6,7 @@ use native.Mathlib.Omega.{arith}
 use lib.ListN.{length, drop, replicate, set}
 use lib.Seq.{sets}
 use denote.Ref.{now}
-use Rattle.records.specs.Bytes.{wordsOf}
+use Rattle.records.specs.Bytes.{numbersIn}
 use Rattle.records.proofs.Laws.{loads-step, loads-done}
 use Rattle.sitefile.proofs.loads_of.Statement.{statement}
 use Rattle.sitefile.proofs.loads_of.Tie as tie
@@ -14,7 +14,7 @@ use Rattle.sitefile.proofs.loads_of.Tie as tie
 record Inv (body : List ℕ) (n : ℕ) (loads : List ℕ) (i : ℕ) : Type 0 where
   count : n ≡ length body / 2
   within : i ≤ n
-  left : sets loads i (wordsOf (drop (2 * i) body)) ≡ sets (replicate 32 0) 0 (wordsOf body)
+  left : sets loads i (numbersIn (drop (2 * i) body)) ≡ sets (replicate 32 0) 0 (numbersIn body)
 
 abbrev Inv-loop : tie.InvT-loop
 Inv-loop body loads₀ n i₀ loads i = Inv body n loads i
@@ -25,11 +25,11 @@ abbrev μ-loop : tie.MeasureT-loop
 loop-holds : tie.Need-loop-holds Inv-loop μ-loop
 loop-holds c = record { count = refl; within = omega arith; left = refl }
 
-mul-word : tie.Need-mul-word Inv-loop μ-loop
-mul-word c = omega arith
+mul-two-bytes : tie.Need-mul-two-bytes Inv-loop μ-loop
+mul-two-bytes c = omega arith
 
-word-requires : tie.Need-word-requires Inv-loop μ-loop
-word-requires c κs = omega arith
+two-bytes-requires : tie.Need-two-bytes-requires Inv-loop μ-loop
+two-bytes-requires c κs = omega arith
 
 mul-loads : tie.Need-mul-loads Inv-loop μ-loop
 mul-loads c = omega arith
@@ -51,7 +51,7 @@ loop-again c =
       count = refl;
       within = omega arith;
       left =
-          ap (λ (v : ℕ). sets (set (l .loads) (l .i) v) (l .i + 1) (wordsOf (drop (2 * (l .i + 1)) body))) (c .word .ensures)
+          ap (λ (v : ℕ). sets (set (l .loads) (l .i) v) (l .i + 1) (numbersIn (drop (2 * (l .i + 1)) body))) (c .two-bytes .ensures)
           ∙ loads-step (l .loads) body (l .i) (omega arith)
           ∙ l .inv .left;
     }
@@ -68,8 +68,8 @@ loads-of-spec =
     Inv-loop
     μ-loop
     loop-holds
-    mul-word
-    word-requires
+    mul-two-bytes
+    two-bytes-requires
     mul-loads
     array-write-loads
     add-i

@@ -19,12 +19,18 @@ within-requires-2 c κs = search needs
 returns-2 : tie.Need-returns-2
 unfolding pairOk
 returns-2 c =
-    simp (sym (c .before .before .before .within .ensures) ∙ not-false _ (c .before .before .if1 .left), sym (c .before .within2 .ensures) ∙ not-true _ (c .if2 .taken))
+    simp (
+      sym (c .before .before .before .within .ensures) ∙ not-false _ (c .before .before .if1 .left),
+      sym (c .before .within2 .ensures) ∙ not-true _ (c .if2 .taken),
+    )
 
 returns-3 : tie.Need-returns-3
 unfolding pairOk
 returns-3 c =
-    simp (sym (c .before .before .before .within .ensures) ∙ not-false _ (c .before .before .if1 .left), sym (c .before .within2 .ensures) ∙ not-false _ (c .if2 .left))
+    simp (
+      sym (c .before .before .before .within .ensures) ∙ not-false _ (c .before .before .if1 .left),
+      sym (c .before .within2 .ensures) ∙ not-false _ (c .if2 .left),
+    )
 
 pub pair-ok-spec : {M : Type 1} → statement M
 pair-ok-spec = tie.close (tie.spec within-requires returns within-requires-2 returns-2 returns-3)

@@ -1,4 +1,5 @@
--- `sitefile::pairs_of` meets its contract. The invariant: to read the pairs that are left onto the rows so far makes the answer, and no bit stands at next or above it. Assumes nothing.
+-- `sitefile::pairs_of` meets its contract. The invariant: to read the pairs that are left onto the rows so far makes the answer,
+-- and no bit stands at next or above it. Assumes nothing.
 use borrow.Author.Needs.{needs}
 use Prim.Native.Nat.{ℕ, _+_, _-_, _*_, _/_, _≤_, _<_}
 use mathlib.Core.Path.{_≡_, refl, sym, _∙_}
@@ -9,7 +10,7 @@ use lib.ListN.{length, drop, getD, length-set}
 use borrow.Author.Tests.{not-true, not-false}
 use denote.Ref.{now}
 use Rattle.sitefile.specs.Pairs.{pairOk}
-use Rattle.sitefile.specs.Read.{none}
+use Rattle.sitefile.specs.Read.{allZero}
 use Rattle.sitefile.specs.Loop.{pairsRead}
 use Rattle.sitefile.proofs.PairLaws.{High, high-none, high-mark, pair-ok, PairOk, readPairs, pairs-done, pairs-named, pairs-rise, pairs-step}
 use Rattle.sitefile.proofs.PairReasons.{pairs-way}
@@ -22,7 +23,7 @@ record Inv (body : List ℕ) (cells at n : ℕ) (reach : List ℕ) (next i : ℕ
   bound : next ≤ 1024
   size : length reach ≡ 32
   high : High next reach
-  left : readPairs cells at next reach (drop (2 * i) body) ≡ readPairs cells at 0 none body
+  left : readPairs cells at next reach (drop (2 * i) body) ≡ readPairs cells at 0 allZero body
 
 abbrev Inv-loop : tie.InvT-loop
 Inv-loop body cells at reach₀ next₀ n i₀ reach next i = Inv body cells at n reach next i
@@ -55,7 +56,8 @@ no-rows-requires : tie.Need-no-rows-requires Inv-loop μ-loop
 no-rows-requires c κs = search needs
 
 -- the whole body, read by the loop's way
-whole : (c : tie.Start Inv-loop μ-loop) → readPairs (c .args .cells) (c .args .at) 0 none (now (c .args .body)) ≡ pairsRead (c .args .cells) (c .args .at) (now (c .args .body))
+whole : (c : tie.Start Inv-loop μ-loop)
+    → readPairs (c .args .cells) (c .args .at) 0 allZero (now (c .args .body)) ≡ pairsRead (c .args .cells) (c .args .at) (now (c .args .body))
 whole c = pairs-way (c .args .cells) (c .args .at) (c .pre) (now (c .args .body))
 
 returns : tie.Need-returns Inv-loop μ-loop
@@ -146,14 +148,16 @@ loop-again c =
       high = rw (c .raised .ensures) (high-mark (l .next) (p .place-of .result) (l .reach) (l .inv .size) (c .before .if2 .left) (below p) (l .inv .high));
       left =
           rw (c .raised .ensures, p .place-of .ensures)
-          (pairs-step (At e .before .before .args .cells) (At e .before .before .args .at) (l .next) (l .i) (l .reach) (Body e) (omega arith) (named e) (omega (arith, p .place-of .ensures))
+          (pairs-step (At e .before .before .args .cells) (At e .before .before .args .at) (l .next) (l .i) (l .reach) (Body e) (omega arith) (named e)
+          (omega (arith, p .place-of .ensures))
           ∙ l .inv .left);
     }
 
 returns-3 : tie.Need-returns-3 Inv-loop μ-loop
 returns-3 c =
     let l = c .before .loop in
-    sym (pairs-done _ _ (l .next) (l .i) (l .reach) (now (c .before .before .before .args .body)) (omega arith)) ∙ l .inv .left ∙ whole (c .before .before .before)
+    sym (pairs-done _ _ (l .next) (l .i) (l .reach) (now (c .before .before .before .args .body)) (omega arith)) ∙ l .inv .left
+    ∙ whole (c .before .before .before)
 
 pub pairs-of-spec : {M : Type 1} → statement M
 pairs-of-spec =

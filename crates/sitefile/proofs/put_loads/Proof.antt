@@ -1,4 +1,4 @@
--- `sitefile::put_loads` meets its contract. The invariant: to store the words of the loads that are left makes the answer. Assumes nothing.
+-- `sitefile::put_loads` meets its contract. The invariant: to store the loads that are left makes the answer. Assumes nothing.
 use Prim.Native.Nat.{_+_, _-_, _*_, _≤_}
 use mathlib.Core.Path.{_≡_, refl, sym, _∙_}
 use native.Mathlib.Nat.{add-zero}
@@ -6,7 +6,7 @@ use borrow.Author.Needs.{needs}
 use native.Mathlib.Omega.{arith}
 use lib.ListN.{length, take, drop}
 use lib.Seq.{sets}
-use Rattle.records.specs.Bytes.{words}
+use Rattle.records.specs.Bytes.{twoBytesEach}
 use Rattle.sitefile.proofs.WriteLaws.{put-step, put-end}
 use Rattle.sitefile.proofs.put_loads.Statement.{statement}
 use Rattle.sitefile.proofs.put_loads.Tie as tie
@@ -15,7 +15,7 @@ abbrev Inv-loop : tie.InvT-loop
 Inv-loop out₀ at n loads i₀ out i =
     (i ≤ n)
     × (length out ≡ length out₀)
-    × (sets out (at + 2 * i) (words (drop i (take n loads))) ≡ sets out₀ at (words (take n loads)))
+    × (sets out (at + 2 * i) (twoBytesEach (drop i (take n loads))) ≡ sets out₀ at (twoBytesEach (take n loads)))
 
 abbrev μ-loop : tie.MeasureT-loop
 μ-loop out₀ at n loads i₀ out i = n - i
@@ -23,20 +23,20 @@ abbrev μ-loop : tie.MeasureT-loop
 loop-holds : tie.Need-loop-holds Inv-loop μ-loop
 loop-holds c = (omega arith, refl, rw (add-zero (c .before .args .at)))
 
-mul-put-word : tie.Need-mul-put-word Inv-loop μ-loop
-mul-put-word c = omega arith
+mul-put-two-bytes : tie.Need-mul-put-two-bytes Inv-loop μ-loop
+mul-put-two-bytes c = omega arith
 
-add-put-word : tie.Need-add-put-word Inv-loop μ-loop
-add-put-word c = omega arith
+add-put-two-bytes : tie.Need-add-put-two-bytes Inv-loop μ-loop
+add-put-two-bytes c = omega arith
 
-mul-put-word-2 : tie.Need-mul-put-word-2 Inv-loop μ-loop
-mul-put-word-2 c = omega arith
+mul-put-two-bytes-2 : tie.Need-mul-put-two-bytes-2 Inv-loop μ-loop
+mul-put-two-bytes-2 c = omega arith
 
-array-read-put-word : tie.Need-array-read-put-word Inv-loop μ-loop
-array-read-put-word c = omega arith
+array-read-put-two-bytes : tie.Need-array-read-put-two-bytes Inv-loop μ-loop
+array-read-put-two-bytes c = omega arith
 
-put-word-requires : tie.Need-put-word-requires Inv-loop μ-loop
-put-word-requires c κs = omega arith
+put-two-bytes-requires : tie.Need-put-two-bytes-requires Inv-loop μ-loop
+put-two-bytes-requires c κs = omega arith
 
 add-i : tie.Need-add-i Inv-loop μ-loop
 add-i c = omega arith
@@ -54,8 +54,8 @@ loop-again c =
     let l = k .before .loop in
     let a = k .before .before .before .args in (
       omega arith,
-      p .put-word .kept .0 ∙ l .inv .1,
-      rw (p .put-word .ensures)
+      p .put-two-bytes .kept .0 ∙ l .inv .1,
+      rw (p .put-two-bytes .ensures)
           (put-step (l .out) (a .at) (l .i) (a .n) (a .t3) (k .loop-test .taken) (omega (arith, size (k .before .before .before))) ∙ l .inv .2),
     )
 
@@ -75,11 +75,11 @@ put-loads-spec =
     Inv-loop
     μ-loop
     loop-holds
-    mul-put-word
-    add-put-word
-    mul-put-word-2
-    array-read-put-word
-    put-word-requires
+    mul-put-two-bytes
+    add-put-two-bytes
+    mul-put-two-bytes-2
+    array-read-put-two-bytes
+    put-two-bytes-requires
     add-i
     loop-less
     loop-again

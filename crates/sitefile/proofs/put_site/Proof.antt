@@ -7,8 +7,8 @@ use lib.ListN.{length}
 use denote.Ref.{now}
 use Rattle.records.specs.Head.{headSize}
 use Rattle.sitefile.specs.Write.{siteBytes}
-use Rattle.records.proofs.Write.{laid-done, laid-short}
-use Rattle.sitefile.proofs.WriteLaws.{pair-bytes-most, site-length, site-put, written-done, written-short}
+use Rattle.records.proofs.Write.{written-done, written-short, laid-done, laid-short}
+use Rattle.sitefile.proofs.WriteLaws.{pair-bytes-most, site-length, site-put}
 use Rattle.sitefile.proofs.put_site.Statement.{statement}
 use Rattle.sitefile.proofs.put_site.Tie as tie
 
@@ -26,7 +26,8 @@ few c = rw (c .pairs-len .ensures) (pair-bytes-most _)
 
 need :
     (c : tie.After-pairs-len) →
-    headSize + 4 + 2 * c .before .before .before .before .args .s .cells + 4 + c .pairs-len .result ≡ length (siteBytes (c .before .before .before .before .args .s))
+    headSize + 4 + 2 * c .before .before .before .before .args .s .cells + 4 + c .pairs-len .result
+    ≡ length (siteBytes (c .before .before .before .before .args .s))
 need c =
     let a = c .before .before .before .before in
     rw (c .pairs-len .ensures) (sym (site-length (a .args .s) (a .pre) (size a)))

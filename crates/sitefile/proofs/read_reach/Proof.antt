@@ -39,7 +39,8 @@ returns c =
     ∙ reach-stop _ _ _ _ _ (not-opened _ _ 3 Pairs _ _ (sym (o .open .ensures) ∙ e))
 
 -- what the opener found
-opening : (c : tie.After-known-told) → Opening (now (c .before .before .before .before .before .args .s)) (c .before .before .before .before .before .args .at) 3 Pairs (c .before .o .given .0 .0) (c .before .o .given .0 .1 .0)
+opening : (c : tie.After-known-told) → Opening (now (c .before .before .before .before .before .args .s)) (c .before .before .before .before .before .args .at)
+    3 Pairs (c .before .o .given .0 .0) (c .before .o .given .0 .1 .0)
 opening c = opened _ _ _ _ _ _ (sym (c .before .before .before .open .ensures) ∙ c .before .o .given .1)
 
 found :

@@ -1,4 +1,5 @@
--- `sitefile::read_site` meets its contract: the head, the opener and the last record decide the answer in turn, and the site is what the bodies state. Assumes nothing.
+-- `sitefile::read_site` meets its contract: the head, the opener and the last record decide the answer in turn, and the site is what the bodies state.
+-- Assumes nothing.
 use borrow.Author.Needs.{needs}
 use Prim.Native.Nat.{ℕ, _+_, _*_, _≤_}
 use mathlib.Core.Path.{_≡_, sym, ap, _∙_}
@@ -9,13 +10,13 @@ use denote.Ref.{now}
 use Rattle.site.specs.Record.{siteOf}
 use Rattle.records.specs.Opener.{openAt, openAnswer}
 use Rattle.records.specs.Reasons.{firstReason}
-use Rattle.records.specs.Head.{headSize, cellsIn, headAnswer}
+use Rattle.records.specs.Head.{headSize, cellsOfHead, headAnswer}
 use Rattle.records.specs.declared.Length.the-variants.{Exact}
 use Rattle.records.specs.declared.ReadAnswer.the-variants.{Done}
 use Rattle.records.proofs.Laws.{Opening, opened, opened-done, not-opened, within, exact, body-is, ends}
 use Rattle.records.proofs.Head.{head-read, head-sizes}
 use Rattle.sitefile.specs.Reasons.{loadsAt, reachAt, loadsReasons}
-use Rattle.sitefile.specs.Read.{loadsIn, refusedSite, siteIn}
+use Rattle.sitefile.specs.Read.{loadsOfBody, refusedSite, siteOfFile}
 use Rattle.sitefile.specs.Loop.{reachRead}
 use Rattle.sitefile.proofs.Reasons.{refuse, accept}
 use Rattle.sitefile.proofs.ReadLaws.{head-stop, loads-stop, site-is, rows-are}
@@ -44,22 +45,22 @@ returns c =
 done : (c : tie.After-enum-told) → headAnswer (now (c .before .before .before .before .args .bytes)) ≡ Done
 done c = sym (c .before .before .head-answer .ensures) ∙ c .enum-told .given .1
 
-few : (c : tie.After-word) → c .word .result ≤ 32
-few c = rw (c .word .ensures) (head-sizes _ (done (c .before)) .cells-most)
+few : (c : tie.After-two-bytes) → c .two-bytes .result ≤ 32
+few c = rw (c .two-bytes .ensures) (head-sizes _ (done (c .before)) .cells-most)
 
 -- what the opener found where the loads are due
 loads-open :
     (c : tie.After-open) →
     let s = now (c .before .before .before .before .before .before .args .bytes) in
-    c .open .result ≡ openAt s (loadsAt s) 2 (Exact (2 + 2 * cellsIn s))
+    c .open .result ≡ openAt s (loadsAt s) 2 (Exact (2 + 2 * cellsOfHead s))
 loads-open c =
     let h = c .before .before in
     let s = now (h .before .before .before .before .args .bytes) in
     let at : headSize ≡ loadsAt s = omega (arith, head-read s (done h) .eight) in
-    c .open .ensures ∙ (λ j. openAt s (at j) 2 (Exact (2 + 2 * c .before .word .ensures j)))
+    c .open .ensures ∙ (λ j. openAt s (at j) 2 (Exact (2 + 2 * c .before .two-bytes .ensures j)))
 
-word-requires : tie.Need-word-requires
-word-requires c κs = omega (arith, head-read _ (done c) .long)
+two-bytes-requires : tie.Need-two-bytes-requires
+two-bytes-requires c κs = omega (arith, head-read _ (done c) .long)
 
 mul-t13 : tie.Need-mul-t13
 mul-t13 c = omega (arith, few c)
@@ -95,10 +96,10 @@ module _ (c : tie.After-known-told) where
   abbrev S : List ℕ
   S = now (c .before .before .before .before .before .before .before .before .before .args .bytes)
 
-  opening : Opening S (loadsAt S) 2 (Exact (2 + 2 * cellsIn S)) (c .before .o .given .0 .0) (c .before .o .given .0 .1 .0)
+  opening : Opening S (loadsAt S) 2 (Exact (2 + 2 * cellsOfHead S)) (c .before .o .given .0 .0) (c .before .o .given .0 .1 .0)
   opening = opened _ _ _ _ _ _ (sym (loads-open (c .before .before .before)) ∙ c .before .o .given .1)
 
-  loads-found : firstReason (loadsReasons S (loadsAt S) (cellsIn S)) ≡ Done
+  loads-found : firstReason (loadsReasons S (loadsAt S) (cellsOfHead S)) ≡ Done
   loads-found = opened-done _ _ 2 _ _ _ (sym (loads-open (c .before .before .before)) ∙ c .before .o .given .1)
 
 add-end : tie.Need-add-end
@@ -118,17 +119,17 @@ loads-of-requires c κs =
     let k = c .before in
     let o = opening k in
     let w = k .before .before .before .before in
-    simp length-take (omega (arith, o .size, exact _ _ (o .fits), few w, w .word .ensures))
+    simp length-take (omega (arith, o .size, exact _ _ (o .fits), few w, w .two-bytes .ensures))
 
 read-reach-requires : tie.Need-read-reach-requires
 read-reach-requires c κs = few (c .before .before .before .before .before .before)
 
 -- what the last record gave
-last : (c : tie.After-read-reach) → let s = S (c .before .before .before) in c .read-reach .result ≡ reachRead s (reachAt s) (cellsIn s)
+last : (c : tie.After-read-reach) → let s = S (c .before .before .before) in c .read-reach .result ≡ reachRead s (reachAt s) (cellsOfHead s)
 last c =
     let k = c .before .before .before in
     let w = k .before .before .before .before in
-    c .read-reach .ensures ∙ (λ j. reachRead (S k) (ends _ _ _ _ _ _ (opening k) j) (w .word .ensures j))
+    c .read-reach .ensures ∙ (λ j. reachRead (S k) (ends _ _ _ _ _ _ (opening k) j) (w .two-bytes .ensures j))
 
 enum-told-4 : tie.Need-enum-told-4
 enum-told-4 c = search needs
@@ -151,18 +152,18 @@ returns-3 c =
 zeros-requires : tie.Need-zeros-requires
 zeros-requires c κs = search needs
 
-word-requires-2 : tie.Need-word-requires-2
-word-requires-2 c κs =
+two-bytes-requires-2 : tie.Need-two-bytes-requires-2
+two-bytes-requires-2 c κs =
     let k = c .before .before .before .before .before .before .before in
     omega (arith, head-read _ (done (k .before .before .before .before .before)) .long)
 
-word-requires-3 : tie.Need-word-requires-3
-word-requires-3 c κs =
+two-bytes-requires-3 : tie.Need-two-bytes-requires-3
+two-bytes-requires-3 c κs =
     let k = c .before .before .before .before .before .before .before .before in
     omega (arith, head-read _ (done (k .before .before .before .before .before)) .long)
 
 returns-4 : tie.Need-returns-4
-unfolding siteIn
+unfolding siteOfFile
 returns-4 c =
     let t = c .before .before .before in
     let p = t .before .before .before in
@@ -171,9 +172,10 @@ returns-4 c =
     let w = k .before .before .before .before in
     let h = w .before in
     let e = t .enum-told4 .given .1 in
-    let loads : l .loads-of .result ≡ _ = l .loads-of .ensures ∙ ap loadsIn (body-is _ _ _ _ _ _ (opening k)) in
+    let loads : l .loads-of .result ≡ _ = l .loads-of .ensures ∙ ap loadsOfBody (body-is _ _ _ _ _ _ (opening k)) in
     (λ j. record {
-      site = siteOf (w .word .ensures j) (c .before .word2 .ensures j) (c .word3 .ensures j) (loads j) (rows-are _ (done h) (loads-found k) _ (last p) e j);
+      site = siteOf (w .two-bytes .ensures j) (c .before .two-bytes2 .ensures j) (c .two-bytes3 .ensures j) (loads j)
+          (rows-are _ (done h) (loads-found k) _ (last p) e j);
       answer = e j;
     })
     ∙ accept (S k) (site-is _ (done h) (loads-found k) _ (last p) ∙ e)
@@ -187,7 +189,7 @@ read-site-spec =
     enum-told-2
     refused-requires
     returns
-    word-requires
+    two-bytes-requires
     mul-t13
     add-t14
     open-requires
@@ -207,6 +209,6 @@ read-site-spec =
     refused-requires-3
     returns-3
     zeros-requires
-    word-requires-2
-    word-requires-3
+    two-bytes-requires-2
+    two-bytes-requires-3
     returns-4)

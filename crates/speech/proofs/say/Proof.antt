@@ -1,5 +1,5 @@
--- `speech::say` meets its contract. The invariant: what is left of the text, spoken and stored from here on, gives the whole. It has room, since a sentence is at most ten times as
--- long as its text. Assumes nothing.
+-- `speech::say` meets its contract. The invariant: what is left of the text, spoken and stored from here on, gives the whole.
+-- It has room, since a sentence is at most ten times as long as its text. Assumes nothing.
 use Prim.Native.Nat.{ℕ, _+_, _*_, _-_, _≤_, _<_}
 use mathlib.Core.Bool.{true}
 use lib.Dec.{eqb}
@@ -8,7 +8,7 @@ use mathlib.Core.List.{List, [], _∷_, _++_}
 use native.Mathlib.Omega.{arith}
 use lib.ListN.{length, drop, getD}
 use Rattle.text.proofs.Writing.{Writing, begun, said, room, stored, ended}
-use Rattle.speech.specs.Speech.{markWords, spoken}
+use Rattle.speech.specs.Speech.{markSaid, spoken}
 use Rattle.speech.proofs.Steps.{mark-next, byte-next, mark-means, all-said}
 use Rattle.speech.proofs.Long.{marks-brief, spoken-long}
 use Rattle.speech.proofs.say.Statement.{statement}
@@ -16,18 +16,19 @@ use Rattle.speech.proofs.say.Tie as tie
 
 abbrev Inv-loop : tie.InvT-loop
 Inv-loop out₀ at text a b c d next₀ i₀ out next i =
-    (i ≤ length text) × Writing out₀ at (spoken (markWords a b c d) text) out next (spoken (markWords a b c d) (drop i text))
+    (i ≤ length text) × Writing out₀ at (spoken (markSaid a b c d) text) out next (spoken (markSaid a b c d) (drop i text))
 
 abbrev μ-loop : tie.MeasureT-loop
 μ-loop out₀ at text a b c d next₀ i₀ out next i = length text - i
 
 -- what the marks of the sentence stand for
 abbrev words : tie.Start Inv-loop μ-loop → ℕ → List ℕ
-words s = markWords (s .args .a) (s .args .b) (s .args .c) (s .args .d)
+words s = markSaid (s .args .a) (s .args .b) (s .args .c) (s .args .d)
 
 -- how long it is
 long : (s : tie.Start Inv-loop μ-loop) → length (spoken (words s) (s .args .text .now)) ≤ 10 * length (s .args .text .now)
-long s = spoken-long (words s) (marks-brief (s .args .a) (s .args .b) (s .args .c) (s .args .d) (omega arith) (omega arith) (omega arith) (omega arith)) (s .args .text .now)
+long s = spoken-long (words s) (marks-brief (s .args .a) (s .args .b) (s .args .c) (s .args .d) (omega arith) (omega arith) (omega arith) (omega arith))
+    (s .args .text .now)
 
 -- there is room for it
 fits : (s : tie.Start Inv-loop μ-loop) → s .args .at + length (spoken (words s) (s .args .text .now)) ≤ length (s .args .out .now)
@@ -40,7 +41,8 @@ is-mark-requires : tie.Need-is-mark-requires Inv-loop μ-loop
 is-mark-requires c κs = omega arith
 
 -- at a place mark: what it is
-marked : (c : tie.Then1 Inv-loop μ-loop) → let l = c .before .before .before .loop in let text = c .before .before .before .before .before .before .args .text .now in
+marked : (c : tie.Then1 Inv-loop μ-loop) → let l = c .before .before .before .loop in
+    let text = c .before .before .before .before .before .before .args .text .now in
     (l .i + 1 < length text) × (eqb (getD text (l .i) 0) 64 ≡ true)
 marked c =
     let l = c .before .before .before .loop in

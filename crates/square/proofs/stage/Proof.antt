@@ -123,7 +123,8 @@ returns c =
     let l = c .before .loop in
     let a = c .before .before .args in
     let e : 2 * l .i ≡ 32 = omega arith in
-    l .inv .2 ∙ ap (λ (k : ℕ). sets (a .to .now) 0 (listOf (crossed (a .m) (a .mask) (a .from .now)) k)) e ∙ whole (crossed (a .m) (a .mask) (a .from .now)) 32 (a .to .now) (c .before .before .pre .3)
+    l .inv .2 ∙ ap (λ (k : ℕ). sets (a .to .now) 0 (listOf (crossed (a .m) (a .mask) (a .from .now)) k)) e
+    ∙ whole (crossed (a .m) (a .mask) (a .from .now)) 32 (a .to .now) (c .before .before .pre .3)
 
 pub stage-spec : {M : Type 1} → statement M
 stage-spec =

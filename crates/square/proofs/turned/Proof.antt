@@ -39,7 +39,8 @@ returns c =
     let c₃ = c₄ .before .before .before in
     let c₂ = c₃ .before .before .before in
     let c₁ = c₂ .before .before .before in
-    five-turned _ _ _ _ _ _ _ _ _ _ _ _ _ _ _ _ (c₁ .stage .ensures) (c₂ .stage2 .ensures) (c₃ .stage3 .ensures) (c₄ .stage4 .ensures) (c .stage5 .ensures) refl refl refl refl refl refl
+    five-turned _ _ _ _ _ _ _ _ _ _ _ _ _ _ _ _ (c₁ .stage .ensures) (c₂ .stage2 .ensures) (c₃ .stage3 .ensures) (c₄ .stage4 .ensures) (c .stage5 .ensures) refl
+    refl refl refl refl refl
 
 pub turned-spec : {M : Type 1} → statement M
 turned-spec =

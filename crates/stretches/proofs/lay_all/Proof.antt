@@ -6,33 +6,37 @@ use mathlib.Core.Bool.{Bool}
 use Rattle.laws.specs.Bits.{wordOf}
 use Rattle.laws.proofs.Words.{word-lt}
 use Rattle.theory.specs.Net.{unblocked}
-use Rattle.stretches.specs.Stretches.{netBy, inNeed}
-use Rattle.stretches.proofs.Laid.{Laid, begun, needed, run-most, run-some, more-all, need-all}
+use Rattle.stretches.specs.Stretches.{inNeed}
+use Rattle.stretches.proofs.Laid.{Laid, begun, needed, run-most, run-some, run-under, more-all}
 use borrow.Author.Needs.{needs}
 use Rattle.stretches.proofs.lay_all.Statement.{statement}
 use Rattle.stretches.proofs.lay_all.Tie as tie
+use Rattle.site.specs.Reach.{netBy}
 
 abbrev Inv-loop : tie.InvT-loop
 Inv-loop words₀ left₀ clash cells n need₀ k₀ words left need k =
-    Laid (netBy unblocked clash left₀ cells n) words₀ left₀ k words left × (need ≡ wordOf (inNeed left) cells)
+    Laid (netBy cells n left₀ clash unblocked) words₀ left₀ k words left × (need ≡ wordOf (inNeed left) cells)
 
 abbrev μ-loop : tie.MeasureT-loop
 μ-loop words₀ left₀ clash cells n need₀ k₀ words left need k = n - k
 
 -- a stretch is not empty, and ends where the positions do
-most : (c : tie.After-stretch-of Inv-loop μ-loop) → c .before .before .before .loop .k + c .stretch-of .result .run ≤ c .before .before .before .before .before .before .before .before .args .n
+most : (c : tie.After-stretch-of Inv-loop μ-loop) → c .before .before .before .loop .k + c .stretch-of .result .run
+    ≤ c .before .before .before .before .before .before .before .before .args .n
 most c =
     let l = c .before .before .before .loop in
     let a = c .before .before .before .before .before .before .before .before .args in
-    run-most unblocked (a .clash .now) (a .words .now) (a .left .now) (a .cells) (a .n) (l .k) (l .words) (l .left) (l .inv .0) (omega arith) (l .need) (l .inv .1)
-    (c .before .before .loop-test .taken) (c .stretch-of .result .word) (c .stretch-of .result .run) (c .stretch-of .ensures .0) (c .stretch-of .ensures .1 .0)
+    run-most unblocked (a .clash .now) (a .words .now) (a .left .now) (a .cells) (a .n) (l .k) (l .words) (l .left) (l .inv .0) (omega arith)
+    (l .need) (l .inv .1)
+    (c .before .before .loop-test .taken) (c .stretch-of .result .word) (c .stretch-of .result .run) (c .stretch-of .ensures .0) (c .stretch-of .ensures .1)
 
 some : (c : tie.After-stretch-of Inv-loop μ-loop) → 0 < c .stretch-of .result .run
 some c =
     let l = c .before .before .before .loop in
     let a = c .before .before .before .before .before .before .before .before .args in
-    run-some unblocked (a .clash .now) (a .words .now) (a .left .now) (a .cells) (a .n) (l .k) (l .words) (l .left) (l .inv .0) (omega arith) (l .need) (l .inv .1)
-    (c .before .before .loop-test .taken) (c .stretch-of .result .word) (c .stretch-of .result .run) (c .stretch-of .ensures .0) (c .stretch-of .ensures .1 .0)
+    run-some unblocked (a .clash .now) (a .words .now) (a .left .now) (a .cells) (a .n) (l .k) (l .words) (l .left) (l .inv .0) (omega arith)
+    (l .need) (l .inv .1)
+    (c .before .before .loop-test .taken) (c .stretch-of .result .word) (c .stretch-of .result .run) (c .stretch-of .ensures .0) (c .stretch-of .ensures .1)
 
 word-small : (p : ℕ → Bool) (x n : ℕ) → x ≡ wordOf p n → x < 2 ^ n
 word-small p x n e = omega (arith, word-lt p n)
@@ -59,29 +63,36 @@ lay-requires c κs = omega (arith, most (c .before), c .before .before .before .
 subtract-requires : tie.Need-subtract-requires Inv-loop μ-loop
 subtract-requires c κs =
     let r = c .before .before .before .before .before in
-    (omega arith, omega (arith, c .before .before .before .before .before .before .before .before .loop .inv .0 .as-many), word-small _ (r .stretch-of .result .word) _ (r .stretch-of .ensures .0))
-
-apart-requires : tie.Need-apart-requires Inv-loop μ-loop
-apart-requires c κs = search needs
+    let l = r .before .before .before .loop in
+    let start = r .before .before .before .before .before .before .before .before in
+    let a = start .args in
+    let S = r .stretch-of in (
+      (omega arith, omega (arith, l .inv .0 .as-many), word-small _ (S .result .word) _ (S .ensures .0)),
+      (
+        l .inv .1,
+        run-under (a .clash .now) (a .words .now) (a .left .now) (a .cells) (a .n) (l .k) (l .words) (l .left) (l .inv .0) (start .pre .1) (l .need) (l .inv .1)
+            (r .before .before .loop-test .taken) (S .result .word) (S .result .run) (S .ensures .0) (S .ensures .1),
+      ),
+    )
 
 add-k : tie.Need-add-k Inv-loop μ-loop
-add-k c = omega (arith, most (c .before .before .before .before .before .before .before .before .before))
+add-k c = omega (arith, most (c .before .before .before .before .before .before .before .before))
 
 loop-less : tie.Need-loop-less Inv-loop μ-loop
-loop-less c = let r = c .before .before .before .before .before .before .before .before .before in omega (arith, most r, some r)
+loop-less c = let r = c .before .before .before .before .before .before .before .before in omega (arith, most r, some r)
 
 loop-again : tie.Need-loop-again Inv-loop μ-loop
 loop-again c =
-    let r = c .before .before .before .before .before .before .before .before .before in
-    let l = c .before .before .before .before .before .before .before .before .before .before .before .before .loop in
-    let a = c .before .before .before .before .before .before .before .before .before .before .before .before .before .before .before .before .before .args in
-    let S = r .stretch-of in (
-      more-all (a .clash .now) (a .words .now) (a .left .now) (a .cells) (a .n) (l .k) (l .words) (l .left) (l .inv .0) (omega arith) (l .need) (l .inv .1)
-          (r .before .before .loop-test .taken) (S .result .word) (S .result .run) (S .ensures .0) (S .ensures .1 .0)
-          _ _ (c .before .before .before .before .before .before .before .lay .ensures) (c .before .before .before .subtract .ensures),
-      need-all (a .clash .now) (a .words .now) (a .left .now) (a .cells) (a .n) (l .k) (l .words) (l .left) (l .inv .0) (omega arith) (l .need) (l .inv .1)
-          (r .before .before .loop-test .taken) (S .result .word) (S .result .run) (S .ensures .0) (S .ensures .1 .0)
-          (S .result .ended) (c .apart .result) _ (omega arith) (S .ensures .1 .1) (c .before .before .before .subtract .ensures) (c .apart .ensures .0) (c .apart .ensures .1),
+    let r = c .before .before .before .before .before .before .before .before in
+    let l = r .before .before .before .loop in
+    let start = r .before .before .before .before .before .before .before .before in
+    let a = start .args in
+    let S = r .stretch-of in
+    let T = c .before .before .subtract in (
+      more-all (a .clash .now) (a .words .now) (a .left .now) (a .cells) (a .n) (l .k) (l .words) (l .left) (l .inv .0) (start .pre .1) (l .need) (l .inv .1)
+          (r .before .before .loop-test .taken) (S .result .word) (S .result .run) (S .ensures .0) (S .ensures .1)
+          _ _ (c .before .before .before .before .before .before .lay .ensures) (T .ensures .0),
+      T .ensures .1,
     )
 
 same-length : tie.Need-same-length Inv-loop μ-loop
@@ -95,7 +106,8 @@ returns c =
     let l = c .before .loop in
     let a = c .before .before .before .before .before .before .args in
     let e : l .k ≡ a .n = omega (arith, l .inv .0 .within) in
-    let need = needed unblocked (a .clash .now) (a .words .now) (a .left .now) (a .cells) (a .n) (l .k) (l .words) (l .left) (l .inv .0) (omega arith) (l .need) (l .inv .1) in
+    let need = needed unblocked (a .clash .now) (a .words .now) (a .left .now) (a .cells) (a .n) (l .k) (l .words) (l .left) (l .inv .0) (omega arith) (l .need)
+    (l .inv .1) in
     (rw e at need, (rw e at (l .inv .0 .lain), rw e at (l .inv .0 .kept)))
 
 pub lay-all-spec : {M : Type 1} → statement M
@@ -110,7 +122,6 @@ lay-all-spec =
     stretch-of-requires
     lay-requires
     subtract-requires
-    apart-requires
     add-k
     loop-less
     loop-again

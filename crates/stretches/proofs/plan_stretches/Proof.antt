@@ -40,12 +40,19 @@ returns c =
     let a = c .before .before .before .before .before .before .before .before .before .before .before .before .before .before .before .args in
     let S = c .before .before .before .before .before .before .before .before .before .before .before .lay-all in
     let L = c .before .before .before .before .before .before .before .lowest in
-    let fits : a .cells ≤ length (a .loads) = omega (arith, slice-aggregate-lay-all (c .before .before .before .before .before .before .before .before .before .before .before .before)) in
+    let fits : a .cells ≤ length (a .loads) = omega (
+      arith,
+      slice-aggregate-lay-all (c .before .before .before .before .before .before .before .before .before .before .before .before),
+    ) in
     let room : a .n ≤ length (a .words .now) = omega arith in (
-      refused unblocked (a .clash .now) (a .loads) (a .cells) (a .n) fits (a .words .now) (S .last .0) (S .last .1 .0) room (S .ensures .1 .0) (S .ensures .1 .1)
-          (S .result) (S .ensures .0) (L .result) (L .ensures) (c .before .before .before .before .before .before .if1 .taken) (c .left-of .result) (c .left-of .ensures),
-      cleared unblocked (a .clash .now) (a .loads) (a .cells) (a .n) fits (a .words .now) (S .last .0) (S .last .1 .0) room (S .ensures .1 .0) (S .ensures .1 .1)
-          (S .result) (S .ensures .0) (L .result) (L .ensures) (c .before .before .before .before .before .before .if1 .taken) (c .before .before .before .before .lay .last .0) (c .before .before .before .before .lay .ensures),
+      refused unblocked (a .clash .now) (a .loads) (a .cells) (a .n) fits (a .words .now) (S .last .0) (S .last .1 .0) room (S .ensures .1 .0)
+          (S .ensures .1 .1)
+          (S .result) (S .ensures .0) (L .result) (L .ensures) (c .before .before .before .before .before .before .if1 .taken) (c .left-of .result)
+          (c .left-of .ensures),
+      cleared unblocked (a .clash .now) (a .loads) (a .cells) (a .n) fits (a .words .now) (S .last .0) (S .last .1 .0) room (S .ensures .1 .0)
+          (S .ensures .1 .1)
+          (S .result) (S .ensures .0) (L .result) (L .ensures) (c .before .before .before .before .before .before .if1 .taken)
+          (c .before .before .before .before .lay .last .0) (c .before .before .before .before .lay .ensures),
     )
 
 same-length-2 : tie.Need-same-length-2
@@ -60,7 +67,8 @@ returns-2 c =
     let room : a .n ≤ length (a .words .now) = omega arith in (
       stood unblocked (a .clash .now) (a .loads) (a .cells) (a .n) fits (a .words .now) (S .last .0) (S .last .1 .0) room (S .ensures .1 .0) (S .ensures .1 .1)
           (S .result) (S .ensures .0) (L .result) (L .ensures) (c .if1 .left),
-      laid-down unblocked (a .clash .now) (a .loads) (a .cells) (a .n) fits (a .words .now) (S .last .0) (S .last .1 .0) room (S .ensures .1 .0) (S .ensures .1 .1)
+      laid-down unblocked (a .clash .now) (a .loads) (a .cells) (a .n) fits (a .words .now) (S .last .0) (S .last .1 .0) room (S .ensures .1 .0)
+          (S .ensures .1 .1)
           (S .result) (S .ensures .0) (L .result) (L .ensures) (c .if1 .left),
     )
 

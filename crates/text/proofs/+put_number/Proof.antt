@@ -1,5 +1,5 @@
--- `text::put_number` meets its contract. The measure is the number itself. A number below a hundred is one digit or two; any other is the digits of its hundredth
--- part and two more. Assumes nothing.
+-- `text::put_number` meets its contract. The measure is the number itself. A number below a hundred is one digit or two;
+-- any other is the digits of its hundredth part and two more. Assumes nothing.
 use borrow.Author.Needs.{needs}
 use native.Mathlib.Omega.{arith}
 use native.Mathlib.Numerals.{add-one}

@@ -54,8 +54,10 @@ same-length-2 : tie.Need-same-length-2
 same-length-2 c = search needs
 
 returns-2 : tie.Need-returns-2
-returns-2 c =
-    (rw (decimal-two (c .before .args .x) (omega arith) (c .before .pre .0), add-one (c .before .args .at)), rw (two-long (c .before .args .x) (omega arith) (c .before .pre .0)))
+returns-2 c = (
+  rw (decimal-two (c .before .args .x) (omega arith) (c .before .pre .0), add-one (c .before .args .at)),
+  rw (two-long (c .before .args .x) (omega arith) (c .before .pre .0)),
+)
 
 pub put-few-spec : {M : Type 1} → statement M
 put-few-spec =

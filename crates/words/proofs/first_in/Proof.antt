@@ -26,7 +26,8 @@ returns : tie.Need-returns Inv-loop μ-loop
 returns c =
     let at = c .before .before .before in
     let a = at .before .args in
-    found (clashesIn (a .word) (a .clash .now) (a .cells)) (at .loop .a) (a .cells) (at .loop .inv) (omega arith) (sym (c .before .clashes-in .ensures) ∙ c .if1 .taken)
+    found (clashesIn (a .word) (a .clash .now) (a .cells)) (at .loop .a) (a .cells) (at .loop .inv) (omega arith)
+    (sym (c .before .clashes-in .ensures) ∙ c .if1 .taken)
 
 add-a : tie.Need-add-a Inv-loop μ-loop
 add-a c = search needs
@@ -38,7 +39,8 @@ loop-again : tie.Need-loop-again Inv-loop μ-loop
 loop-again c =
     let at = c .before .before .before in
     let a = at .before .args in
-    missed (clashesIn (a .word) (a .clash .now) (a .cells)) (at .loop .a) (a .cells) (at .loop .inv) (omega arith) (sym (c .before .clashes-in .ensures) ∙ c .if1 .left)
+    missed (clashesIn (a .word) (a .clash .now) (a .cells)) (at .loop .a) (a .cells) (at .loop .inv) (omega arith)
+    (sym (c .before .clashes-in .ensures) ∙ c .if1 .left)
 
 returns-2 : tie.Need-returns-2 Inv-loop μ-loop
 returns-2 c =

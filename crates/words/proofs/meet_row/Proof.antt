@@ -12,7 +12,7 @@ use Rattle.laws.specs.Choice.{pick}
 use Rattle.laws.specs.Part.{listOf}
 use Rattle.laws.proofs.Stores.{sets-none, sets-more, sets-beyond}
 use Rattle.theory.specs.Greedy.{sends}
-use Rattle.words.specs.Words.{joinedAt, markedAt}
+use Rattle.words.specs.Words.{joinedAt, markedAt, joinedRow, markedRow}
 use borrow.Author.Needs.{needs}
 use Rattle.words.proofs.meet_row.Statement.{statement}
 use Rattle.words.proofs.meet_row.Tie as tie
@@ -22,8 +22,8 @@ Inv-loop words₀ marks₀ table from n bit row p₀ words marks p =
     (p ≤ n)
     × (length words ≡ length words₀)
     × (length marks ≡ length marks₀)
-    × (words ≡ sets words₀ 0 (listOf (joinedAt words₀ table from bit) p))
-    × (marks ≡ sets marks₀ 0 (listOf (markedAt marks₀ words₀ table from row) p))
+    × (words ≡ joinedRow words₀ table from p bit)
+    × (marks ≡ markedRow marks₀ words₀ table from p row)
 
 abbrev μ-loop : tie.MeasureT-loop
 μ-loop words₀ marks₀ table from n bit row p₀ words marks p = n - p

@@ -58,7 +58,8 @@ loop-again c =
     let a = c .before .before .before .before .before .args in
     let t = reserved (a .n) (a .table .now) (l .i) (a .p) in (
       omega arith,
-      ap₂ bitOr (l .inv .1) (c .weight .ensures ∙ ap (λ x. pick t x 0) (one-shl (l .i) (omega arith))) ∙ word-more (λ i. reserved (a .n) (a .table .now) i (a .p)) (l .i),
+      ap₂ bitOr (l .inv .1) (c .weight .ensures ∙ ap (λ x. pick t x 0) (one-shl (l .i) (omega arith)))
+          ∙ word-more (λ i. reserved (a .n) (a .table .now) i (a .p)) (l .i),
     )
 
 returns : tie.Need-returns Inv-loop μ-loop

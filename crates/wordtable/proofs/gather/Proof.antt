@@ -23,7 +23,8 @@ lay-requires : tie.Need-lay-requires Inv-loop μ-loop
 lay-requires c κs = search needs
 
 -- clearing keeps the length
-cleared-long : (c : tie.After-slice-known2 Inv-loop μ-loop) → length (c .before .before .lay .last .0) ≡ length (c .before .before .before .before .before .before .args .words .now)
+cleared-long : (c : tie.After-slice-known2 Inv-loop μ-loop) → length (c .before .before .lay .last .0)
+    ≡ length (c .before .before .before .before .before .before .args .words .now)
 cleared-long c = sets-long _ _ _ (c .before .before .lay .last .0) (c .before .before .lay .ensures)
 
 loop-holds : tie.Need-loop-holds Inv-loop μ-loop
@@ -33,7 +34,11 @@ loop-holds c =
     (omega arith, refl, none-gathered (a .args .n) (a .args .table .now) (l .last .0) (a .args .words .now) (a .pre .1) (l .ensures))
 
 mul-add-row : tie.Need-mul-add-row Inv-loop μ-loop
-mul-add-row c = omega (arith, row-before (c .before .before .before .before .before .before .before .before .before .args .n) (c .before .loop-test .taken), c .before .before .before .before .before .before .before .before .before .pre .2)
+mul-add-row c = omega (
+  arith,
+  row-before (c .before .before .before .before .before .before .before .before .before .args .n) (c .before .loop-test .taken),
+  c .before .before .before .before .before .before .before .before .before .pre .2,
+)
 
 cast-add-row : tie.Need-cast-add-row Inv-loop μ-loop
 cast-add-row c = search needs
@@ -44,8 +49,10 @@ shl-add-row c = search needs
 add-row-requires : tie.Need-add-row-requires Inv-loop μ-loop
 add-row-requires c κs =
     let a = c .before .before .before .before .before .before .before .before .before in
-    let l = c .before .before .before .before .before .lay in
-    (omega (arith, cleared-long (c .before .before .before), c .before .before .loop .inv .1, a .pre .1), omega (arith, row-before (a .args .n) (c .before .loop-test .taken), a .pre .2))
+    let l = c .before .before .before .before .before .lay in (
+      omega (arith, cleared-long (c .before .before .before), c .before .before .loop .inv .1, a .pre .1),
+      omega (arith, row-before (a .args .n) (c .before .loop-test .taken), a .pre .2),
+    )
 
 add-i : tie.Need-add-i Inv-loop μ-loop
 add-i c = search needs
@@ -61,7 +68,9 @@ loop-again c =
     let r = c .before .before .add-row in (
       omega arith,
       sets-long _ (a .args .n) (l .words) (r .last .0) (r .ensures) ∙ l .inv .1,
-      one-gathered (a .args .n) (a .args .table .now) w (l .i) _ (l .words) (r .last .0) (omega (arith, cleared-long (c .before .before .before .before .before .before), a .pre .1)) (one-shl (l .i) (omega (arith, c .before .before .before .before .loop-test .taken, a .pre .0))) (l .inv .2) (r .ensures),
+      one-gathered (a .args .n) (a .args .table .now) w (l .i) _ (l .words) (r .last .0)
+          (omega (arith, cleared-long (c .before .before .before .before .before .before), a .pre .1))
+          (one-shl (l .i) (omega (arith, c .before .before .before .before .loop-test .taken, a .pre .0))) (l .inv .2) (r .ensures),
     )
 
 same-length : tie.Need-same-length Inv-loop μ-loop
@@ -73,7 +82,8 @@ returns c =
     let l = c .before .loop in
     let y = c .before .before .before .before .lay in
     let all : l .i ≡ a .args .cells = omega (arith, c .loop-test .left, l .inv .0) in
-    sets-last (wordAt (a .args .cells) (reserved (a .args .n) (a .args .table .now))) (a .args .n) (a .args .words .now) (y .last .0) (l .words) (a .pre .1) (y .ensures) (rw all at (l .inv .2))
+    sets-last (wordAt (a .args .cells) (reserved (a .args .n) (a .args .table .now))) (a .args .n) (a .args .words .now) (y .last .0) (l .words) (a .pre .1)
+    (y .ensures) (rw all at (l .inv .2))
 
 pub gather-spec : {M : Type 1} → statement M
 gather-spec =

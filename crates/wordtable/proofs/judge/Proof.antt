@@ -27,7 +27,8 @@ inside : (c : tie.After-first-in) → c .first-in .result < c .before .before .b
 inside c =
     let k = c .before .before .before in
     let a = k .before .before .before in
-    first-inside (a .args .cells) (a .args .n) (a .args .loads) (a .args .clash .now) (a .args .words .now) (k .walk .ensures .0) (c .before .before .if1 .taken) (c .first-in .ensures)
+    first-inside (a .args .cells) (a .args .n) (a .args .loads) (a .args .clash .now) (a .args .words .now) (k .walk .ensures .0)
+    (c .before .before .if1 .taken) (c .first-in .ensures)
 
 second-in-requires : tie.Need-second-in-requires
 second-in-requires c κs = (c .before .before .before .before .before .before .pre .0, inside c)
@@ -38,13 +39,20 @@ add-t14 c = omega (arith, inside (c .before), c .before .before .before .before 
 add-t17 : tie.Need-add-t17
 add-t17 c =
     let a = c .before .before .before .before .before .before .before in
-    omega (arith, c .second-in .ensures, second-most (a .args .cells) (a .args .n) (a .args .loads) (a .args .clash .now) (a .args .words .now) (getD (a .args .words .now) (c .before .before .before .before .walk .result) 0) (c .before .first-in .result) (inside (c .before)), a .pre .0)
+    omega (
+      arith,
+      c .second-in .ensures,
+      second-most (a .args .cells) (a .args .n) (a .args .loads) (a .args .clash .now) (a .args .words .now)
+          (getD (a .args .words .now) (c .before .before .before .before .walk .result) 0) (c .before .first-in .result) (inside (c .before)),
+      a .pre .0,
+    )
 
 returns : tie.Need-returns
 returns c =
     let k = c .before .before .before .before in
     let a = k .before .before .before in
-    is-clash (a .args .cells) (a .args .n) (a .args .loads) (a .args .clash .now) (a .args .words .now) (k .walk .ensures .0) (c .before .before .before .if1 .taken) (c .before .first-in .ensures) (c .second-in .ensures)
+    is-clash (a .args .cells) (a .args .n) (a .args .loads) (a .args .clash .now) (a .args .words .now) (k .walk .ensures .0)
+    (c .before .before .before .if1 .taken) (c .before .first-in .ensures) (c .second-in .ensures)
 
 lowest-wrong-requires : tie.Need-lowest-wrong-requires
 lowest-wrong-requires c κs = search needs
@@ -63,21 +71,28 @@ cast-t24 c =
     let k = c .before .before .before .before in
     let a = k .before .before .before in
     let i = c .before .lowest-wrong .result in
-    omega (arith, k .walk .ensures .1 (c .before .before .before .if1 .left) .1 i (c .if2 .taken), count-most (sendsAt (a .args .words .now) i) (a .args .n), a .pre .1)
+    omega (
+      arith,
+      k .walk .ensures .1 (c .before .before .before .if1 .left) .1 i (c .if2 .taken),
+      count-most (sendsAt (a .args .words .now) i) (a .args .n),
+      a .pre .1,
+    )
 
 returns-2 : tie.Need-returns-2
 returns-2 c =
     let k = c .before .before .before .before in
     let a = k .before .before .before in
     let none = c .before .before .before .if1 .left in
-    is-count (a .args .cells) (a .args .n) (a .args .loads) (a .args .clash .now) (a .args .words .now) (k .walk .ensures .0) none (k .walk .last .0) (k .walk .ensures .1 none) (c .before .lowest-wrong .ensures) (c .if2 .taken)
+    is-count (a .args .cells) (a .args .n) (a .args .loads) (a .args .clash .now) (a .args .words .now) (k .walk .ensures .0) none (k .walk .last .0)
+    (k .walk .ensures .1 none) (c .before .lowest-wrong .ensures) (c .if2 .taken)
 
 returns-3 : tie.Need-returns-3
 returns-3 c =
     let k = c .before .before .before .before in
     let a = k .before .before .before in
     let none = c .before .before .before .if1 .left in
-    is-valid (a .args .cells) (a .args .n) (a .args .loads) (a .args .clash .now) (a .args .words .now) (k .walk .ensures .0) none (k .walk .last .0) (k .walk .ensures .1 none) (c .before .lowest-wrong .ensures) (c .if2 .left)
+    is-valid (a .args .cells) (a .args .n) (a .args .loads) (a .args .clash .now) (a .args .words .now) (k .walk .ensures .0) none (k .walk .last .0)
+    (k .walk .ensures .1 none) (c .before .lowest-wrong .ensures) (c .if2 .left)
 
 pub judge-spec : {M : Type 1} → statement M
 judge-spec =

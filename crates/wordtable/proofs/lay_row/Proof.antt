@@ -59,7 +59,8 @@ returns c =
     let l = c .before .loop in
     let all : l .k ≡ length (a .row .now) = omega (arith, c .loop-test .left, l .inv .0, l .inv .1) in
     let f : ℕ → ℕ = λ k. bit (sendsAt (a .words .now) (a .i) k) in
-    l .inv .3 ∙ ap (λ (m : ℕ). sets (a .row .now) 0 (listOf f m)) all ∙ sets-all (listOf f (length (a .row .now))) (a .row .now) (length-list f (length (a .row .now)))
+    l .inv .3 ∙ ap (λ (m : ℕ). sets (a .row .now) 0 (listOf f m)) all ∙ sets-all (listOf f (length (a .row .now))) (a .row .now)
+    (length-list f (length (a .row .now)))
 
 pub lay-row-spec : {M : Type 1} → statement M
 lay-row-spec =

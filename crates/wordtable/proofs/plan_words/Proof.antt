@@ -57,20 +57,17 @@ plan-stretches-requires c κs =
     let z = sizes (e .before .before .before .before) in
     (z .cells-most, e .if1 .left)
 
-answer-of-requires : tie.Need-answer-of-requires
-answer-of-requires c κs = search needs
-
 same-length : tie.Need-same-length
 same-length c = search needs
 
 returns-3 : tie.Need-returns-3
 returns-3 c =
-    let e = c .before .before .before .before .before .before .before .before in
+    let e = c .before .before .before .before .before .before .before in
     let a = e .before .before .before .before .before .before .before .before .args in
-    let P = c .before .before .before .plan-stretches in
+    let P = c .before .before .plan-stretches in
     let ok = fine (e .before .before .before .before) in
-    let rows = c .before .before .before .before .before .before .before .clash-rows in (
-      is-answer (a .site) (a .words .now) ok (e .if1 .left) (rows .result) (rows .ensures .1 ok) (P .result) (c .answer-of .result) (P .ensures .0) (c .answer-of .ensures),
+    let rows = c .before .before .before .before .before .before .clash-rows in (
+      is-answer (a .site) (a .words .now) ok (e .if1 .left) (rows .result) (rows .ensures .1 ok) (P .result) (P .ensures .0),
       are-words (a .site) (a .words .now) ok (e .if1 .left) (rows .result) (rows .ensures .1 ok) (P .last .0) (P .ensures .1),
     )
 
@@ -88,6 +85,5 @@ plan-words-spec =
     returns-2
     clash-rows-requires
     plan-stretches-requires
-    answer-of-requires
     same-length
     returns-3)

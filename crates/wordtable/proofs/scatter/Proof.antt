@@ -28,7 +28,8 @@ module _ (c : tie.In-loop Inv-loop μ-loop) where
 
   long : length (c .before .loop .table) ≡ length (start .args .table .now)
   long =
-      scattered-long (start .args .n) (sendsAt (start .args .words .now)) (start .args .table .now) (c .before .loop .i) (c .before .loop .table) (omega (arith, inside)) (c .before .loop .inv .1)
+      scattered-long (start .args .n) (sendsAt (start .args .words .now)) (start .args .table .now) (c .before .loop .i) (c .before .loop .table)
+      (omega (arith, inside)) (c .before .loop .inv .1)
 
   lent : c .before .loop .i * start .args .n + start .args .n ≤ length (c .before .loop .table)
   lent = omega (arith, inside, long)
@@ -73,7 +74,8 @@ loop-again c =
     let f : ℕ → ℕ = λ k. bit (sendsAt (a .args .words .now) (l .i) k) in (
       omega arith,
       one-scattered (a .args .n) (sendsAt (a .args .words .now)) (a .args .table .now) (l .i) (l .table) (c .before .before .lay-row .last .0) (l .inv .1)
-          (c .before .before .lay-row .ensures ∙ ap (listOf f) (lent-long (a .args .n) (sendsAt (a .args .words .now)) (a .args .table .now) (l .i) (l .table) (lent e))),
+          (c .before .before .lay-row .ensures ∙ ap (listOf f) (lent-long (a .args .n) (sendsAt (a .args .words .now)) (a .args .table .now) (l .i)
+          (l .table) (lent e))),
     )
 
 same-length : tie.Need-same-length Inv-loop μ-loop

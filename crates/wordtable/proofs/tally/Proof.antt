@@ -1,5 +1,5 @@
--- `wordtable::tally` meets its contract: before each turn the cells of the word below some k are looked at, and the rest are left (proofs/Counts.antt). What is left gets
--- smaller with each. Assumes nothing.
+-- `wordtable::tally` meets its contract: before each turn the cells of the word below some k are looked at, and the rest are left (proofs/Counts.antt).
+-- What is left gets smaller with each. Assumes nothing.
 use mathlib.Core.Path.{_≡_, refl, ap}
 use Prim.Native.Nat.{ℕ, _+_, _<_}
 use native.Mathlib.Omega.{arith}
@@ -31,7 +31,8 @@ inside : (c : tie.In-loop Inv-loop μ-loop) → trailingZeros 32 (c .before .loo
 inside c =
     let a = c .before .before .before in
     let l = c .before .loop in
-    at-inside (a .args .cells) (a .args .word) (a .args .times) (a .args .clash .now) (a .args .counts .now) (l .inv .0) (l .counts) (l .met) (l .left) (l .inv .1)
+    at-inside (a .args .cells) (a .args .word) (a .args .times) (a .args .clash .now) (a .args .counts .now) (l .inv .0) (l .counts) (l .met)
+    (l .left) (l .inv .1)
     (λ e. omega (arith, c .loop-test .taken)) (a .pre .0)
 
 sub-left : tie.Need-sub-left Inv-loop μ-loop
@@ -49,7 +50,8 @@ add-counts c =
     let l = c .before .before .loop in
     omega (
       arith,
-      not-yet (a .args .cells) (a .args .word) (a .args .times) (a .args .clash .now) (a .args .counts .now) (l .inv .0) (l .counts) (l .met) (l .left) (l .inv .1)
+      not-yet (a .args .cells) (a .args .word) (a .args .times) (a .args .clash .now) (a .args .counts .now) (l .inv .0) (l .counts) (l .met)
+          (l .left) (l .inv .1)
           (λ e. omega (arith, c .before .loop-test .taken)) (a .pre .0),
       a .pre .1 .1 (trailingZeros 32 (l .left)) (inside (c .before)),
     )
@@ -70,7 +72,8 @@ loop-less : tie.Need-loop-less Inv-loop μ-loop
 loop-less c =
     let a = c .before .before .before .before .before in
     let l = c .before .before .before .loop in
-    onward-less (a .args .cells) (a .args .word) (a .args .times) (a .args .clash .now) (a .args .counts .now) (l .inv .0) (l .counts) (l .met) (l .left) (l .inv .1)
+    onward-less (a .args .cells) (a .args .word) (a .args .times) (a .args .clash .now) (a .args .counts .now) (l .inv .0) (l .counts) (l .met)
+    (l .left) (l .inv .1)
     (λ e. omega (arith, c .before .before .loop-test .taken)) (a .pre .0)
 
 loop-again : tie.Need-loop-again Inv-loop μ-loop
@@ -78,7 +81,8 @@ loop-again c =
     let a = c .before .before .before .before .before in
     let l = c .before .before .before .loop in (
       trailingZeros 32 (l .left) + 1,
-      one-tallied (a .args .cells) (a .args .word) (a .args .times) (a .args .clash .now) (a .args .counts .now) (l .inv .0) (l .counts) (l .met) (l .left) (l .inv .1)
+      one-tallied (a .args .cells) (a .args .word) (a .args .times) (a .args .clash .now) (a .args .counts .now) (l .inv .0) (l .counts) (l .met)
+          (l .left) (l .inv .1)
           (λ e. omega (arith, c .before .before .loop-test .taken)) (a .pre .0) _ refl (a .pre .1 .0),
     )
 

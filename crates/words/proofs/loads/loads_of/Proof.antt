@@ -1,4 +1,5 @@
--- `words::loads::loads_of` meets its contract: when the loop stands at cell j of the word, the loads of the cells below j are summed, since those passed over add nothing.
+-- `words::loads::loads_of` meets its contract: when the loop stands at cell j of the word, the loads of the cells below j are summed,
+-- since those passed over add nothing.
 -- Assumes nothing.
 use Prim.Native.Nat.{ℕ, _+_, _-_, _*_, _≤_, _<_}
 use mathlib.Core.Bool.{true}

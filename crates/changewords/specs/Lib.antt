@@ -1,3 +1,0 @@
--- The definitions of crate `changewords`, module by module.
-pub mod Lines
-pub mod Words

@@ -1,0 +1,23 @@
+-- For any arguments one answer and one content of what is lent meet the contract, and no other, in crate `say_why`: by its equalities alone.
+-- Made by tools/surface from the source. Assumes nothing.
+use mathlib.Core.Path.{_≡_, refl}
+use mathlib.Core.List.{List}
+use Prim.Native.Nat.{_+_, ℕ}
+use Rattle.contracts.specs.SayWhySays.{SayWhyPutWhy}
+use Rattle.planner.specs.Plan.{planTable}
+use Rattle.say_why.specs.Said.{whySaid}
+use Rattle.site.specs.declared.Site.{Site}
+use lib.ListN.{length}
+use lib.Seq.{sets}
+
+-- say_why::put_why
+pub sayWhyPutWhy-one : (site : Site) (table : List ℕ) (out : List ℕ)
+    → (r : ℕ) × (table′ : List ℕ) × (out′ : List ℕ) × (SayWhyPutWhy site table out r table′ out′)
+    × ((q : ℕ) (table″ : List ℕ) (out″ : List ℕ) → SayWhyPutWhy site table out q table″ out″ → (q ≡ r) × (table″ ≡ table′) × (out″ ≡ out′))
+sayWhyPutWhy-one site table out = (
+  0 + length (whySaid site table),
+  planTable site table,
+  sets out 0 (whySaid site table),
+  record { answer = refl; table-after = refl; out-after = refl },
+  λ q table″ out″ says. (says .answer, says .table-after, says .out-after),
+)

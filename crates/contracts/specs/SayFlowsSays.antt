@@ -1,0 +1,23 @@
+-- The equalities that the contracts of crate `say_flows` state: r is the answer, and x′ what a lent x holds afterwards.
+-- Made by tools/surface from the source.
+use mathlib.Core.Path.{_≡_}
+use mathlib.Core.List.{List}
+use Prim.Native.Nat.{_+_, ℕ}
+use Rattle.admission.specs.declared.AdmitAnswer.{AdmitAnswer}
+use Rattle.flowlist.specs.List.{zeroFlow}
+use Rattle.flowlist.specs.declared.FlowList.{FlowList}
+use Rattle.flowsheet.specs.declared.FlowsAnswer.{FlowsAnswer}
+use Rattle.say_flows.specs.Said.{admitSaid, flowSheetSaid}
+use Rattle.site.specs.declared.Site.{Site}
+use lib.ListN.{getD, length}
+use lib.Seq.{sets}
+
+-- say_flows::put_admit
+pub record SayFlowsPutAdmit (out : List ℕ) (at : ℕ) (site : Site) (l : FlowList) (count : ℕ) (reply : AdmitAnswer) (r : ℕ) (out′ : List ℕ) : Type 0 where
+  pub answer : r ≡ at + length (admitSaid site (λ k. getD (l .list) k zeroFlow) count reply)
+  pub out-after : out′ ≡ sets out at (admitSaid site (λ k. getD (l .list) k zeroFlow) count reply)
+
+-- say_flows::put_flow_sheet
+pub record SayFlowsPutFlowSheet (out : List ℕ) (at : ℕ) (reply : FlowsAnswer) (r : ℕ) (out′ : List ℕ) : Type 0 where
+  pub answer : r ≡ at + length (flowSheetSaid reply)
+  pub out-after : out′ ≡ sets out at (flowSheetSaid reply)

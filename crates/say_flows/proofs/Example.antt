@@ -1,0 +1,77 @@
+-- The text of an admission, computed letter by letter: the call is asked, and its answer said. A list of loads or rows that ends early goes on with zeros.
+-- Assumes nothing.
+use Prim.Native.Nat.{ℕ, zero, suc}
+use Prim.Native.String.{_++_}
+use mathlib.Core.List.{List, [], _∷_}
+use mathlib.Core.Path.{_≡_, refl}
+use Rattle.laws.specs.Search.{firstOf}
+use Rattle.laws.specs.Sum.{sum}
+use Rattle.theory.specs.Verdict.{overloaded, lowestOver, loadVerdict, gap, breaks, breakOf, firstBreak, chainVerdict}
+use Rattle.text.specs.Decimal.{digitsOf, decimal}
+use Rattle.speech.specs.Speech.{bytes, spoken}
+use Rattle.site.specs.Record.{siteOf, upTo, sizeOk, rowBad, extraLoad, badRow, faultOf}
+use Rattle.site.specs.Reach.{reaches, clashIn}
+use Rattle.site.specs.declared.Site.{Site}
+use Rattle.shares.specs.Share.{roundedUp, shareOf}
+use Rattle.bestset.specs.Best.{allowed, bestOf, best}
+use Rattle.flowlist.specs.declared.Flow.{Flow}
+use Rattle.flowsheet.specs.declared.FlowsAnswer.the-variants as flows
+use Rattle.admission.specs.Admit.{badIn, refusedIn, firstBadIn, answerIn}
+use Rattle.say_refusals.specs.Lines.{refusalMeanings, refusalHeads}
+use Rattle.say_refusals.specs.Said.{meaning, refusedLine}
+use Rattle.say_refusals.specs.declared.Place.the-variants.{Nowhere}
+use Rattle.say_flows.specs.Lines.{admitLines, chainLines}
+use Rattle.say_flows.specs.Said.{listSaid, nineteenSaid, admitSaid, flowSheetSaid}
+
+-- what is said of an admission
+abbrev said : Site → (ℕ → Flow) → ℕ → List ℕ
+said s f n = admitSaid s f n (answerIn s f n)
+
+abbrev flow : (cell burst period repeats value : ℕ) → Flow
+flow cell burst period repeats value = record { cell = cell; burst = burst; period = period; repeats = repeats; value = value }
+
+-- two flows: the first, and then the same again and again
+abbrev pair : Flow → Flow → ℕ → Flow
+pair f g zero = f
+pair f g (suc k) = g
+
+-- two cells that clash, 16 slots; both are loaded to the full, which does not count here
+abbrev near : Site
+near = siteOf 2 16 1 (16 ∷ 16 ∷ []) (2 ∷ [])
+
+-- four spare cells, of which 1 reaches 4
+abbrev far : Site
+far = siteOf 4 16 1 [] (8 ∷ [])
+
+-- of two flows that do not go together the one that is worth more is taken
+taken :
+    said near (pair (flow 1 3 8 1 10) (flow 2 4 8 2 30)) 2 ∷ said near (pair (flow 1 3 8 1 10) (flow 2 4 8 1 30)) 2 ∷ []
+    ≡ bytes "the loads of the site are set aside\nflow 1: cell 1, share 6, value 10, not taken\nflow 2: cell 2, share 16, value 30, taken\nworth 30\n"
+    ∷ bytes "the loads of the site are set aside\nflow 1: cell 1, share 6, value 10, taken\nflow 2: cell 2, share 8, value 30, taken\nworth 40\n" ∷ []
+unfolding firstOf sum overloaded lowestOver loadVerdict gap breaks breakOf firstBreak chainVerdict upTo sizeOk rowBad extraLoad badRow faultOf
+    reaches clashIn roundedUp shareOf allowed bestOf best badIn refusedIn firstBadIn answerIn admitLines listSaid spoken decimal digitsOf
+taken = refl
+
+-- each refusal: 2, 15 and 16 with the flow's number, 18 alone, 19 with the three cells, and a record's own; and those of a sheet of flows
+refused :
+    said near (pair (flow 1 1 1 1 1) (flow 5 1 1 1 1)) 2 ∷ said near (pair (flow 1 1 1 5 1) (flow 1 1 1 1 1)) 2
+    ∷ said near (pair (flow 1 1 1 1 1) (flow 1 65535 1 4 1)) 3 ∷ said near (pair (flow 1 1 1 1 1) (flow 1 1 1 1 1)) 17
+    ∷ said far (pair (flow 1 1 1 1 1) (flow 1 1 1 1 1)) 1 ∷ said (siteOf 2 16 1 [] (0 ∷ 2 ∷ [])) (pair (flow 1 1 1 1 1) (flow 1 1 1 1 1)) 1
+    ∷ flowSheetSaid (flows.BadLine 3) ∷ flowSheetSaid flows.Done ∷ []
+    ≡ bytes "refused 2, flow 2: a load or a flow is for a cell that the site does not have\n"
+    ∷ bytes "refused 15, flow 1: the burst or the period of a flow is not 1 to 65,535, or its repeats are not 1 to 4\n"
+    ∷ bytes "refused 16, flow 2: the flow needs a share above 65,535 fragments in a superframe, its repeats counted\n"
+    ∷ bytes "refused 18: more than 16 flows ask to be admitted\n"
+    ∷ bytes (
+    "refused 19: the site is not chained when all its cells count, the spare ones too: "
+    ++ "cells 1 and 4 clash, and cell 2 between them does not clash with cell 1\n")
+    ∷ bytes "refused 3, cell 2: the reach has a cell that reaches itself, or a cell that the site does not have\n"
+    ∷ bytes "refused 17, line 3: the sheet is malformed: a line is not as the format asks, or is missing, or is one too many\n"
+    ∷ [] ∷ []
+unfolding firstOf sum gap breaks breakOf firstBreak chainVerdict upTo sizeOk rowBad extraLoad badRow faultOf reaches clashIn roundedUp shareOf
+    badIn refusedIn firstBadIn answerIn chainLines nineteenSaid refusalMeanings refusalHeads meaning refusedLine spoken decimal digitsOf
+refused = refl
+
+-- and 18 of a sheet as of an admission; the letters are in crate `say_refusals`
+many-said : flowSheetSaid flows.TooMany ≡ refusedLine 18 Nowhere
+many-said = refl

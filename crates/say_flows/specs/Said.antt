@@ -1,0 +1,80 @@
+-- The text of `duggfrask admit`: that the loads of the site do not count; for each flow its cell, its share and its value, and whether it is taken; what the
+-- flows that are taken are worth; or why there is no answer, and why a sheet of flows is refused.
+use Prim.Native.Nat.{ℕ, zero, suc, _+_}
+use mathlib.Core.List.{List, [], _++_}
+use Rattle.laws.specs.Bits.{bitAt}
+use Rattle.laws.specs.Choice.{pick}
+use Rattle.theory.specs.Net.{everyone}
+use Rattle.theory.specs.Verdict.{ChainVerdict, chained, broken, chainVerdict}
+use Rattle.site.specs.Record.{faultOf, isFine}
+use Rattle.site.specs.Reach.{netOf}
+use Rattle.site.specs.declared.Site.{Site}
+use Rattle.flowlist.specs.declared.Flow.{Flow}
+use Rattle.flowsheet.specs.declared.FlowsAnswer.{FlowsAnswer}
+use Rattle.flowsheet.specs.declared.FlowsAnswer.the-variants as flows
+use Rattle.bestset.specs.Best.{worth}
+use Rattle.admission.specs.Admit.{shareIn, amount, flowsAsked}
+use Rattle.admission.specs.declared.AdmitAnswer.{AdmitAnswer}
+use Rattle.admission.specs.declared.AdmitAnswer.the-variants as admit
+use Rattle.phrases.specs.Phrases.{phrase}
+use Rattle.phrases.specs.declared.Phrase.{Phrase}
+use Rattle.phrases.specs.declared.Phrase.the-variants.{Row}
+use Rattle.say_refusals.specs.Said.{refusedLine}
+use Rattle.say_refusals.specs.declared.Place.the-variants as place
+use Rattle.say_verdicts.specs.Said.{faultSaid}
+use Rattle.say_flows.specs.Lines.{admitLines, chainLines, asideRow, takenRow, leftRow, worthRow, chainBrokenRow}
+
+-- ---- the flows
+
+-- "The site's own loads are set aside here: every cell starts at 0"
+abbrev pub asidePhrase : Phrase
+asidePhrase = Row asideRow 0 0 0 0
+
+-- the flow at place k: it is taken where its bit is in the set
+abbrev pub flowPhrase : (slots set : ℕ) → Flow → ℕ → Phrase
+flowPhrase slots set f k = Row (pick (bitAt set k) takenRow leftRow) (k + 1) (f .cell) (amount (shareIn slots f)) (f .value)
+
+-- the lines of the first n flows, in order
+unfoldable pub listSaid : (slots set : ℕ) → (ℕ → Flow) → ℕ → List ℕ
+listSaid slots set f zero = []
+listSaid slots set f (suc k) = listSaid slots set f k ++ phrase admitLines (flowPhrase slots set (f k) k)
+
+abbrev pub worthPhrase : (w : ℕ) → Phrase
+worthPhrase w = Row worthRow w 0 0 0
+
+-- ---- the chain
+
+-- a and c clash, and b between them does not clash with a
+abbrev pub brokenLine : (a b c : ℕ) → List ℕ
+brokenLine a b c = phrase chainLines (Row chainBrokenRow a b c 0)
+
+-- the first three cells that break the chain, by number
+abbrev pub brokenSaid : ChainVerdict → List ℕ
+brokenSaid (broken a b c) = brokenLine (a + 1) (b + 1) (c + 1)
+brokenSaid chained = refusedLine 19 place.Nowhere
+
+-- "19 site not chained", where "all cells count as loaded for the chain rule". Of a record at fault, or a chained site, that is never answered: `nineteen-said`
+-- in proofs/Broken.antt
+unfoldable pub nineteenSaid : Site → List ℕ
+nineteenSaid s = pick (isFine (faultOf s)) (brokenSaid (chainVerdict (netOf s) everyone)) (refusedLine 19 place.Nowhere)
+
+-- ---- the answer
+
+-- which flows to take, and their total value; or the refusal: "18 over 16 flows, 19 site not chained, then per flow 2, 15, 16 with the flow's number"
+abbrev pub admitSaid : Site → (ℕ → Flow) → ℕ → AdmitAnswer → List ℕ
+admitSaid s f n (admit.Admitted set) =
+    phrase admitLines asidePhrase ++ (listSaid (s .slots) set f n ++ phrase admitLines (worthPhrase (worth (flowsAsked (s .slots) f n) set)))
+admitSaid s f n admit.TooMany = refusedLine 18 place.Nowhere
+admitSaid s f n admit.NotChained = nineteenSaid s
+admitSaid s f n (admit.BadCell k) = refusedLine 2 (place.Flow k)
+admitSaid s f n (admit.BadFlow k) = refusedLine 15 (place.Flow k)
+admitSaid s f n (admit.BigShare k) = refusedLine 16 (place.Flow k)
+admitSaid s f n (admit.Refused fault) = faultSaid fault
+
+-- ---- the sheet of flows
+
+-- a sheet that was read: nothing to say; 17 and the line; or 18
+abbrev pub flowSheetSaid : FlowsAnswer → List ℕ
+flowSheetSaid flows.Done = []
+flowSheetSaid (flows.BadLine line) = refusedLine 17 (place.Line line)
+flowSheetSaid flows.TooMany = refusedLine 18 place.Nowhere

@@ -1,0 +1,2 @@
+-- The definitions of crate `say_listing`, module by module.
+pub mod Lines

@@ -1,0 +1,29 @@
+-- What the sentence of a clash says, apart from its text: who reaches whom by the record, and that both cells send in that slot and channel.
+use Prim.Native.Nat.{ℕ, _+_, _-_, _*_, _≤_, _<_}
+use mathlib.Core.Bool.{true}
+use mathlib.Core.List.{List}
+use mathlib.Core.Logic.{_⊎_}
+use mathlib.Core.Path.{_≡_}
+use Rattle.theory.specs.Greedy.{reserved}
+use Rattle.site.specs.Record.{positions}
+use Rattle.site.specs.Means.{UpTo, Reaches}
+use Rattle.site.specs.declared.Site.{Site}
+use Rattle.say_verdicts.specs.Said.{clashForthLine, clashBackLine, clashBothLine}
+
+-- a reaches c and not the other way round, and the text says so; or c reaches a; or each reaches the other
+abbrev pub WaySaid : Site → (a c slot channel : ℕ) → List ℕ → Type 0
+WaySaid s a c slot channel text =
+    (Reaches s a c × (Reaches s c a → ⊥) × (text ≡ clashForthLine a c slot channel))
+    ⊎ ((Reaches s a c → ⊥) × Reaches s c a × (text ≡ clashBackLine a c slot channel))
+    ⊎ (Reaches s a c × Reaches s c a × (text ≡ clashBothLine a c slot channel))
+
+-- `both send in slot .., channel ..`: two cells of the site, the lower number first, at the position of that slot and channel
+pub record BothSend (s : Site) (t : List ℕ) (p a c slot channel : ℕ) : Type 0 where
+  pub rising : a < c
+  pub first-in : UpTo (s .cells) a
+  pub second-in : UpTo (s .cells) c
+  pub slot-in : UpTo (s .slots) slot
+  pub channel-in : UpTo (s .channels) channel
+  pub place : p ≡ (slot - 1) * s .channels + (channel - 1)
+  pub one : reserved (positions s) t (a - 1) p ≡ true
+  pub other : reserved (positions s) t (c - 1) p ≡ true

@@ -1,0 +1,18 @@
+-- `say_why::plan_phrase` meets its contract: an arm for each answer. Assumes nothing.
+use borrow.Author.Needs.{needs}
+use Rattle.say_why.proofs.plan_phrase.Statement.{statement}
+use Rattle.say_why.proofs.plan_phrase.Tie as tie
+
+pub plan-phrase-spec : {M : Type 1} → statement M
+plan-phrase-spec =
+    tie.close
+    (tie.spec
+    (λ c. search needs)
+    (λ c. search needs)
+    (λ c. search needs)
+    (λ c κs. search needs)
+    (λ c. search needs)
+    (λ c. cc)
+    (λ c. cc)
+    (λ c. cc)
+    (λ c. cc))

@@ -1,0 +1,330 @@
+// What `duggfrask why` says of a site, written into a lent buffer: one public function, which asks the calls and puts their answers into English.
+use heaviest::HeaviestAnswer;
+use judges::ChainAnswer;
+use judges::LeastAnswer;
+use judges::LoadAnswer;
+use phrases::Phrase;
+use phrases::put_phrase;
+use planner::PlanAnswer;
+use site::Site;
+use words::has;
+ghost use mathlib.Core.Path.{_≡_};
+ghost use Prim.Native.Nat.{_+_, _*_, _≤_, _<_};
+ghost use lib.Dec.{ltb};
+ghost use lib.ListN.{length};
+ghost use Rattle.laws.specs.Choice.{pick};
+ghost use Rattle.site.specs.Record.{positions, faultOf};
+ghost use Rattle.site.specs.declared.Fault.the-variants.{Fine};
+ghost use Rattle.planner.specs.Plan.{planTable};
+ghost use Rattle.judges.specs.Judges.{chainAnswer, loadAnswer};
+ghost use Rattle.heaviest.specs.declared.HeaviestAnswer.the-variants.{Done};
+ghost use Rattle.phrases.specs.Put.{Put};
+ghost use Rattle.phrases.specs.Phrases.{phrase};
+ghost use Rattle.say_why.specs.Lines.{whyLines, fullRow, gaveUpRow};
+ghost use Rattle.say_why.specs.Said.{chainPhrase, overPhrase, loadPhrase, planPhrase, leastNumber, willDo, takesPhrase, setPhrase, cellPhrase};
+ghost use Rattle.say_why.specs.Said.{cellPhrases, fewest, sizeRow, sizePhrase, verdictPhrases, clashPhrases, sizesPhrases, sitePhrases, texts};
+ghost use Rattle.say_why.specs.Said.{whySaid};
+
+const CHAINED: usize = 0;
+
+const BROKEN: usize = 1;
+
+const HOLDS: usize = 2;
+
+const OVER: usize = 3;
+
+const OFF_CHAIN: usize = 4;
+
+const PLANNED: usize = 5;
+
+const FULL: usize = 6;
+
+const GAVE_UP: usize = 7;
+
+const EXACT: usize = 8;
+
+const RANGE: usize = 9;
+
+const SET: usize = 10;
+
+const CELL: usize = 11;
+
+const SLOTS: usize = 12;
+
+const CHANNELS: usize = 16;
+
+// Puts a line: a row of the table with its values, or nothing.
+fn put(out: &mut [u8], at: usize, what: Phrase) -> usize
+    requires { ⌜ at + 1500 ≤ length (now out) ⌝ }
+    ensures { λ r. ⌜ Put (now (out .entry)) at (phrase whyLines what) 1500 (now (out .exit)) r ⌝ }
+{
+    put_phrase(
+        out,
+        at,
+        b"chained\n|\
+          not chained: cells @1 and @3 clash, and cell @2 between them does not clash with cell @1\n|\
+          the load test holds\n|\
+          the load test fails: cell @1 is over by @2 fragment@b\n|\
+          the load test fails: cell @1 is over by @2 fragment@b; off the chain that alone decides nothing\n|\
+          planned\n|\
+          not planned: cell @1 is @2 fragment@b short. The site is full: no plan exists\n|\
+          not planned: cell @1 is @2 fragment@b short. This order found no room, and there may be another\n|\
+          it takes @1 channel-slot@a, and no fewer; the site has @2\n|\
+          it takes at least @1 channel-slot@a, and @2 will do; the site has @3\n|\
+          of all cells that clash with one another these need the most, @1:\n|\
+          \x20 cell @1, load @2\n|\
+          with @1 channel@a: @2 slot@b, and no fewer\n|\
+          with @1 channel@a: at least @2 slot@b, and @3 will do\n|\
+          with @1 channel@a: at least @2 slot@b\n|\
+          with @1 channel@a: more than 128 slots, which no site has\n|\
+          with @1 slot@a: @2 channel@b, and no fewer\n|\
+          with @1 slot@a: at least @2 channel@b, and @3 will do\n|\
+          with @1 slot@a: at least @2 channel@b\n|\
+          with @1 slot@a: more than 16 channels, which no site has\n|",
+        what,
+    )
+}
+
+// Chained, or the triple that breaks it.
+fn chain_phrase(reply: ChainAnswer) -> Phrase
+    ensures { λ r. ⌜ r ≡ chainPhrase reply ⌝ }
+{
+    match reply {
+        ChainAnswer::Chained => Phrase::Row(CHAINED, 0, 0, 0, 0),
+        ChainAnswer::Broken(a, b, c) => Phrase::Row(BROKEN, a, b, c, 0),
+        ChainAnswer::Refused(_) => Phrase::Silent,
+    }
+}
+
+// The lowest cell that is over, and what that means.
+fn over_phrase(judge: ChainAnswer, cell: usize, excess: usize) -> Phrase
+    ensures { λ r. ⌜ r ≡ overPhrase judge cell excess ⌝ }
+{
+    match judge {
+        ChainAnswer::Chained => Phrase::Row(OVER, cell, excess, 0, 0),
+        ChainAnswer::Broken(_, _, _) => Phrase::Row(OFF_CHAIN, cell, excess, 0, 0),
+        ChainAnswer::Refused(_) => Phrase::Silent,
+    }
+}
+
+// The load test: it holds, or who is over.
+fn load_phrase(judge: ChainAnswer, reply: LoadAnswer) -> Phrase
+    ensures { λ r. ⌜ r ≡ loadPhrase judge reply ⌝ }
+{
+    match reply {
+        LoadAnswer::Holds => Phrase::Row(HOLDS, 0, 0, 0, 0),
+        LoadAnswer::Over(cell, excess) => over_phrase(judge, cell, excess),
+        LoadAnswer::Refused(_) => Phrase::Silent,
+    }
+}
+
+// The row of a no: full where the heaviest clash is above the positions.
+fn no_row(l: usize, n: usize) -> usize
+    ensures { λ r. ⌜ r ≡ pick (ltb n l) fullRow gaveUpRow ⌝ }
+{
+    if n < l {
+        return FULL;
+    }
+    GAVE_UP
+}
+
+// Planned or not, and what a no means.
+fn plan_phrase(l: usize, n: usize, reply: PlanAnswer) -> Phrase
+    ensures { λ r. ⌜ r ≡ planPhrase l n reply ⌝ }
+{
+    match reply {
+        PlanAnswer::Done => Phrase::Row(PLANNED, 0, 0, 0, 0),
+        PlanAnswer::TableShort => Phrase::Silent,
+        PlanAnswer::NoRoom(cell, short) => Phrase::Row(no_row(l, n), cell, short, 0, 0),
+        PlanAnswer::Refused(_) => Phrase::Silent,
+    }
+}
+
+// The number that `least` answers.
+fn least_number(reply: LeastAnswer) -> usize
+    ensures { λ r. ⌜ r ≡ leastNumber reply ⌝ }
+{
+    match reply {
+        LeastAnswer::Least(n) => n,
+        LeastAnswer::Enough(n) => n,
+        LeastAnswer::Refused(_) => 0,
+    }
+}
+
+// The smaller of two numbers.
+fn smaller(n: usize, m: usize) -> usize
+    ensures { λ r. ⌜ r ≡ pick (ltb n m) n m ⌝ }
+{
+    if n < m {
+        return n;
+    }
+    m
+}
+
+// The number of channel-slots that will do: where the site is planned, its own if that is smaller.
+fn will_do(reply: PlanAnswer, n: usize, m: usize) -> usize
+    ensures { λ r. ⌜ r ≡ willDo reply n m ⌝ }
+{
+    match reply {
+        PlanAnswer::Done => smaller(n, m),
+        PlanAnswer::TableShort => m,
+        PlanAnswer::NoRoom(_, _) => m,
+        PlanAnswer::Refused(_) => m,
+    }
+}
+
+// How many channel-slots it takes.
+fn takes_phrase(l: usize, u: usize, n: usize) -> Phrase
+    ensures { λ r. ⌜ r ≡ takesPhrase l u n ⌝ }
+{
+    if l == u {
+        return Phrase::Row(EXACT, l, n, 0, 0);
+    }
+    Phrase::Row(RANGE, l, u, n, 0)
+}
+
+// What stands before the cells of the heaviest clash.
+fn set_phrase(l: usize) -> Phrase
+    ensures { λ r. ⌜ r ≡ setPhrase l ⌝ }
+{
+    if 0 < l {
+        return Phrase::Row(SET, l, 0, 0, 0);
+    }
+    Phrase::Silent
+}
+
+// The line of a cell of the set; nothing for any other.
+fn cell_phrase(set: u32, load: usize, j: usize) -> Phrase
+    requires { ⌜ j < 32 ⌝ }
+    ensures { λ r. ⌜ r ≡ cellPhrase set load j ⌝ }
+{
+    if has(set, j) {
+        return Phrase::Row(CELL, j + 1, load, 0, 0);
+    }
+    Phrase::Silent
+}
+
+// A load as a number.
+fn wide(x: u16) -> usize
+    ensures { λ r. ⌜ r ≡ x ⌝ }
+{
+    x as usize
+}
+
+// The lines of the cells of the set, of the first so many.
+fn put_cells(out: &mut [u8], at: usize, loads: &[u16; 32], set: u32, cells: usize) -> usize
+    requires { ⌜ (cells ≤ 32) × (at + 1500 * cells ≤ length (now out)) ⌝ }
+    ensures { λ r. ⌜ Put (now (out .entry)) at (texts (cellPhrases (now (loads .entry)) set cells)) (1500 * cells) (now (out .exit)) r ⌝ }
+{
+    let mut next = at;
+    let mut j = 0;
+    while j < cells {
+        next = put(out, next, cell_phrase(set, wide(loads[j]), j));
+        j += 1;
+    }
+    next
+}
+
+// The fewest slots of f channels, or channels of f slots, that make n channel-slots.
+fn fewest(n: usize, f: usize) -> usize
+    requires { ⌜ 0 < f ⌝ }
+    ensures { λ r. ⌜ r ≡ fewest n f ⌝ }
+{
+    if n < 1 {
+        return 1;
+    }
+    if n % f == 0 {
+        return n / f;
+    }
+    n / f + 1
+}
+
+// The row of a size, of the four that begin at `row`, with its values.
+fn size_row(row: usize, most: usize, f: usize, lo: usize, hi: usize) -> Phrase
+    requires { ⌜ row ≤ 16 ⌝ }
+    ensures { λ r. ⌜ r ≡ sizeRow row most f lo hi ⌝ }
+{
+    if most < lo {
+        return Phrase::Row(row + 3, f, 0, 0, 0);
+    }
+    if most < hi {
+        return Phrase::Row(row + 2, f, lo, 0, 0);
+    }
+    if lo == hi {
+        return Phrase::Row(row, f, lo, 0, 0);
+    }
+    Phrase::Row(row + 1, f, lo, hi, 0)
+}
+
+// With f of the one, how many of the other make l channel-slots, and u.
+fn size_phrase(row: usize, most: usize, f: usize, l: usize, u: usize) -> Phrase
+    requires { ⌜ (row ≤ 16) × (0 < f) ⌝ }
+    ensures { λ r. ⌜ r ≡ sizePhrase row most f l u ⌝ }
+{
+    size_row(row, most, f, fewest(l, f), fewest(u, f))
+}
+
+// How many slots, and how many channels.
+fn put_sizes(out: &mut [u8], at: usize, site: Site, l: usize, u: usize) -> usize
+    requires { ⌜ at + 3000 ≤ length (now out) ⌝ }
+    requires { ⌜ faultOf site ≡ Fine ⌝ }
+    ensures { λ r. ⌜ Put (now (out .entry)) at (texts (sizesPhrases site l u)) 3000 (now (out .exit)) r ⌝ }
+{
+    let slots = size_phrase(SLOTS, 128, site.channels as usize, l, u);
+    let middle = put(out, at, slots);
+    let channels = size_phrase(CHANNELS, 16, site.slots as usize, l, u);
+    put(out, middle, channels)
+}
+
+// How many channel-slots it takes, and the heaviest clash.
+fn put_clash(out: &mut [u8], at: usize, site: Site, n: usize, l: usize, u: usize, set: u32) -> usize
+    requires { ⌜ at + 51000 ≤ length (now out) ⌝ }
+    requires { ⌜ (faultOf site ≡ Fine) × (n ≡ positions site) ⌝ }
+    ensures { λ r. ⌜ Put (now (out .entry)) at (texts (clashPhrases site l u set)) 51000 (now (out .exit)) r ⌝ }
+{
+    let second = put(out, at, takes_phrase(l, u, n));
+    let third = put(out, second, set_phrase(l));
+    let loads = site.loads;
+    put_cells(out, third, &loads, set, site.cells as usize)
+}
+
+// The verdicts: the chain, the load test and the plan.
+fn put_verdicts(out: &mut [u8], site: Site, reply: PlanAnswer, l: usize, n: usize) -> usize
+    requires { ⌜ 4500 ≤ length (now out) ⌝ }
+    ensures { λ r. ⌜ Put (now (out .entry)) 0 (texts (verdictPhrases (chainAnswer site) (loadAnswer site) reply l n)) 4500 (now (out .exit)) r ⌝ }
+{
+    let judge = judges::chain(site);
+    let test = judges::load_test(site);
+    let second = put(out, 0, chain_phrase(judge));
+    let third = put(out, second, load_phrase(judge, test));
+    put(out, third, plan_phrase(l, n, reply))
+}
+
+// All that is said of an accepted site, with the planner's answer and the heaviest clash.
+fn put_all(out: &mut [u8], site: Site, reply: PlanAnswer, l: usize, set: u32) -> usize
+    requires { ⌜ 60000 ≤ length (now out) ⌝ }
+    requires { ⌜ faultOf site ≡ Fine ⌝ }
+    ensures { λ r. ⌜ Put (now (out .entry)) 0 (texts (sitePhrases site reply (Done l set))) 60000 (now (out .exit)) r ⌝ }
+{
+    let n = site.slots as usize * site.channels as usize;
+    let least = judges::least(site);
+    let u = will_do(reply, n, least_number(least));
+    let second = put_verdicts(out, site, reply, l, n);
+    let third = put_clash(out, second, site, n, l, u, set);
+    put_sizes(out, third, site, l, u)
+}
+
+// What can be said of a site, from the start of `out`, and how long it is. The planner plans in `table`, which is long enough for every site. A
+// refused record has no text.
+pub fn put_why(site: Site, table: &mut [u8], out: &mut [u8]) -> usize
+    requires { ⌜ (65536 ≤ length (now table)) × (60000 ≤ length (now out)) ⌝ }
+    ensures text { λ r. ⌜ Put (now (out .entry)) 0 (whySaid site (now (table .entry))) 60000 (now (out .exit)) r ⌝ }
+    ensures table { λ _. ⌜ now (table .exit) ≡ planTable site (now (table .entry)) ⌝ }
+{
+    let reply = planner::plan(site, table);
+    let found = heaviest::heaviest(site);
+    match found {
+        HeaviestAnswer::Done(l, set) => put_all(out, site, reply, l, set),
+        HeaviestAnswer::Refused(_) => 0,
+    }
+}
