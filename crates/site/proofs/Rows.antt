@@ -13,7 +13,7 @@ use lib.Seq.{sets}
 use lib.Pow.{pow-pos}
 use Rattle.laws.specs.Bits.{bitAt, bitIn, wordOf}
 use Rattle.laws.specs.Part.{listOf}
-use Rattle.laws.proofs.Choice.{cases, eqb-sym}
+use Rattle.laws.proofs.Choice.{cases}
 use Rattle.laws.proofs.Bits.{bit-above}
 use Rattle.laws.proofs.Words.{word-bit, word-past, word-eq, word-within, none-word}
 use Rattle.laws.specs.Choice.{pick}
@@ -25,14 +25,6 @@ use Rattle.site.specs.declared.Fault.the-variants.{Fine}
 use Rattle.site.proofs.Faults.{fine-sized}
 use Rattle.site.proofs.Reach.{clash-sym}
 use Rattle.site.proofs.Accepted.{fine-reach}
-
--- ---- a row as the code makes it: the cells that a reaches, joined with the word of those that reach it
-pub row-rule : (reach : List ℕ) (reached cells a : ℕ) → ((b : ℕ) → b < cells → bitAt reached b ≡ bitIn reach b a)
-    → wordOf (λ b. not (eqb b a) && (bitIn reach a b || bitAt reached b)) cells ≡ wordOf (clashIn reach a) cells
-unfolding clashIn reaches
-row-rule reach reached cells a column =
-    word-eq (λ b. not (eqb b a) && (bitIn reach a b || bitAt reached b)) (clashIn reach a) cells (λ b m.
-    ap₂ (λ t u. not t && (bitIn reach a b || u)) (eqb-sym b a) (column b m))
 
 -- ---- the rows as the code makes them: those of the first n cells, over zeros
 module _ (s : Site) where

@@ -1,0 +1,3 @@
+-- The laws of crate `reachrows`, module by module.
+pub mod Pass
+pub mod Rule

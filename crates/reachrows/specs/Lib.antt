@@ -1,0 +1,2 @@
+-- The definitions of crate `reachrows`, module by module.
+pub mod Rows
