@@ -1,6 +1,4 @@
 -- The laws of crate `planfile`, module by module.
-pub mod Bits
-pub mod Block
 pub mod ReadLaws
 pub mod WriteLaws
 pub mod Order

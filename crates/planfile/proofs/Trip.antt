@@ -31,11 +31,11 @@ use Rattle.records.proofs.Laws.{Opening, record-open, exact, exact-true}
 use Rattle.records.proofs.Reasons.{andThen, both-done, done-none}
 use Rattle.records.proofs.Head.{HeadGood, head-read, head-done}
 use Rattle.records.proofs.RecordTrip.{record-body, rest-back, record-back, body-length, record-again, head-again}
-use Rattle.planfile.specs.Bits.{bytesFor, one, bitOf, bitsFrom, leftOver, ones, packed, packedFrom}
+use Rattle.planbits.specs.Bits.{bytesFor, one, bitOf, bitsFrom, leftOver, ones, packed, packedFrom}
 use Rattle.planfile.specs.Read.{planAt, bodyIn, endIn, planReadAnswer, planReadOf, readPlan, planTableRead}
 use Rattle.planfile.specs.Write.{planBytes, planFile, planWritten, planOut}
 use Rattle.planfile.specs.declared.PlanWritten.the-variants.{Done as Written, TableShort, OutShort, Refused as Faulty}
-use Rattle.planfile.proofs.Bits.{one-bit, ones-bit, bits-ones, bits-at, bit-in, length-bits, length-packed, packed-at}
+use Rattle.planbits.proofs.Bits.{one-bit, ones-bit, bits-ones, bits-at, bit-in, length-bits, length-packed, packed-at}
 use Rattle.planfile.proofs.Order.{answer-is}
 use Rattle.planfile.proofs.ReadLaws.{openReasons, contentReasons, plan-parts}
 use Rattle.planfile.proofs.WriteLaws.{out-done}

@@ -18,10 +18,10 @@ use Rattle.records.specs.Layout.{recordOf}
 use Rattle.records.specs.Head.{headRecord, headSize}
 use Rattle.records.specs.Write.{laidOver}
 use Rattle.records.proofs.Write.{laid-short, record-put}
-use Rattle.planfile.specs.Bits.{bytesFor, packed}
+use Rattle.planbits.specs.Bits.{bytesFor, packed}
 use Rattle.planfile.specs.Write.{planBytes, planFile, planWritten, planOut}
 use Rattle.planfile.specs.declared.PlanWritten.the-variants.{Done, TableShort, OutShort, Refused}
-use Rattle.planfile.proofs.Bits.{length-packed}
+use Rattle.planbits.proofs.Bits.{length-packed}
 
 pub file-length : (i a f : ℕ) (t : List ℕ) → length (planBytes i a f t) ≡ headSize + 4 + bytesFor (entries i a f)
 unfolding planBytes

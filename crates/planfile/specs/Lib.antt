@@ -1,6 +1,4 @@
 -- The definitions of crate `planfile`, module by module.
-pub mod Bits
-pub mod Block
 pub mod Read
 pub mod Loop
 pub mod Write

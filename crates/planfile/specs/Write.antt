@@ -9,7 +9,7 @@ use Rattle.records.specs.Head.{headRecord}
 use Rattle.records.specs.Write.{laidOver}
 use Rattle.site.specs.Record.{entries, size, isFine, faultOf}
 use Rattle.site.specs.declared.Site.{Site}
-use Rattle.planfile.specs.Bits.{packed}
+use Rattle.planbits.specs.Bits.{packed}
 use Rattle.planfile.specs.declared.PlanWritten.{PlanWritten}
 use Rattle.planfile.specs.declared.PlanWritten.the-variants.{Done, TableShort, OutShort, Refused}
 

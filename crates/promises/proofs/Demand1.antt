@@ -31,14 +31,14 @@ use Rattle.records.specs.declared.ReadAnswer.{ReadAnswer}
 use Rattle.records.specs.declared.ReadAnswer.the-variants as read
 use Rattle.records.specs.declared.Written.the-variants as wrote
 use Rattle.sitefile.specs.Write.{siteBytes, siteWritten, siteOut}
-use Rattle.planfile.specs.Bits.{bitsFrom}
+use Rattle.planbits.specs.Bits.{bitsFrom}
 use Rattle.planfile.specs.Given.{planWrittenGiven}
 use Rattle.records.specs.Reasons.{isDone}
 use Rattle.records.specs.Head.{cellsOfHead, slotsOfHead, channelsOfHead, entriesOfHead}
 use Rattle.planfile.specs.Read.{bodyIn, planReadAnswer, planReadOf, readPlan, planTableRead}
 use Rattle.planfile.specs.Write.{planFile, planWritten, planOut}
 use Rattle.planfile.specs.declared.PlanWritten.the-variants as plan
-use Rattle.planfile.proofs.Bits.{length-bits}
+use Rattle.planbits.proofs.Bits.{length-bits}
 use Rattle.promises.specs.Numbers.{doneWith}
 use Rattle.promises.specs.Leaves.{PlannerLeaves, ReaderLeaves, WriterLeaves}
 

@@ -26,7 +26,7 @@ use Rattle.sitefile.specs.Reasons.{reachAt}
 use Rattle.sitefile.proofs.Reasons.{first-refused}
 use Rattle.sitefile.proofs.FileTrip.{accepted}
 use Rattle.sitefile.proofs.Trip.{written-then-read, written-again}
-use Rattle.planfile.specs.Bits.{one}
+use Rattle.planbits.specs.Bits.{one}
 use Rattle.planfile.specs.Read.{readPlan, planTableRead}
 use Rattle.planfile.specs.Write.{planWritten, planOut}
 use Rattle.planfile.specs.Given.{planWrittenGiven}

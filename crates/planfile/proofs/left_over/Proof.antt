@@ -4,7 +4,7 @@ use Prim.Native.Nat.{_/_}
 use mathlib.Core.Path.{sym}
 use native.Mathlib.Omega.{arith}
 use denote.Ref.{now}
-use Rattle.planfile.proofs.Bits.{no-rest, some-rest}
+use Rattle.planbits.proofs.Bits.{no-rest, some-rest}
 use Rattle.planfile.proofs.left_over.Statement.{statement}
 use Rattle.planfile.proofs.left_over.Tie as tie
 

@@ -1,0 +1,3 @@
+-- The laws of crate `planbits`, module by module.
+pub mod Bits
+pub mod Block

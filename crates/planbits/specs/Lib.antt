@@ -1,0 +1,3 @@
+-- The definitions of crate `planbits`, module by module.
+pub mod Bits
+pub mod Block
