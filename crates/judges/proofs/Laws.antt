@@ -30,7 +30,7 @@ use Rattle.judges.specs.Judges.{counted, loadAnswer, chainAnswer, leastA
 use Rattle.chainwords.specs.Chain.{chainIn, gapIn, breakIn}
 use Rattle.chainwords.proofs.Laws.{break-least, break-inside, gap-same, break-same, first-break-same}
 use Rattle.chainwords.proofs.Rows.{gap-row, break-row}
-use Rattle.judges.specs.Words.{demandAt, overIn, demandCounted}
+use Rattle.demands.specs.Words.{demandAt, overIn, demandCounted}
 use Rattle.judges.specs.declared.LoadAnswer.the-variants as load
 use Rattle.judges.specs.declared.ChainAnswer.the-variants as chain
 use Rattle.judges.specs.declared.LeastAnswer.the-variants as least

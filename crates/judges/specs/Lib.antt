@@ -1,4 +1,3 @@
 -- The definitions of crate `judges`, module by module.
 pub mod Judges
 pub mod Given
-pub mod Words

@@ -1,4 +1,4 @@
--- `judges::first_over` meets its contract: the invariant says that the search that is left gives the answer. Assumes nothing.
+-- `demands::first_over` meets its contract: the invariant says that the search that is left gives the answer. Assumes nothing.
 use Prim.Native.Nat.{ℕ, _-_}
 use mathlib.Core.Bool.{Bool}
 use mathlib.Core.List.{List}
@@ -7,10 +7,10 @@ use native.Mathlib.Omega.{arith}
 use lib.ListN.{getD}
 use Rattle.laws.specs.Search.{first}
 use Rattle.laws.proofs.Search.{found, missed, ended}
-use Rattle.judges.specs.Words.{overIn}
+use Rattle.demands.specs.Words.{overIn}
 use borrow.Author.Needs.{needs}
-use Rattle.judges.proofs.first_over.Statement.{statement}
-use Rattle.judges.proofs.first_over.Tie as tie
+use Rattle.demands.proofs.first_over.Statement.{statement}
+use Rattle.demands.proofs.first_over.Tie as tie
 
 abbrev test : List ℕ → List ℕ → ℕ → ℕ → ℕ → Bool
 test loads clash who room i = overIn loads (getD clash i 0) who room i

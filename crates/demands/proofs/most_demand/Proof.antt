@@ -1,4 +1,4 @@
--- `judges::most_demand` meets its contract: before cell i, the greatest of what the cells below i ask. Assumes nothing.
+-- `demands::most_demand` meets its contract: before cell i, the greatest of what the cells below i ask. Assumes nothing.
 use Prim.Native.Nat.{ℕ, _-_, _≤_}
 use mathlib.Core.List.{List}
 use mathlib.Core.Path.{_≡_, refl, sym, ap₂, _∙_}
@@ -6,10 +6,10 @@ use native.Mathlib.Omega.{arith}
 use lib.ListN.{getD}
 use Rattle.laws.specs.Most.{greater, most}
 use Rattle.laws.proofs.Most.{most-more}
-use Rattle.judges.specs.Words.{demandCounted}
+use Rattle.demands.specs.Words.{demandCounted}
 use borrow.Author.Needs.{needs}
-use Rattle.judges.proofs.most_demand.Statement.{statement}
-use Rattle.judges.proofs.most_demand.Tie as tie
+use Rattle.demands.proofs.most_demand.Statement.{statement}
+use Rattle.demands.proofs.most_demand.Tie as tie
 
 abbrev asks : List ℕ → List ℕ → ℕ → ℕ → ℕ
 asks loads clash who i = demandCounted loads (getD clash i 0) who i

@@ -1,10 +1,10 @@
--- `judges::asked` meets its contract: a cell that counts asks its demand, and one that does not asks nothing. Assumes nothing.
+-- `demands::asked` meets its contract: a cell that counts asks its demand, and one that does not asks nothing. Assumes nothing.
 use mathlib.Core.Path.{sym, ap, _∙_}
 use borrow.Author.Needs.{needs}
 use Rattle.laws.specs.Choice.{pick}
-use Rattle.judges.specs.Words.{demandAt}
-use Rattle.judges.proofs.asked.Statement.{statement}
-use Rattle.judges.proofs.asked.Tie as tie
+use Rattle.demands.specs.Words.{demandAt}
+use Rattle.demands.proofs.asked.Statement.{statement}
+use Rattle.demands.proofs.asked.Tie as tie
 
 has-requires : tie.Need-has-requires
 has-requires c κs = search needs

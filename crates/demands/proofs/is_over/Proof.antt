@@ -1,12 +1,12 @@
--- `judges::is_over` meets its contract: a cell that does not count is not over, and one that does is where its demand is above the room. Assumes nothing.
+-- `demands::is_over` meets its contract: a cell that does not count is not over, and one that does is where its demand is above the room. Assumes nothing.
 use mathlib.Core.Bool.{_&&_}
 use mathlib.Core.Path.{sym, ap, _∙_}
 use borrow.Author.Tests.{not-true, not-false}
 use lib.Dec.{ltb}
-use Rattle.judges.specs.Words.{demandAt}
+use Rattle.demands.specs.Words.{demandAt}
 use borrow.Author.Needs.{needs}
-use Rattle.judges.proofs.is_over.Statement.{statement}
-use Rattle.judges.proofs.is_over.Tie as tie
+use Rattle.demands.proofs.is_over.Statement.{statement}
+use Rattle.demands.proofs.is_over.Tie as tie
 
 has-requires : tie.Need-has-requires
 has-requires c κs = search needs

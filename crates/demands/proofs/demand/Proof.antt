@@ -1,4 +1,4 @@
--- `judges::demand` meets its contract: a row cut below i has the cells below i of the row, and so their loads. Assumes nothing.
+-- `demands::demand` meets its contract: a row cut below i has the cells below i of the row, and so their loads. Assumes nothing.
 use mathlib.Core.Bool.{_&&_, false, and-true, and-false}
 use mathlib.Core.List.{List}
 use mathlib.Core.Path.{_≡_, ap, ap₂, _∙_}
@@ -16,8 +16,8 @@ use Rattle.laws.proofs.Bits.{bit-and}
 use Rattle.laws.proofs.Sums.{sum-eq, sum-stop}
 use Rattle.words.specs.Loads.{loadsBelow, loadsIn}
 use borrow.Author.Needs.{needs}
-use Rattle.judges.proofs.demand.Statement.{statement}
-use Rattle.judges.proofs.demand.Tie as tie
+use Rattle.demands.proofs.demand.Statement.{statement}
+use Rattle.demands.proofs.demand.Tie as tie
 
 module _ (loads : List ℕ) (row i : ℕ) where
   abbrev word : ℕ

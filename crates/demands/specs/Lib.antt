@@ -1,0 +1,2 @@
+-- The definitions of crate `demands`, module by module.
+pub mod Words
