@@ -18,7 +18,8 @@ use Rattle.sitefile.proofs.Trip.{read-fine}
 use Rattle.phrases.specs.Phrases.{phrase}
 use Rattle.say_listing.specs.Lines.{listingLines}
 use Rattle.lister.specs.Listing.{headLines, unreadLine}
-use Rattle.lister.specs.Parts.{headOf, tableLeft, rowCount, siteRest, restOf, fileHead, fileTable, fileRest}
+use Rattle.listing.specs.Answers.{rowCount}
+use Rattle.lister.specs.Parts.{headOf, tableLeft, siteRest, restOf, fileHead, fileTable, fileRest}
 use Rattle.lister.specs.declared.Rest.{Rest}
 
 -- there are no more cell lines than cells

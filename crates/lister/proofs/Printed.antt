@@ -24,7 +24,8 @@ use Rattle.sitefile.proofs.Trip.{read-fine}
 use Rattle.phrases.specs.Phrases.{phrase}
 use Rattle.say_listing.specs.Lines.{listingLines, cellListed}
 use Rattle.lister.specs.Listing.{headLines, unreadLine, cellLines, cellsOf, listingOf, listing}
-use Rattle.lister.specs.Parts.{headOf, tableLeft, rowCount, siteRest, restOf, fileHead, fileTable, fileRest}
+use Rattle.listing.specs.Answers.{rowCount}
+use Rattle.lister.specs.Parts.{headOf, tableLeft, siteRest, restOf, fileHead, fileTable, fileRest}
 
 -- rows that stand in the first part of a table
 front :

@@ -7,13 +7,12 @@ use Rattle.site.specs.Record.{positions}
 use Rattle.site.specs.Reach.{netOf}
 use Rattle.site.specs.declared.Site.{Site}
 use Rattle.planner.specs.Plan.{answerOf, planTable}
-use Rattle.planner.specs.declared.PlanAnswer.{PlanAnswer}
-use Rattle.planner.specs.declared.PlanAnswer.the-variants as plan
 use Rattle.records.specs.declared.ReadAnswer.{ReadAnswer}
 use Rattle.records.specs.declared.ReadAnswer.the-variants.{Done, Refused}
 use Rattle.sitefile.specs.Read.{readSite}
 use Rattle.phrases.specs.Phrases.{phrase}
 use Rattle.say_listing.specs.Lines.{listingLines}
+use Rattle.listing.specs.Answers.{rowCount}
 use Rattle.lister.specs.Listing.{headLines, unreadLine}
 use Rattle.lister.specs.declared.Rest.{Rest}
 
@@ -25,13 +24,6 @@ headOf s (Refused number offset) = phrase listingLines (unreadLine number offset
 abbrev pub tableLeft : Site → ReadAnswer → List ℕ → List ℕ
 tableLeft s Done t = planTable s t
 tableLeft s (Refused number offset) t = t
-
--- how many cell lines there are
-abbrev pub rowCount : PlanAnswer → ℕ → ℕ
-rowCount plan.Done cells = cells
-rowCount (plan.NoRoom cell short) cells = 0
-rowCount plan.TableShort cells = 0
-rowCount (plan.Refused f) cells = 0
 
 -- the head's length, and of the cell lines their number and the positions and channels of a row
 unfoldable pub siteRest : Site → Rest

@@ -24,7 +24,7 @@ use Rattle.standing.specs.Stand.{numberOf, stoodOf}
 use Rattle.standing.specs.Words.{standsIn, TwoWay, Says}
 use Rattle.standing.specs.declared.Stood.the-variants.{All, Short}
 use Rattle.mender.specs.Mend.{listedChanges, mendAnswerOf, tableAfter, listAfter, mendAnswer, mendTable, mendList}
-use Rattle.mender.specs.Words.{allCount, CellsCounted}
+use Rattle.changelist.specs.Words.{allCount, CellsCounted}
 use Rattle.mender.specs.declared.MendAnswer.the-variants.{TableShort, NoRoom, Refused}
 
 -- ---- what stands, by the answer of the cells' turns

@@ -1,5 +1,4 @@
 -- The laws of crate `mender`, module by module.
-pub mod Lists
 pub mod Ends
 pub mod Given
 pub mod Meaning

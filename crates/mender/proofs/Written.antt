@@ -24,7 +24,7 @@ use Rattle.mending.specs.Mend.{mend, overlay}
 use Rattle.standing.specs.Stand.{numberOf}
 use Rattle.standing.specs.Words.{Says}
 use Rattle.mender.specs.Mend.{listedChanges, mendAnswerOf, mendAnswer, mendTable, mendList, listRoom, MendStands}
-use Rattle.mender.specs.Words.{allCount, tableWith, listWith, CellsCounted}
+use Rattle.changelist.specs.Words.{allCount, tableWith, listWith, CellsCounted}
 use Rattle.mender.specs.declared.MendAnswer.{MendAnswer}
 use Rattle.mender.specs.declared.MendAnswer.the-variants.{Done, TableShort, NoRoom, ListShort, Refused}
 use Rattle.mender.proofs.MendAnswer.{the-type}

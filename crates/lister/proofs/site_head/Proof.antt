@@ -9,7 +9,8 @@ use Rattle.site.proofs.Faults.{fine-sized, few-positions, few-bytes}
 use Rattle.planner.specs.Plan.{answerOf}
 use Rattle.planner.proofs.Answer.{run-answer}
 use Rattle.lister.specs.Listing.{headLines}
-use Rattle.lister.specs.Parts.{siteRest, rowCount}
+use Rattle.listing.specs.Answers.{rowCount}
+use Rattle.lister.specs.Parts.{siteRest}
 use Rattle.lister.proofs.Heading.{no-more}
 use borrow.Author.Needs.{needs}
 use Rattle.lister.proofs.site_head.Statement.{statement}
@@ -38,7 +39,7 @@ returns : tie.Need-returns
 unfolding headLines siteRest
 returns c =
     let s = entry c in
-    let h = rw (ran c) at (c .before .before .before .put-head .ensures) in
+    let h = rw (ran c) at (c .before .before .before .put-answers .ensures) in
     let n = c .row-count .ensures ∙ ap (λ a. rowCount a (s .args .site .cells)) (ran c) in
     let z = fine-sized (s .args .site) (s .pre .0) in
     let few : c .row-count .result ≤ s .args .site .cells = omega (arith, no-more (planned-at c .plan .result) (s .args .site .cells), c .row-count .ensures) in

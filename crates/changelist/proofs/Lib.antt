@@ -1,0 +1,2 @@
+-- The laws of crate `changelist`, module by module.
+pub mod Lists
