@@ -11,7 +11,7 @@ use Rattle.site.specs.Reach.{netOf}
 use Rattle.site.specs.declared.Site.{Site}
 use Rattle.site.specs.declared.Fault.{Fault}
 use Rattle.site.specs.declared.Fault.the-variants.{Fine}
-use Rattle.bestset.specs.Best.{best}
+use Rattle.admitting.specs.Best.{best}
 use Rattle.flowlist.specs.declared.Flow.{Flow}
 use Rattle.admission.specs.Admit.{refusedIn, firstBadIn, flowsAsked, isChained, answerIn}
 use Rattle.admission.specs.declared.AdmitAnswer.the-variants.{Admitted, TooMany, NotChained, Refused}

@@ -24,10 +24,10 @@ use Rattle.site.specs.declared.Site.{Site}
 use Rattle.site.specs.declared.Fault.the-variants.{Fine}
 use Rattle.site.proofs.Faults.{up-to, fine-sized}
 use Rattle.site.proofs.Accepted.{net-open}
-use Rattle.bestset.specs.Best.{best}
+use Rattle.admitting.specs.Best.{best}
 use Rattle.bestset.specs.Code.{Stands}
 use Rattle.bestset.specs.Code as arrays
-use Rattle.bestset.proofs.Alike.{best-flows}
+use Rattle.admitting.proofs.Alike.{best-flows}
 use Rattle.flowlist.specs.declared.Flow.{Flow}
 use Rattle.admission.specs.Admit.{shareIn, amount, badIn, firstBadIn, flowsAsked, isChained}
 use Rattle.admission.proofs.Asking.{good-cell}

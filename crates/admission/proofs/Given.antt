@@ -21,7 +21,7 @@ use Rattle.site.proofs.Given.{faultFrom}
 use Rattle.site.proofs.PassedOn.{proper-call, proper-either}
 use Rattle.shares.specs.declared.ShareAnswer.{ShareAnswer}
 use Rattle.shares.specs.declared.ShareAnswer.the-variants as share
-use Rattle.bestset.specs.Best.{best}
+use Rattle.admitting.specs.Best.{best}
 use Rattle.flowlist.specs.List.{flowAt}
 use Rattle.flowlist.specs.declared.Flow.{Flow}
 use Rattle.admission.specs.Admit.{shareIn, shareRefused, refusedIn, firstBadIn, flowsAsked, isChained, answerIn, admitAnswer}

@@ -23,9 +23,9 @@ use Rattle.site.specs.declared.Site.{Site}
 use Rattle.site.specs.declared.Fault.the-variants.{Fine}
 use Rattle.site.proofs.Accepted.{fine-sound, sound-fine, net-open}
 use Rattle.site.proofs.Faults.{fine-sized}
-use Rattle.bestset.specs.Best.{loadIn, laden, allowed}
-use Rattle.bestset.proofs.Best.{allowed-means}
-use Rattle.bestset.proofs.Sets.{total-eq, total-zero}
+use Rattle.admitting.specs.Best.{loadIn, laden, allowed}
+use Rattle.admitting.proofs.Best.{allowed-means}
+use Rattle.admitting.proofs.Sets.{total-eq, total-zero}
 use Rattle.flowlist.specs.List.{flowAt}
 use Rattle.flowlist.specs.declared.Flow.{Flow}
 use Rattle.admission.specs.Admit.{amount, flowShare, flowsOf}

@@ -16,7 +16,7 @@ use Rattle.site.specs.declared.Site.{Site}
 use Rattle.shares.specs.Share.{shareOf}
 use Rattle.shares.specs.declared.ShareAnswer.{ShareAnswer}
 use Rattle.shares.specs.declared.ShareAnswer.the-variants as share
-use Rattle.bestset.specs.Best.{Flows, best}
+use Rattle.admitting.specs.Best.{Flows, best}
 use Rattle.flowlist.specs.List.{flowAt}
 use Rattle.flowlist.specs.declared.Flow.{Flow}
 use Rattle.admission.specs.declared.AdmitAnswer.{AdmitAnswer}

@@ -14,7 +14,7 @@ use Rattle.site.specs.Record.{siteOf}
 use Rattle.site.specs.declared.Site.{Site}
 use Rattle.shares.specs.Given.{shareGiven}
 use Rattle.shares.specs.Share.{shareOf}
-use Rattle.bestset.specs.Best.{loadIn}
+use Rattle.admitting.specs.Best.{loadIn}
 use Rattle.flowlist.specs.List.{flowAt}
 use Rattle.flowlist.specs.declared.Flow.{Flow}
 use Rattle.admission.specs.Admit.{flowsOf}

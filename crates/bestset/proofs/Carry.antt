@@ -5,8 +5,8 @@ use Prim.Native.Nat.{ℕ, _^_, _≤_, _<_}
 use Rattle.theory.specs.Net.{Net, Reserved, Valid, everyone, loaded, Class}
 use Rattle.theory.specs.Greedy.{Plans}
 use Rattle.theory.proofs.Exact.{covers-everyone, covers-loaded, test-plans, class-exists}
-use Rattle.bestset.specs.Best.{Flows, worth, laden, best}
-use Rattle.bestset.proofs.Best.{allowed-means, best-is}
+use Rattle.admitting.specs.Best.{Flows, worth, laden, best}
+use Rattle.admitting.proofs.Best.{allowed-means, best-is}
 use Rattle.bestset.proofs.Demand.{allowed-everyone}
 
 pub best-planned : (s : Net) (f : Flows) → Plans (laden s f (best s f))

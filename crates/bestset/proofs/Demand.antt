@@ -15,9 +15,9 @@ use Rattle.laws.specs.Sum.{sum}
 use Rattle.laws.proofs.Sums.{sum-eq, sum-add, sum-none, sum-swap, sum-single, sum-some}
 use Rattle.theory.specs.Net.{Net, everyone, loaded, Class, LoadTest, room, lower}
 use Rattle.theory.proofs.Exact.{covers-everyone, covers-loaded, test-plans, class-exact}
-use Rattle.bestset.specs.Best.{Flows, total, loadIn, laden, allowed}
+use Rattle.admitting.specs.Best.{Flows, total, loadIn, laden, allowed}
 use Rattle.bestset.specs.Code.{weightAt}
-use Rattle.bestset.proofs.Best.{allowed-means}
+use Rattle.admitting.proofs.Best.{allowed-means}
 
 gated-sum : (b : Bool) (g : ℕ → ℕ) (n : ℕ) → pick b (sum g n) 0 ≡ sum (λ k. pick b (g k) 0) n
 gated-sum true g n = refl

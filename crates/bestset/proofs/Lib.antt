@@ -1,11 +1,7 @@
 -- The laws of crate `bestset`, module by module.
-pub mod Sets
-pub mod Best
 pub mod Demand
 pub mod Parts
 pub mod Steps
 pub mod Arrays
 pub mod Problem
-pub mod Alike
 pub mod Carry
-pub mod Desk

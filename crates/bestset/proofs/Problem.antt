@@ -14,9 +14,9 @@ use borrow.Author.Tests.{ltb-false, le-ltb, not-true}
 use Rattle.laws.proofs.Any.{any-none, none-any}
 use Rattle.laws.proofs.Choice.{alike}
 use Rattle.theory.specs.Net.{Net}
-use Rattle.bestset.specs.Best.{Flows, total, worth, allowed, best}
+use Rattle.admitting.specs.Best.{Flows, total, worth, allowed, best}
 use Rattle.bestset.specs.Code.{flowsIn, weighed, weightAt, demandIn, fitsIn, bestIn, Stands}
-use Rattle.bestset.proofs.Best.{best-alike}
+use Rattle.admitting.proofs.Best.{best-alike}
 use Rattle.bestset.proofs.Demand.{allowed-flat}
 
 module _ (room' : ℕ) (rows cell share value : List ℕ) (n : ℕ) where

@@ -9,7 +9,7 @@ use Rattle.laws.specs.Bits.{bitIn}
 use Rattle.laws.specs.Choice.{pick}
 use Rattle.laws.specs.Sum.{sum, any}
 use Rattle.theory.specs.Net.{Net, everyone, Class, room}
-use Rattle.bestset.specs.Best.{Flows, total, worth, bestOf}
+use Rattle.admitting.specs.Best.{Flows, total, worth, bestOf}
 
 -- the flows that three arrays state
 abbrev pub flowsIn : List ℕ → List ℕ → List ℕ → ℕ → Flows

@@ -25,8 +25,8 @@ use Rattle.judges.proofs.Meaning.{holds-means}
 use Rattle.planner.specs.Plan.{planAnswer}
 use Rattle.planner.specs.Given.{planGiven}
 use Rattle.planner.proofs.Meaning.{done-means}
-use Rattle.bestset.specs.Best.{worth, loadIn, laden, allowed}
-use Rattle.bestset.proofs.Best.{allowed-means, empty-allowed, best-is}
+use Rattle.admitting.specs.Best.{worth, loadIn, laden, allowed}
+use Rattle.admitting.proofs.Best.{allowed-means, empty-allowed, best-is}
 use Rattle.bestset.proofs.Carry.{best-planned, best-of-carried}
 use Rattle.flowlist.specs.List.{flowAt}
 use Rattle.flowlist.specs.declared.Flow.{Flow}

@@ -12,7 +12,7 @@ use Rattle.site.specs.Record.{upTo, sizeOk, rowBad, extraLoad, badRow, faultOf}
 use Rattle.site.specs.Reach.{reaches, clashIn}
 use Rattle.planner.specs.Plan.{planAnswer, planTable}
 use Rattle.judges.specs.Judges.{loadAnswer, chainAnswer, leastAnswer}
-use Rattle.bestset.specs.Best.{bestOf}
+use Rattle.admitting.specs.Best.{bestOf}
 use Rattle.heaviest.specs.Sets.{mutualIn, heaviestIn, heaviestOf}
 use Rattle.checker.specs.Check.{verdictOf, checkAnswer}
 use Rattle.laws.specs.Bits.{wordOf}

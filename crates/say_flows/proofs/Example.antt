@@ -13,7 +13,7 @@ use Rattle.site.specs.Record.{siteOf, upTo, sizeOk, rowBad, extraLoad, badRow, 
 use Rattle.site.specs.Reach.{reaches, clashIn}
 use Rattle.site.specs.declared.Site.{Site}
 use Rattle.shares.specs.Share.{roundedUp, shareOf}
-use Rattle.bestset.specs.Best.{allowed, bestOf, best}
+use Rattle.admitting.specs.Best.{allowed, bestOf, best}
 use Rattle.flowlist.specs.declared.Flow.{Flow}
 use Rattle.flowsheet.specs.declared.FlowsAnswer.the-variants as flows
 use Rattle.admission.specs.Admit.{badIn, refusedIn, firstBadIn, answerIn}

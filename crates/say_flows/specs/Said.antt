@@ -12,7 +12,7 @@ use Rattle.site.specs.declared.Site.{Site}
 use Rattle.flowlist.specs.declared.Flow.{Flow}
 use Rattle.flowsheet.specs.declared.FlowsAnswer.{FlowsAnswer}
 use Rattle.flowsheet.specs.declared.FlowsAnswer.the-variants as flows
-use Rattle.bestset.specs.Best.{worth}
+use Rattle.admitting.specs.Best.{worth}
 use Rattle.admission.specs.Admit.{shareIn, amount, flowsAsked}
 use Rattle.admission.specs.declared.AdmitAnswer.{AdmitAnswer}
 use Rattle.admission.specs.declared.AdmitAnswer.the-variants as admit

@@ -21,7 +21,7 @@ ghost use lib.ListN.{length, getD};
 ghost use Rattle.laws.specs.Bits.{bitAt};
 ghost use Rattle.laws.specs.Choice.{pick};
 ghost use Rattle.flowlist.specs.List.{zeroFlow};
-ghost use Rattle.bestset.specs.Best.{total};
+ghost use Rattle.admitting.specs.Best.{total};
 ghost use Rattle.admission.specs.Admit.{shareIn, amount};
 ghost use Rattle.admission.specs.declared.AdmitAnswer.the-variants.{Admitted};
 ghost use Rattle.phrases.specs.Put.{Put};

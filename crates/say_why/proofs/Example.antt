@@ -18,7 +18,7 @@ use Rattle.theory.specs.Greedy.{forbid, marked, fill, run}
 use Rattle.theory.specs.Verdict.{overloaded, lowestOver, loadVerdict, mostDemand, gap, breaks, breakOf, firstBreak, chainVerdict, secondAt}
 use Rattle.theory.specs.Verdict.{clashesAt, firstAt, lowestClash, wrongIn, lowestWrong, tableVerdict}
 use Rattle.theory.proofs.TableLaws.{check-valid}
-use Rattle.bestset.specs.Best.{bestOf}
+use Rattle.admitting.specs.Best.{bestOf}
 use Rattle.site.specs.Record.{siteOf, size, upTo, sizeOk, rowBad, extraLoad, badRow, faultOf}
 use Rattle.site.specs.Reach.{reaches, clashIn, netOf}
 use Rattle.site.specs.declared.Site.{Site}

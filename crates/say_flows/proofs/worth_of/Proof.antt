@@ -6,7 +6,7 @@ use native.Mathlib.Numerals.{add-one}
 use lib.ListN.{getD}
 use Rattle.laws.specs.Sum.{sum}
 use Rattle.flowlist.specs.List.{zeroFlow}
-use Rattle.bestset.specs.Best.{total}
+use Rattle.admitting.specs.Best.{total}
 use borrow.Author.Needs.{needs}
 use Rattle.say_flows.proofs.worth_of.Statement.{statement}
 use Rattle.say_flows.proofs.worth_of.Tie as tie

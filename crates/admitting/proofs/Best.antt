@@ -17,8 +17,8 @@ use Rattle.laws.proofs.Choice.{cases}
 use Rattle.theory.specs.Net.{Net, loaded, LoadTest}
 use Rattle.theory.specs.Verdict.{LoadVerdict, holds, over, loadVerdict}
 use Rattle.theory.proofs.LoadLaws.{load-holds}
-use Rattle.bestset.specs.Best.{Flows, worth, laden, passes, allowed, better, bestOf, best, Best}
-use Rattle.bestset.proofs.Sets.{total-none}
+use Rattle.admitting.specs.Best.{Flows, worth, laden, passes, allowed, better, bestOf, best, Best}
+use Rattle.admitting.proofs.Sets.{total-none}
 
 -- ---- over any test and any worth
 

@@ -16,7 +16,7 @@ use Rattle.laws.specs.Bits.{bitAt}
 use Rattle.laws.specs.Choice.{pick}
 use Rattle.laws.specs.Sum.{sum}
 use Rattle.laws.proofs.Sums.{sum-le, sum-eq, sum-none, sum-split}
-use Rattle.bestset.specs.Best.{total}
+use Rattle.admitting.specs.Best.{total}
 
 -- ---- which flows are in a number
 

@@ -6,7 +6,7 @@ use lib.Dec.{ltb}
 use Rattle.laws.specs.Choice.{pick}
 use Rattle.theory.specs.Net.{Net, loaded, LoadTest}
 use Rattle.theory.specs.Verdict.{LoadVerdict, holds, over, loadVerdict}
-pub use Rattle.bestset.specs.Flows.{Flows, total, worth, loadIn, laden}
+pub use Rattle.admitting.specs.Flows.{Flows, total, worth, loadIn, laden}
 
 abbrev pub passes : LoadVerdict → Bool
 passes holds = true

@@ -9,9 +9,9 @@ use lib.Pow.{pow-pos}
 use Rattle.laws.specs.Choice.{pick}
 use Rattle.theory.specs.Net.{Net, loaded}
 use Rattle.theory.specs.Verdict.{loadVerdict}
-use Rattle.bestset.specs.Best.{Flows, worth, loadIn, passes, allowed, best}
-use Rattle.bestset.proofs.Sets.{total-eq}
-use Rattle.bestset.proofs.Best.{best-alike}
+use Rattle.admitting.specs.Best.{Flows, worth, loadIn, passes, allowed, best}
+use Rattle.admitting.proofs.Sets.{total-eq}
+use Rattle.admitting.proofs.Best.{best-alike}
 
 module _ (s : Net) (n : ℕ) (cell cell' share share' value value' : ℕ → ℕ) (same-cell : (k : ℕ) → k < n → cell k ≡ cell' k)
     (same-share : (k : ℕ) → k < n → share k ≡ share' k) (same-value : (k : ℕ) → k < n → value k ≡ value' k) where

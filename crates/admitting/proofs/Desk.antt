@@ -11,8 +11,8 @@ use Rattle.laws.specs.Sum.{sum}
 use Rattle.laws.specs.Search.{firstOf}
 use Rattle.theory.specs.Net.{Net, unblocked}
 use Rattle.theory.specs.Verdict.{overloaded, lowestOver, loadVerdict}
-use Rattle.bestset.specs.Recurrence.{greatest, kept, keptBelow, recurrence}
-use Rattle.bestset.specs.Best.{Flows, worth, allowed, bestOf, best}
+use Rattle.admitting.specs.Recurrence.{greatest, kept, keptBelow, recurrence}
+use Rattle.admitting.specs.Best.{Flows, worth, allowed, bestOf, best}
 
 -- "no clashes, two cells, N=2"
 abbrev bare : Net
