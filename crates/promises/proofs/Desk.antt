@@ -16,7 +16,7 @@ use Rattle.admitting.specs.Best.{bestOf}
 use Rattle.heaviest.specs.Sets.{mutualIn, heaviestIn, heaviestOf}
 use Rattle.checker.specs.Check.{verdictOf, checkAnswer}
 use Rattle.laws.specs.Bits.{wordOf}
-use Rattle.wordtable.specs.Words.{bytesOf}
+use Rattle.wordforms.specs.Words.{bytesOf}
 use Rattle.wordtable.specs.Plan.{planWordsAnswer, planWords}
 use Rattle.wordtable.specs.Check.{checkWordsAnswer}
 use Rattle.wordtable.specs.Forms.{formAnswer, toWords, toBytes}

@@ -32,14 +32,14 @@ use Rattle.checker.specs.Given.{checkGiven}
 use Rattle.checker.specs.declared.CheckAnswer.{CheckAnswer}
 use Rattle.checker.specs.declared.CheckAnswer.the-variants as check
 use Rattle.checker.proofs.Given.{check-apart}
-use Rattle.wordtable.specs.Words.{sendsAt, bytesOf}
+use Rattle.wordforms.specs.Words.{sendsAt, bytesOf}
 use Rattle.wordtable.specs.Plan.{planWordsAnswer, planWords}
 use Rattle.wordtable.specs.Check.{checkWordsAnswer}
 use Rattle.wordtable.specs.Forms.{lentShort, formAnswer, toWords, toBytes}
 use Rattle.wordtable.specs.Given.{formGiven}
 use Rattle.wordtable.specs.declared.FormAnswer.the-variants as form
 use Rattle.wordtable.proofs.Given.{check-words-proper}
-use Rattle.wordtable.proofs.Rows.{bytes-long}
+use Rattle.wordforms.proofs.Rows.{bytes-long}
 use Rattle.wordtable.proofs.Ways.{table-short, words-short}
 use Rattle.wordtable.proofs.Same.{bytes-at, check-bytes, check-table, plan-answer-same, plan-words-are, plan-kept-long}
 use Rattle.wordtable.proofs.Same.{there-and-back, back-and-there, check-above, bytes-above}

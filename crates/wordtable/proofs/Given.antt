@@ -26,7 +26,7 @@ use Rattle.checker.specs.Check.{verdictOf}
 use Rattle.checker.specs.Given.{checkProper}
 use Rattle.checker.proofs.Given.{verdict-proper}
 use Rattle.checker.specs.declared.CheckAnswer.the-variants as check
-use Rattle.wordtable.specs.Words.{sendsAt}
+use Rattle.wordforms.specs.Words.{sendsAt}
 use Rattle.wordtable.specs.Plan.{planWordsAnswer}
 use Rattle.wordtable.specs.Check.{checkWordsAnswer}
 use Rattle.wordtable.specs.Forms.{lentShort, formAnswer}

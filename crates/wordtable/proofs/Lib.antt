@@ -1,9 +1,6 @@
 -- The laws of crate `wordtable`, module by module.
 pub mod Planned
-pub mod Counts
-pub mod Runs
 pub mod Judged
-pub mod Rows
 pub mod Ways
 pub mod Same
 pub mod Plain

@@ -17,7 +17,7 @@ use Rattle.site.specs.Record.{positions, size, faultOf}
 use Rattle.site.specs.declared.Site.{Site}
 use Rattle.site.specs.declared.Fault.the-variants.{Fine}
 use Rattle.words.specs.Words.{wordAt, wordsOf}
-use Rattle.wordtable.specs.Words.{sendsAt}
+use Rattle.wordforms.specs.Words.{sendsAt}
 use Rattle.wordtable.specs.Forms.{toWords, toBytes}
 use Rattle.wordtable.proofs.Same.{words-say, bytes-at}
 use Rattle.wordtable.proofs.Ways.{done-words, done-bytes}

@@ -40,12 +40,12 @@ use Rattle.planner.proofs.Answer.{run-table}
 use Rattle.checker.specs.Check.{verdictOf, checkAnswer}
 use Rattle.checker.specs.declared.CheckAnswer.the-variants as check
 use Rattle.checker.proofs.Judged.{check-judged}
-use Rattle.wordtable.specs.Words.{sendsAt, bytesOf}
+use Rattle.wordforms.specs.Words.{sendsAt, bytesOf}
 use Rattle.wordtable.specs.Plan.{planWordsAnswer, planWords}
 use Rattle.wordtable.specs.Check.{checkWordsAnswer}
 use Rattle.wordtable.specs.Forms.{toWords, toBytes}
 use Rattle.wordtable.proofs.Judged.{words-judged}
-use Rattle.wordtable.proofs.Rows.{bytes-long}
+use Rattle.wordforms.proofs.Rows.{bytes-long}
 use Rattle.wordtable.proofs.Ways.{refused-words, refused-bytes, done-words, done-bytes}
 
 -- ---- what each form says of a cell and a position

@@ -18,7 +18,7 @@ use Rattle.site.specs.declared.Site.{Site}
 use Rattle.site.specs.declared.Fault.{Fault}
 use Rattle.site.specs.declared.Fault.the-variants.{Fine, Size, Load, Reach}
 use Rattle.words.specs.Words.{wordsOf}
-use Rattle.wordtable.specs.Words.{sendsAt, bytesOf}
+use Rattle.wordforms.specs.Words.{sendsAt, bytesOf}
 use Rattle.wordtable.specs.Forms.{lentShort, formAnswer, toWords, toBytes}
 use Rattle.wordtable.specs.declared.FormAnswer.{FormAnswer}
 use Rattle.wordtable.specs.declared.FormAnswer.the-variants.{Done, TableShort, Refused}

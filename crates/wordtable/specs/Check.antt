@@ -6,7 +6,7 @@ use Rattle.site.specs.Record.{positions}
 use Rattle.site.specs.declared.Site.{Site}
 use Rattle.checker.specs.Check.{checkedBy}
 use Rattle.checker.specs.declared.CheckAnswer.{CheckAnswer}
-use Rattle.wordtable.specs.Words.{sendsAt}
+use Rattle.wordforms.specs.Words.{sendsAt}
 
 -- "Refusal 4 is given when fewer than N words are lent": after the record's 1 to 3, and before 6 and 7
 unfoldable pub checkWordsAnswer : Site → List ℕ → CheckAnswer

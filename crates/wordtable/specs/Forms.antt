@@ -11,7 +11,7 @@ use Rattle.site.specs.declared.Site.{Site}
 use Rattle.words.specs.Words.{wordsOf}
 use Rattle.wordtable.specs.declared.FormAnswer.{FormAnswer}
 use Rattle.wordtable.specs.declared.FormAnswer.the-variants.{Done, TableShort, Refused}
-use Rattle.wordtable.specs.Words.{sendsAt, bytesOf}
+use Rattle.wordforms.specs.Words.{sendsAt, bytesOf}
 
 -- "Refusal 4 is given when fewer than N words are lent", and for a change of form also when fewer than IN bytes are
 abbrev pub lentShort : Site → List ℕ → List ℕ → Bool

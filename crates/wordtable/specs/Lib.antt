@@ -1,6 +1,4 @@
 -- The definitions of crate `wordtable`, module by module.
-pub mod Words
-pub mod Tally
 pub mod Plan
 pub mod Check
 pub mod Forms

@@ -6,7 +6,7 @@ use Rattle.site.specs.Record.{positions, faultOf}
 use Rattle.site.specs.declared.Fault.the-variants.{Fine}
 use Rattle.site.proofs.Faults.{not-fine, fine-sized, Sized, few-positions}
 use Rattle.checker.proofs.Judged.{refused-by, short-by, rows-by}
-use Rattle.wordtable.specs.Words.{sendsAt}
+use Rattle.wordforms.specs.Words.{sendsAt}
 use Rattle.wordtable.specs.Check.{checkWordsAnswer}
 use borrow.Author.Needs.{needs}
 use Rattle.wordtable.proofs.check_words.Statement.{statement}

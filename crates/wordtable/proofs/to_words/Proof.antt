@@ -41,8 +41,8 @@ returns c =
 mul-n : tie.Need-mul-n
 mul-n c = omega (arith, few-positions (sizes (c .before .before .before)))
 
-gather-requires : tie.Need-gather-requires
-gather-requires c κs =
+gather-words-requires : tie.Need-gather-words-words-requires
+gather-words-requires c κs =
     let told = c .before .before .before .before in
     (sizes told .cells-most, good told .words, good told .table)
 
@@ -53,7 +53,7 @@ returns-2 c =
     let a = start told .args in
     let g = good told in (
       told .before .before .answer-for .ensures,
-      call .gather .ensures
+      call .gather-words .ensures
           ∙ written (a .site .cells) (positions (a .site)) (a .table .now) (a .words .now) (g .words)
           ∙ sym (done-words (a .site) (a .table .now) (a .words .now) (g .fine) (g .table) (g .words)),
     )
@@ -70,6 +70,6 @@ to-words-spec =
     (λ c. search needs)
     (λ c. search needs)
     mul-n
-    gather-requires
+    gather-words-requires
     (λ c. search needs)
     returns-2)

@@ -1,4 +1,4 @@
--- `wordtable::gather` meets its contract: before cell i, the words have the rows of the cells below i. Assumes nothing.
+-- `wordforms::gather_words` meets its contract: before cell i, the words have the rows of the cells below i. Assumes nothing.
 use mathlib.Core.Path.{_≡_, refl, _∙_}
 use Prim.Native.Nat.{_-_, _≤_}
 use native.Mathlib.Omega.{arith}
@@ -8,10 +8,10 @@ use Rattle.laws.proofs.Grid.{row-before}
 use Rattle.laws.proofs.Stores.{sets-long, sets-last}
 use Rattle.theory.specs.Greedy.{reserved}
 use Rattle.words.specs.Words.{wordAt}
-use Rattle.wordtable.proofs.Rows.{Gathered, none-gathered, one-gathered}
+use Rattle.wordforms.proofs.Rows.{Gathered, none-gathered, one-gathered}
 use borrow.Author.Needs.{needs}
-use Rattle.wordtable.proofs.gather.Statement.{statement}
-use Rattle.wordtable.proofs.gather.Tie as tie
+use Rattle.wordforms.proofs.gather_words.Statement.{statement}
+use Rattle.wordforms.proofs.gather_words.Tie as tie
 
 abbrev Inv-loop : tie.InvT-loop
 Inv-loop words₀ table n cells i₀ words i = (i ≤ cells) × (length words ≡ length words₀) × Gathered n table words₀ i words
@@ -85,8 +85,8 @@ returns c =
     sets-last (wordAt (a .args .cells) (reserved (a .args .n) (a .args .table .now))) (a .args .n) (a .args .words .now) (y .last .0) (l .words) (a .pre .1)
     (y .ensures) (rw all at (l .inv .2))
 
-pub gather-spec : {M : Type 1} → statement M
-gather-spec =
+pub gather-words-spec : {M : Type 1} → statement M
+gather-words-spec =
     tie.close
     (tie.spec
     Inv-loop

@@ -1,10 +1,10 @@
--- `wordtable::bit_of` meets its contract: a digit is its own test. Assumes nothing.
+-- `wordforms::bit_of` meets its contract: a digit is its own test. Assumes nothing.
 use native.Mathlib.Nat.{mod-lt}
 use lib.Dec.{lit<}
 use Rattle.laws.proofs.Bits.{digit}
 use borrow.Author.Needs.{needs}
-use Rattle.wordtable.proofs.bit_of.Statement.{statement}
-use Rattle.wordtable.proofs.bit_of.Tie as tie
+use Rattle.wordforms.proofs.bit_of.Statement.{statement}
+use Rattle.wordforms.proofs.bit_of.Tie as tie
 
 cast-result : tie.Need-cast-result
 cast-result c = search needs

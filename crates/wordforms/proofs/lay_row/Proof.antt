@@ -1,4 +1,4 @@
--- `wordtable::lay_row` meets its contract: before word k, that many bytes are stored. Assumes nothing.
+-- `wordforms::lay_row` meets its contract: before word k, that many bytes are stored. Assumes nothing.
 use mathlib.Core.Path.{_≡_, refl, ap, _∙_}
 use Prim.Native.Nat.{ℕ, _-_, _≤_}
 use native.Mathlib.Omega.{arith}
@@ -7,10 +7,10 @@ use lib.Seq.{sets}
 use Rattle.laws.specs.Part.{listOf}
 use Rattle.laws.specs.Sum.{bit}
 use Rattle.laws.proofs.Stores.{sets-none, sets-more, sets-all, length-list}
-use Rattle.wordtable.specs.Words.{sendsAt}
+use Rattle.wordforms.specs.Words.{sendsAt}
 use borrow.Author.Needs.{needs}
-use Rattle.wordtable.proofs.lay_row.Statement.{statement}
-use Rattle.wordtable.proofs.lay_row.Tie as tie
+use Rattle.wordforms.proofs.lay_row.Statement.{statement}
+use Rattle.wordforms.proofs.lay_row.Tie as tie
 
 abbrev Inv-loop : tie.InvT-loop
 Inv-loop row₀ words i k₀ k-end row k =

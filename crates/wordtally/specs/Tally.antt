@@ -9,7 +9,7 @@ use Rattle.laws.specs.Bits.{bitAt}
 use Rattle.laws.specs.Choice.{pick}
 use Rattle.laws.specs.Sum.{count}
 use Rattle.words.specs.Clashes.{firstIn}
-use Rattle.wordtable.specs.Words.{sendsAt}
+use Rattle.wordforms.specs.Words.{sendsAt}
 
 -- two of the word's cells clash, of n cells in all, by their clash rows
 abbrev pub clashingWord : List ℕ → ℕ → ℕ → Bool

@@ -19,7 +19,7 @@ use Rattle.laws.proofs.Words.{word-zero, word-more}
 use Rattle.theory.specs.Net.{Reserved}
 use Rattle.theory.specs.Greedy.{reserved}
 use Rattle.words.specs.Words.{wordAt, joinedAt, joinedRow}
-use Rattle.wordtable.specs.Words.{bytesOf}
+use Rattle.wordforms.specs.Words.{bytesOf}
 
 -- ---- rows of bytes into words: w is what stands at first
 

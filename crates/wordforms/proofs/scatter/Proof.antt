@@ -1,4 +1,4 @@
--- `wordtable::scatter` meets its contract: before cell i, the rows of the cells below i are written, and what is past them is as it was. Assumes nothing.
+-- `wordforms::scatter` meets its contract: before cell i, the rows of the cells below i are written, and what is past them is as it was. Assumes nothing.
 use mathlib.Core.Path.{_≡_, ap, _∙_}
 use Prim.Native.Nat.{ℕ, _+_, _-_, _*_, _≤_}
 use native.Mathlib.Omega.{arith}
@@ -7,10 +7,10 @@ use borrow.Author.Needs.{needs}
 use Rattle.laws.specs.Part.{listOf}
 use Rattle.laws.specs.Sum.{bit}
 use Rattle.laws.proofs.Grid.{row-before}
-use Rattle.wordtable.specs.Words.{sendsAt}
-use Rattle.wordtable.proofs.Rows.{Scattered, none-scattered, one-scattered, scattered-long, lent-long}
-use Rattle.wordtable.proofs.scatter.Statement.{statement}
-use Rattle.wordtable.proofs.scatter.Tie as tie
+use Rattle.wordforms.specs.Words.{sendsAt}
+use Rattle.wordforms.proofs.Rows.{Scattered, none-scattered, one-scattered, scattered-long, lent-long}
+use Rattle.wordforms.proofs.scatter.Statement.{statement}
+use Rattle.wordforms.proofs.scatter.Tie as tie
 
 abbrev Inv-loop : tie.InvT-loop
 Inv-loop table₀ words n cells i₀ table i = (i ≤ cells) × Scattered n (sendsAt words) table₀ i table

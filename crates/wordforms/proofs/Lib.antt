@@ -1,0 +1,2 @@
+-- The laws of crate `wordforms`, module by module.
+pub mod Rows

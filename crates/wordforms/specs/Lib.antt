@@ -1,0 +1,2 @@
+-- The definitions of crate `wordforms`, module by module.
+pub mod Words

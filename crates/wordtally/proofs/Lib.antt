@@ -1,0 +1,3 @@
+-- The laws of crate `wordtally`, module by module.
+pub mod Counts
+pub mod Runs

@@ -1,0 +1,2 @@
+-- The definitions of crate `wordtally`, module by module.
+pub mod Tally
