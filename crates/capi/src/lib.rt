@@ -5,8 +5,8 @@ use shares::Repeats;
 use shares::Slots;
 use site::Site;
 use told::Answer;
-use told::EditedSite;
-use told::PlanReadC;
+use toldfiles::EditedSite;
+use toldfiles::PlanReadC;
 ghost use mathlib.Core.Path.{_≡_};
 ghost use Rattle.site.specs.Record.{faultOf};
 ghost use Rattle.site.specs.Reach.{clashAnswer};
@@ -38,7 +38,8 @@ ghost use Rattle.sheet.specs.Read.{readSheet};
 ghost use Rattle.sheet.specs.Write.{sheetWritten, sheetOut};
 ghost use Rattle.admission.specs.Admit.{admitAnswer};
 ghost use Rattle.admission.specs.Given.{admitGiven};
-ghost use Rattle.told.specs.Told.{told, toldEdited, toldSiteRead, toldPlanRead, toldSheetRead};
+ghost use Rattle.told.specs.Told.{told};
+ghost use Rattle.toldfiles.specs.Files.{toldEdited, toldSiteRead, toldPlanRead, toldSheetRead};
 
 // The exports. Each makes its call and converts the answer; a cell is named by a number of two bytes.
 #[no_mangle]
@@ -59,21 +60,21 @@ pub extern "C" fn dugg_clash(site: Site, a: u16, b: u16) -> Answer
 pub extern "C" fn dugg_set_load(site: Site, cell: u16, load: u16) -> EditedSite
     ensures { λ r. ⌜ r ≡ toldEdited (setLoadOf site cell load) ⌝ }
 {
-    told::edited_answer(site.set_load(cell as usize, load))
+    toldfiles::edited_answer(site.set_load(cell as usize, load))
 }
 
 #[no_mangle]
 pub extern "C" fn dugg_set_reach(site: Site, from: u16, to: u16) -> EditedSite
     ensures { λ r. ⌜ r ≡ toldEdited (setReachOf site from to) ⌝ }
 {
-    told::edited_answer(site.set_reach(from as usize, to as usize))
+    toldfiles::edited_answer(site.set_reach(from as usize, to as usize))
 }
 
 #[no_mangle]
 pub extern "C" fn dugg_clear_reach(site: Site, from: u16, to: u16) -> EditedSite
     ensures { λ r. ⌜ r ≡ toldEdited (clearReachOf site from to) ⌝ }
 {
-    told::edited_answer(site.clear_reach(from as usize, to as usize))
+    toldfiles::edited_answer(site.clear_reach(from as usize, to as usize))
 }
 
 #[no_mangle]
@@ -186,7 +187,7 @@ pub extern "C" fn dugg_share_repeated(slots: u16, burst: u16, period: u16, repea
 pub extern "C" fn dugg_read_site(bytes: &[u8]) -> EditedSite
     ensures { λ r. ⌜ r ≡ toldSiteRead (readSite (now (bytes .entry))) ⌝ }
 {
-    told::site_read(sitefile::read_site(bytes))
+    toldfiles::site_read(sitefile::read_site(bytes))
 }
 
 #[no_mangle]
@@ -194,7 +195,7 @@ pub extern "C" fn dugg_write_site(site: Site, out: &mut [u8]) -> Answer
     ensures { λ r. ⌜ r ≡ told (writtenGiven (siteWritten site (now (out .entry)))) ⌝ }
     ensures { λ _. ⌜ now (out .exit) ≡ siteOut site (now (out .entry)) ⌝ }
 {
-    told::written_answer(sitefile::write_site(site, out))
+    toldfiles::written_answer(sitefile::write_site(site, out))
 }
 
 #[no_mangle]
@@ -202,7 +203,7 @@ pub extern "C" fn dugg_read_plan(bytes: &[u8], table: &mut [u8]) -> PlanReadC
     ensures { λ r. ⌜ r ≡ toldPlanRead (readPlan (now (bytes .entry)) (now (table .entry))) ⌝ }
     ensures { λ _. ⌜ now (table .exit) ≡ planTableRead (now (bytes .entry)) (now (table .entry)) ⌝ }
 {
-    told::plan_read(planfile::read_plan(bytes, table))
+    toldfiles::plan_read(planfile::read_plan(bytes, table))
 }
 
 #[no_mangle]
@@ -210,14 +211,14 @@ pub extern "C" fn dugg_write_plan(site: Site, table: &[u8], out: &mut [u8]) -> A
     ensures { λ r. ⌜ r ≡ told (planWrittenGiven (planWritten site (now (table .entry)) (now (out .entry)))) ⌝ }
     ensures { λ _. ⌜ now (out .exit) ≡ planOut site (now (table .entry)) (now (out .entry)) ⌝ }
 {
-    told::plan_written(planfile::write_plan(site, table, out))
+    toldfiles::plan_written(planfile::write_plan(site, table, out))
 }
 
 #[no_mangle]
 pub extern "C" fn dugg_read_sheet(bytes: &[u8], slots: u16, channels: u16) -> EditedSite
     ensures { λ r. ⌜ r ≡ toldSheetRead (readSheet (now (bytes .entry)) slots channels) ⌝ }
 {
-    told::sheet_read(sheet::read_sheet(bytes, slots, channels))
+    toldfiles::sheet_read(sheet::read_sheet(bytes, slots, channels))
 }
 
 #[no_mangle]
@@ -225,7 +226,7 @@ pub extern "C" fn dugg_write_sheet(site: Site, out: &mut [u8]) -> Answer
     ensures { λ r. ⌜ r ≡ told (writtenGiven (sheetWritten site (now (out .entry)))) ⌝ }
     ensures { λ _. ⌜ now (out .exit) ≡ sheetOut site (now (out .entry)) ⌝ }
 {
-    told::written_answer(sheet::write_sheet(site, out))
+    toldfiles::written_answer(sheet::write_sheet(site, out))
 }
 
 #[no_mangle]

@@ -9,7 +9,8 @@ use Rattle.planner.specs.Given.{planGiven}
 use Rattle.wordtable.specs.Plan.{planWordsAnswer, planWords}
 use Rattle.wordtable.specs.Forms.{formAnswer, toWords, toBytes}
 use Rattle.wordtable.specs.Given.{formGiven}
-use Rattle.told.specs.Told.{told, toldPlanRead}
+use Rattle.told.specs.Told.{told}
+use Rattle.toldfiles.specs.Files.{toldPlanRead}
 use Rattle.promises.specs.Untouched.{Idle, Refused, RefusedElse, IdleIfNoRoom, Untouched, UntouchedInC}
 use Rattle.promises.proofs.Demand1.{plan-leaves, plan-read-leaves, site-write-leaves, plan-write-leaves}
 use Rattle.promises.proofs.Words.{plan-words-leaves, forms-leave}

@@ -18,7 +18,7 @@ use Rattle.planfile.specs.Given.{planWrittenGiven}
 use Rattle.planfile.specs.declared.PlanRead.{PlanRead}
 use Rattle.planfile.specs.declared.PlanWritten.{PlanWritten}
 use Rattle.told.specs.declared.Answer.{Answer}
-use Rattle.told.specs.declared.PlanReadC.{PlanReadC}
+use Rattle.toldfiles.specs.declared.PlanReadC.{PlanReadC}
 use Rattle.contracts.specs.PlannerSays.{Plan}
 use Rattle.contracts.specs.WordtableSays.{PlanWords, ToWords, ToBytes}
 use Rattle.contracts.specs.MenderSays.{Mend, MendOnly}

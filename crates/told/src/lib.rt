@@ -6,19 +6,10 @@ use judges::ChainAnswer;
 use judges::LeastAnswer;
 use judges::LoadAnswer;
 use mender::MendAnswer;
-use planfile::PlanRead;
-use planfile::PlanWritten;
 use planner::PlanAnswer;
-use records::ReadAnswer;
-use records::Written;
 use shares::ShareAnswer;
-use sheet::SheetAnswer;
-use sheet::SheetRead;
 use site::ClashAnswer;
-use site::Edited;
 use site::Fault;
-use site::Site;
-use sitefile::SiteRead;
 use wordtable::FormAnswer;
 ghost use mathlib.Core.Path.{_≡_};
 ghost use Rattle.site.specs.Given.{faultGiven, clashGiven};
@@ -29,11 +20,8 @@ ghost use Rattle.checker.specs.Given.{checkGiven};
 ghost use Rattle.wordtable.specs.Given.{formGiven};
 ghost use Rattle.mender.specs.Given.{mendGiven};
 ghost use Rattle.shares.specs.Given.{shareGiven};
-ghost use Rattle.records.specs.Given.{readGiven, writtenGiven};
-ghost use Rattle.planfile.specs.Given.{planWrittenGiven};
-ghost use Rattle.sheet.specs.Given.{sheetGiven};
 ghost use Rattle.admission.specs.Given.{admitGiven};
-ghost use Rattle.told.specs.Told.{numbered, told, toldEdited, toldSiteRead, toldPlanRead, toldSheetRead};
+ghost use Rattle.told.specs.Told.{numbered, told};
 
 // dugg_answer: the number given back, and the values that belong to it.
 #[repr(C)]
@@ -42,24 +30,8 @@ pub struct Answer {
     pub value: [u64; 3],
 }
 
-// dugg_edited: a site and the answer beside it.
-#[repr(C)]
-pub struct EditedSite {
-    pub site: Site,
-    pub answer: Answer,
-}
-
-// dugg_plan_read: what a plan file says of its site, and the answer.
-#[repr(C)]
-pub struct PlanReadC {
-    pub cells: u16,
-    pub slots: u16,
-    pub channels: u16,
-    pub answer: Answer,
-}
-
 // A number and its three values; 0 stands for a value that the document does not name.
-fn give(number: u64, a: usize, b: usize, c: usize) -> Answer
+pub fn give(number: u64, a: usize, b: usize, c: usize) -> Answer
     ensures { λ r. ⌜ r ≡ numbered number a b c ⌝ }
 {
     Answer {
@@ -190,46 +162,6 @@ pub fn share_answer(said: ShareAnswer) -> Answer
     }
 }
 
-pub fn read_answer(said: ReadAnswer) -> Answer
-    ensures { λ r. ⌜ r ≡ told (readGiven said) ⌝ }
-{
-    match said {
-        ReadAnswer::Done => give(0, 0, 0, 0),
-        ReadAnswer::Refused(number, at) => give(number as u64, at, 0, 0),
-    }
-}
-
-pub fn written_answer(said: Written) -> Answer
-    ensures { λ r. ⌜ r ≡ told (writtenGiven said) ⌝ }
-{
-    match said {
-        Written::Done(n) => give(0, n, 0, 0),
-        Written::OutShort(n) => give(13, n, 0, 0),
-        Written::Refused(f) => fault_answer(f),
-    }
-}
-
-pub fn plan_written(said: PlanWritten) -> Answer
-    ensures { λ r. ⌜ r ≡ told (planWrittenGiven said) ⌝ }
-{
-    match said {
-        PlanWritten::Done(n) => give(0, n, 0, 0),
-        PlanWritten::TableShort => give(4, 0, 0, 0),
-        PlanWritten::OutShort(n) => give(13, n, 0, 0),
-        PlanWritten::Refused(f) => fault_answer(f),
-    }
-}
-
-pub fn sheet_answer(said: SheetAnswer) -> Answer
-    ensures { λ r. ⌜ r ≡ told (sheetGiven said) ⌝ }
-{
-    match said {
-        SheetAnswer::Done => give(0, 0, 0, 0),
-        SheetAnswer::BadLine(line) => give(17, line, 0, 0),
-        SheetAnswer::Refused(f) => fault_answer(f),
-    }
-}
-
 pub fn admit_answer(said: AdmitAnswer) -> Answer
     ensures { λ r. ⌜ r ≡ told (admitGiven said) ⌝ }
 {
@@ -241,50 +173,5 @@ pub fn admit_answer(said: AdmitAnswer) -> Answer
         AdmitAnswer::BadFlow(flow) => give(15, flow, 0, 0),
         AdmitAnswer::BigShare(flow) => give(16, flow, 0, 0),
         AdmitAnswer::Refused(f) => fault_answer(f),
-    }
-}
-
-pub fn edited_answer(e: Edited) -> EditedSite
-    ensures { λ r. ⌜ r ≡ toldEdited e ⌝ }
-{
-    let site = e.site;
-    let f = e.answer;
-    EditedSite {
-        site,
-        answer: fault_answer(f),
-    }
-}
-
-pub fn site_read(e: SiteRead) -> EditedSite
-    ensures { λ r. ⌜ r ≡ toldSiteRead e ⌝ }
-{
-    let site = e.site;
-    let a = e.answer;
-    EditedSite {
-        site,
-        answer: read_answer(a),
-    }
-}
-
-pub fn sheet_read(e: SheetRead) -> EditedSite
-    ensures { λ r. ⌜ r ≡ toldSheetRead e ⌝ }
-{
-    let site = e.site;
-    let a = e.answer;
-    EditedSite {
-        site,
-        answer: sheet_answer(a),
-    }
-}
-
-pub fn plan_read(e: PlanRead) -> PlanReadC
-    ensures { λ r. ⌜ r ≡ toldPlanRead e ⌝ }
-{
-    let a = e.answer;
-    PlanReadC {
-        cells: e.cells,
-        slots: e.slots,
-        channels: e.channels,
-        answer: read_answer(a),
     }
 }

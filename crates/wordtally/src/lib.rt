@@ -45,7 +45,13 @@ fn run_end(words: &[u32], p: usize, n: usize) -> usize
 }
 
 // The lowest position with a clash; n where there is none, and then each cell is counted. Equal words that stand together are counted at once.
-pub fn walk(counts: &mut [u32; 32], words: &[u32], n: usize, clash: &[u32; 32], cells: usize) -> usize
+pub fn walk(
+    counts: &mut [u32; 32],
+    words: &[u32],
+    n: usize,
+    clash: &[u32; 32],
+    cells: usize,
+) -> usize
     requires { ⌜ (cells ≤ 32) × (n ≤ 2048) × (n ≤ length (now words)) ⌝ }
     requires { ⌜ CountedTo cells (now words) 0 (now counts) ⌝ }
     ensures lowest { λ r. ⌜ r ≡ first (λ k. clashingWord (now (clash .entry)) cells (getD (now (words .entry)) k 0)) 0 n ⌝ }

@@ -1,8 +1,8 @@
--- `told::plan_written` meets its contract: one step for each arm. Assumes nothing.
+-- `toldfiles::plan_written` meets its contract: one step for each arm. Assumes nothing.
 use Rattle.planfile.specs.Given.{planWrittenGiven}
 use Rattle.told.proofs.Tells.{tells, passes}
-use Rattle.told.proofs.plan_written.Statement.{statement}
-use Rattle.told.proofs.plan_written.Tie as tie
+use Rattle.toldfiles.proofs.plan_written.Statement.{statement}
+use Rattle.toldfiles.proofs.plan_written.Tie as tie
 
 pub plan-written-spec : {M : Type 1} → statement M
 plan-written-spec =

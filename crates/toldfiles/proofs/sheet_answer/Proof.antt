@@ -1,8 +1,8 @@
--- `told::sheet_answer` meets its contract: one step for each arm. Assumes nothing.
+-- `toldfiles::sheet_answer` meets its contract: one step for each arm. Assumes nothing.
 use Rattle.sheet.specs.Given.{sheetGiven}
 use Rattle.told.proofs.Tells.{tells, passes}
-use Rattle.told.proofs.sheet_answer.Statement.{statement}
-use Rattle.told.proofs.sheet_answer.Tie as tie
+use Rattle.toldfiles.proofs.sheet_answer.Statement.{statement}
+use Rattle.toldfiles.proofs.sheet_answer.Tie as tie
 
 pub sheet-answer-spec : {M : Type 1} → statement M
 sheet-answer-spec =

@@ -1,9 +1,9 @@
--- `told::read_answer` meets its contract: one step for each arm. Assumes nothing.
+-- `toldfiles::read_answer` meets its contract: one step for each arm. Assumes nothing.
 use borrow.Author.Needs.{needs}
 use Rattle.records.specs.Given.{readGiven}
 use Rattle.told.proofs.Tells.{tells}
-use Rattle.told.proofs.read_answer.Statement.{statement}
-use Rattle.told.proofs.read_answer.Tie as tie
+use Rattle.toldfiles.proofs.read_answer.Statement.{statement}
+use Rattle.toldfiles.proofs.read_answer.Tie as tie
 
 pub read-answer-spec : {M : Type 1} → statement M
 read-answer-spec =

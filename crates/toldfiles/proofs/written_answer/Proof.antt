@@ -1,8 +1,8 @@
--- `told::written_answer` meets its contract: one step for each arm. Assumes nothing.
+-- `toldfiles::written_answer` meets its contract: one step for each arm. Assumes nothing.
 use Rattle.records.specs.Given.{writtenGiven}
 use Rattle.told.proofs.Tells.{tells, passes}
-use Rattle.told.proofs.written_answer.Statement.{statement}
-use Rattle.told.proofs.written_answer.Tie as tie
+use Rattle.toldfiles.proofs.written_answer.Statement.{statement}
+use Rattle.toldfiles.proofs.written_answer.Tie as tie
 
 pub written-answer-spec : {M : Type 1} → statement M
 written-answer-spec =

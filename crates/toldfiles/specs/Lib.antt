@@ -1,0 +1,2 @@
+-- The definitions of crate `toldfiles`, module by module.
+pub mod Files
