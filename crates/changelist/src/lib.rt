@@ -58,7 +58,7 @@ fn list_at(
 }
 
 // Stores and lists the changes of cell i, of which there are `many`; answers where the next one goes. A cell without changes is not looked at.
-fn list_cell(
+pub fn list_cell(
     table: &mut [u8],
     list: &mut [u16],
     words: &[u32],
@@ -102,23 +102,5 @@ pub fn list_all(
     let mut at: usize = 0;
     for i in 0..cells {
         at = list_cell(table, list, words, n, i, counts[i], at);
-    }
-}
-
-// Stores the changes of every cell, and lists none of them: the list is room to work in, and holds a row's changes at a time.
-pub fn store_all(
-    table: &mut [u8],
-    list: &mut [u16],
-    words: &[u32],
-    counts: &[usize],
-    n: usize,
-    cells: usize,
-)
-    requires { ⌜ (cells ≤ 32) × (n ≤ 2048) × (n ≤ length (now words)) × (cells ≤ length (now counts)) × (cells * n ≤ length (now table)) ⌝ }
-    requires { ⌜ CellsCounted cells n (now words) (now table) (now counts) × (4 * n ≤ length (now list)) ⌝ }
-    ensures { λ _. ⌜ now (table .exit) ≡ tableWith cells n (now (words .entry)) (now (table .entry)) ⌝ }
-{
-    for j in 0..cells {
-        list_cell(table, list, words, n, j, counts[j], 0);
     }
 }

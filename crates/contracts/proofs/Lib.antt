@@ -1,11 +1,13 @@
 -- The laws of crate `contracts`, module by module. Made by tools/surface.
 pub mod SquareOne
+pub mod ReachrowsOne
 pub mod SiteOne
 pub mod WordsOne
 pub mod TextOne
 pub mod FlowlistOne
 pub mod BestsetOne
 pub mod ChainwordsOne
+pub mod DemandsOne
 pub mod RowsOne
 pub mod JudgesOne
 pub mod PlannerOne
@@ -14,7 +16,9 @@ pub mod CheckerOne
 pub mod HeaviestOne
 pub mod SharesOne
 pub mod StandingOne
+pub mod ChangelistOne
 pub mod MenderOne
+pub mod WordformsOne
 pub mod WordtableOne
 pub mod AdmissionOne
 pub mod RecordsOne
@@ -22,6 +26,7 @@ pub mod LinesOne
 pub mod PutlinesOne
 pub mod FlowsheetOne
 pub mod SitefileOne
+pub mod PlanbitsOne
 pub mod PlanfileOne
 pub mod SheetOne
 pub mod SpeechOne
@@ -30,9 +35,11 @@ pub mod InputsOne
 pub mod SayRefusalsOne
 pub mod SayChangesOne
 pub mod SayListingOne
+pub mod ListingOne
 pub mod SayVerdictsOne
 pub mod SayFlowsOne
 pub mod SayWhyOne
 pub mod ToldOne
+pub mod ToldfilesOne
 pub mod CapiOne
 pub mod Every

@@ -1,13 +1,13 @@
 -- For any arguments one answer and one content of what is lent meet the contract, and no other, in crate `told`: by its equalities alone.
 -- Made by tools/surface from the source. Assumes nothing.
 use mathlib.Core.Path.{_≡_, refl}
+use Prim.Native.Nat.{ℕ}
 use Rattle.admission.specs.Given.{admitGiven}
 use Rattle.admission.specs.declared.AdmitAnswer.{AdmitAnswer}
 use Rattle.checker.specs.Given.{checkGiven}
 use Rattle.checker.specs.declared.CheckAnswer.{CheckAnswer}
-use Rattle.contracts.specs.ToldSays.{ToldAdmitAnswer, ToldChainAnswer, ToldCheckAnswer, ToldClashAnswer, ToldEditedAnswer, ToldFaultAnswer}
-use Rattle.contracts.specs.ToldSays.{ToldFormAnswer, ToldHeaviestAnswer, ToldLeastAnswer, ToldLoadAnswer, ToldMendAnswer, ToldPlanAnswer, ToldPlanRead}
-use Rattle.contracts.specs.ToldSays.{ToldPlanWritten, ToldReadAnswer, ToldShareAnswer, ToldSheetAnswer, ToldSheetRead, ToldSiteRead, ToldWrittenAnswer}
+use Rattle.contracts.specs.ToldSays.{ToldAdmitAnswer, ToldChainAnswer, ToldCheckAnswer, ToldClashAnswer, ToldFaultAnswer, ToldFormAnswer, ToldGive}
+use Rattle.contracts.specs.ToldSays.{ToldHeaviestAnswer, ToldLeastAnswer, ToldLoadAnswer, ToldMendAnswer, ToldPlanAnswer, ToldShareAnswer}
 use Rattle.heaviest.specs.Given.{heaviestGiven}
 use Rattle.heaviest.specs.declared.HeaviestAnswer.{HeaviestAnswer}
 use Rattle.judges.specs.Given.{chainGiven, leastGiven, loadGiven}
@@ -16,30 +16,27 @@ use Rattle.judges.specs.declared.LeastAnswer.{LeastAnswer}
 use Rattle.judges.specs.declared.LoadAnswer.{LoadAnswer}
 use Rattle.mender.specs.Given.{mendGiven}
 use Rattle.mender.specs.declared.MendAnswer.{MendAnswer}
-use Rattle.planfile.specs.Given.{planWrittenGiven}
-use Rattle.planfile.specs.declared.PlanRead.{PlanRead}
-use Rattle.planfile.specs.declared.PlanWritten.{PlanWritten}
 use Rattle.planner.specs.Given.{planGiven}
 use Rattle.planner.specs.declared.PlanAnswer.{PlanAnswer}
-use Rattle.records.specs.Given.{readGiven, writtenGiven}
-use Rattle.records.specs.declared.ReadAnswer.{ReadAnswer}
-use Rattle.records.specs.declared.Written.{Written}
 use Rattle.shares.specs.Given.{shareGiven}
 use Rattle.shares.specs.declared.ShareAnswer.{ShareAnswer}
-use Rattle.sheet.specs.Given.{sheetGiven}
-use Rattle.sheet.specs.declared.SheetAnswer.{SheetAnswer}
-use Rattle.sheet.specs.declared.SheetRead.{SheetRead}
 use Rattle.site.specs.Given.{clashGiven, faultGiven}
 use Rattle.site.specs.declared.ClashAnswer.{ClashAnswer}
-use Rattle.site.specs.declared.Edited.{Edited}
 use Rattle.site.specs.declared.Fault.{Fault}
-use Rattle.sitefile.specs.declared.SiteRead.{SiteRead}
-use Rattle.told.specs.Told.{told, toldEdited, toldPlanRead, toldSheetRead, toldSiteRead}
+use Rattle.told.specs.Told.{numbered, told}
 use Rattle.told.specs.declared.Answer.{Answer}
-use Rattle.told.specs.declared.EditedSite.{EditedSite}
-use Rattle.told.specs.declared.PlanReadC.{PlanReadC}
 use Rattle.wordtable.specs.Given.{formGiven}
 use Rattle.wordtable.specs.declared.FormAnswer.{FormAnswer}
+
+-- told::give
+pub toldGive-one : (number : ℕ) (a : ℕ) (b : ℕ) (c : ℕ)
+    → (r : Answer) × (ToldGive number a b c r)
+    × ((q : Answer) → ToldGive number a b c q → (q ≡ r))
+toldGive-one number a b c = (
+  numbered number a b c,
+  record { answer = refl },
+  λ q says. says .answer,
+)
 
 -- told::fault_answer
 pub toldFaultAnswer-one : (said : Fault)
@@ -151,92 +148,12 @@ toldShareAnswer-one said = (
   λ q says. says .answer,
 )
 
--- told::read_answer
-pub toldReadAnswer-one : (said : ReadAnswer)
-    → (r : Answer) × (ToldReadAnswer said r)
-    × ((q : Answer) → ToldReadAnswer said q → (q ≡ r))
-toldReadAnswer-one said = (
-  told (readGiven said),
-  record { answer = refl },
-  λ q says. says .answer,
-)
-
--- told::written_answer
-pub toldWrittenAnswer-one : (said : Written)
-    → (r : Answer) × (ToldWrittenAnswer said r)
-    × ((q : Answer) → ToldWrittenAnswer said q → (q ≡ r))
-toldWrittenAnswer-one said = (
-  told (writtenGiven said),
-  record { answer = refl },
-  λ q says. says .answer,
-)
-
--- told::plan_written
-pub toldPlanWritten-one : (said : PlanWritten)
-    → (r : Answer) × (ToldPlanWritten said r)
-    × ((q : Answer) → ToldPlanWritten said q → (q ≡ r))
-toldPlanWritten-one said = (
-  told (planWrittenGiven said),
-  record { answer = refl },
-  λ q says. says .answer,
-)
-
--- told::sheet_answer
-pub toldSheetAnswer-one : (said : SheetAnswer)
-    → (r : Answer) × (ToldSheetAnswer said r)
-    × ((q : Answer) → ToldSheetAnswer said q → (q ≡ r))
-toldSheetAnswer-one said = (
-  told (sheetGiven said),
-  record { answer = refl },
-  λ q says. says .answer,
-)
-
 -- told::admit_answer
 pub toldAdmitAnswer-one : (said : AdmitAnswer)
     → (r : Answer) × (ToldAdmitAnswer said r)
     × ((q : Answer) → ToldAdmitAnswer said q → (q ≡ r))
 toldAdmitAnswer-one said = (
   told (admitGiven said),
-  record { answer = refl },
-  λ q says. says .answer,
-)
-
--- told::edited_answer
-pub toldEditedAnswer-one : (e : Edited)
-    → (r : EditedSite) × (ToldEditedAnswer e r)
-    × ((q : EditedSite) → ToldEditedAnswer e q → (q ≡ r))
-toldEditedAnswer-one e = (
-  toldEdited e,
-  record { answer = refl },
-  λ q says. says .answer,
-)
-
--- told::site_read
-pub toldSiteRead-one : (e : SiteRead)
-    → (r : EditedSite) × (ToldSiteRead e r)
-    × ((q : EditedSite) → ToldSiteRead e q → (q ≡ r))
-toldSiteRead-one e = (
-  toldSiteRead e,
-  record { answer = refl },
-  λ q says. says .answer,
-)
-
--- told::sheet_read
-pub toldSheetRead-one : (e : SheetRead)
-    → (r : EditedSite) × (ToldSheetRead e r)
-    × ((q : EditedSite) → ToldSheetRead e q → (q ≡ r))
-toldSheetRead-one e = (
-  toldSheetRead e,
-  record { answer = refl },
-  λ q says. says .answer,
-)
-
--- told::plan_read
-pub toldPlanRead-one : (e : PlanRead)
-    → (r : PlanReadC) × (ToldPlanRead e r)
-    × ((q : PlanReadC) → ToldPlanRead e q → (q ≡ r))
-toldPlanRead-one e = (
-  toldPlanRead e,
   record { answer = refl },
   λ q says. says .answer,
 )

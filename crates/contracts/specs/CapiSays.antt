@@ -31,10 +31,11 @@ use Rattle.site.specs.Record.{faultOf}
 use Rattle.site.specs.declared.Site.{Site}
 use Rattle.sitefile.specs.Read.{readSite}
 use Rattle.sitefile.specs.Write.{siteOut, siteWritten}
-use Rattle.told.specs.Told.{told, toldEdited, toldPlanRead, toldSheetRead, toldSiteRead}
+use Rattle.told.specs.Told.{told}
 use Rattle.told.specs.declared.Answer.{Answer}
-use Rattle.told.specs.declared.EditedSite.{EditedSite}
-use Rattle.told.specs.declared.PlanReadC.{PlanReadC}
+use Rattle.toldfiles.specs.Files.{toldEdited, toldPlanRead, toldSheetRead, toldSiteRead}
+use Rattle.toldfiles.specs.declared.EditedSite.{EditedSite}
+use Rattle.toldfiles.specs.declared.PlanReadC.{PlanReadC}
 use Rattle.wordtable.specs.Check.{checkWordsAnswer}
 use Rattle.wordtable.specs.Forms.{formAnswer, toBytes, toWords}
 use Rattle.wordtable.specs.Given.{formGiven}

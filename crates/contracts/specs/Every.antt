@@ -45,8 +45,8 @@ use Rattle.site.specs.declared.Fault.{Fault}
 use Rattle.site.specs.declared.Site.{Site}
 use Rattle.sitefile.specs.declared.SiteRead.{SiteRead}
 use Rattle.told.specs.declared.Answer.{Answer}
-use Rattle.told.specs.declared.EditedSite.{EditedSite}
-use Rattle.told.specs.declared.PlanReadC.{PlanReadC}
+use Rattle.toldfiles.specs.declared.EditedSite.{EditedSite}
+use Rattle.toldfiles.specs.declared.PlanReadC.{PlanReadC}
 use Rattle.wordtable.specs.declared.FormAnswer.{FormAnswer}
 
 pub record EveryCall : Type 0 where

@@ -1,11 +1,13 @@
 -- The definitions of crate `contracts`, module by module. Made by tools/surface.
 pub mod SquareSays
+pub mod ReachrowsSays
 pub mod SiteSays
 pub mod WordsSays
 pub mod TextSays
 pub mod FlowlistSays
 pub mod BestsetSays
 pub mod ChainwordsSays
+pub mod DemandsSays
 pub mod RowsSays
 pub mod JudgesSays
 pub mod PlannerSays
@@ -14,7 +16,9 @@ pub mod CheckerSays
 pub mod HeaviestSays
 pub mod SharesSays
 pub mod StandingSays
+pub mod ChangelistSays
 pub mod MenderSays
+pub mod WordformsSays
 pub mod WordtableSays
 pub mod AdmissionSays
 pub mod RecordsSays
@@ -22,6 +26,7 @@ pub mod LinesSays
 pub mod PutlinesSays
 pub mod FlowsheetSays
 pub mod SitefileSays
+pub mod PlanbitsSays
 pub mod PlanfileSays
 pub mod SheetSays
 pub mod SpeechSays
@@ -30,9 +35,11 @@ pub mod InputsSays
 pub mod SayRefusalsSays
 pub mod SayChangesSays
 pub mod SayListingSays
+pub mod ListingSays
 pub mod SayVerdictsSays
 pub mod SayFlowsSays
 pub mod SayWhySays
 pub mod ToldSays
+pub mod ToldfilesSays
 pub mod CapiSays
 pub mod Every

@@ -4,14 +4,15 @@
 // them. Nothing lent is written before the outcome is known. The local room is a word for each position, 8 kilobytes, and a number for each cell: no second
 // table. Without a list there are 16 kilobytes more, for the changes of one row.
 use changelist::list_all;
-use changelist::store_all;
+use changelist::list_cell;
 use site::Fault;
 use site::Site;
 use standing::Stood;
 ghost use mathlib.Core.Path.{_≡_};
-ghost use Prim.Native.Nat.{_≤_};
+ghost use Prim.Native.Nat.{_*_, _≤_};
 ghost use lib.ListN.{length};
 ghost use Rattle.laws.specs.Part.{Zeros};
+ghost use Rattle.changelist.specs.Words.{tableWith, CellsCounted};
 ghost use Rattle.mender.specs.Mend.{MendStands, listRoom, mendAnswer, mendTable, mendList};
 
 // What the mender answers: done, with the number of changes; 4, the table is short; 5, a cell's number and how many of its fragments found no room; 13, the
@@ -22,6 +23,24 @@ pub enum MendAnswer {
     NoRoom(usize, usize),
     ListShort(usize),
     Refused(Fault),
+}
+
+// Stores the changes of every cell, and lists none of them: the list is room to work in, and holds a row's changes at a time.
+fn store_all(
+    table: &mut [u8],
+    list: &mut [u16],
+    words: &[u32],
+    counts: &[usize],
+    n: usize,
+    cells: usize,
+)
+    requires { ⌜ (cells ≤ 32) × (n ≤ 2048) × (n ≤ length (now words)) × (cells ≤ length (now counts)) × (cells * n ≤ length (now table)) ⌝ }
+    requires { ⌜ CellsCounted cells n (now words) (now table) (now counts) × (4 * n ≤ length (now list)) ⌝ }
+    ensures { λ _. ⌜ now (table .exit) ≡ tableWith cells n (now (words .entry)) (now (table .entry)) ⌝ }
+{
+    for j in 0..cells {
+        list_cell(table, list, words, n, j, counts[j], 0);
+    }
 }
 
 // Every cell's turn, for a site and its table: the answer where the list has room. The words and counts that are lent are 0; where it is done they

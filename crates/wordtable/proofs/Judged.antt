@@ -21,7 +21,7 @@ use Rattle.checker.specs.Check.{verdictOf}
 use Rattle.checker.specs.declared.CheckAnswer.the-variants.{Valid, Clash, Count}
 use Rattle.checker.proofs.Judged.{judged-by}
 use Rattle.wordforms.specs.Words.{sendsAt}
-use Rattle.wordtally.specs.Tally.{clashingWord, CountedTo, miscounted}
+use Rattle.wordtable.specs.Tally.{clashingWord, CountedTo, miscounted}
 use Rattle.wordtable.specs.Check.{checkWordsAnswer}
 
 module _ (cells n : ℕ) (loads rows words : List ℕ) where

@@ -1,4 +1,5 @@
 -- The definitions of crate `wordtable`, module by module.
+pub mod Tally
 pub mod Plan
 pub mod Check
 pub mod Forms

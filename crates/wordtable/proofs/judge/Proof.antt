@@ -4,7 +4,7 @@ use native.Mathlib.Omega.{arith}
 use lib.ListN.{getD}
 use Rattle.laws.proofs.Sums.{count-most}
 use Rattle.wordforms.specs.Words.{sendsAt}
-use Rattle.wordtally.proofs.Runs.{none-counted}
+use Rattle.wordtable.proofs.Runs.{none-counted}
 use Rattle.wordtable.proofs.Judged.{first-inside, second-most, is-clash, is-count, is-valid}
 use borrow.Author.Needs.{needs}
 use Rattle.wordtable.proofs.judge.Statement.{statement}

@@ -41,7 +41,7 @@ returns c =
 mul-n : tie.Need-mul-n
 mul-n c = omega (arith, few-positions (sizes (c .before .before .before)))
 
-gather-words-requires : tie.Need-gather-words-words-requires
+gather-words-requires : tie.Need-gather-words-requires
 gather-words-requires c κs =
     let told = c .before .before .before .before in
     (sizes told .cells-most, good told .words, good told .table)

@@ -23,7 +23,7 @@ use Rattle.laws.proofs.Upward.{fromOn, walk-done, walk-inside, walk-from, walk-
 use Rattle.laws.proofs.Words.{word-mod, word-eq}
 use Rattle.words.specs.Clashes.{secondIn, clashesIn, firstIn}
 use Rattle.words.proofs.Words.{from-shares}
-use Rattle.wordtally.specs.Tally.{clashingWord, Added}
+use Rattle.wordtable.specs.Tally.{clashingWord, Added}
 
 module _ (n word times : ℕ) (rows before : List ℕ) where
   -- the cells of the word below k are looked at

@@ -1,13 +1,13 @@
--- `wordtally::tally` meets its contract: before each turn the cells of the word below some k are looked at, and the rest are left (proofs/Counts.antt).
+-- `wordtable::tally` meets its contract: before each turn the cells of the word below some k are looked at, and the rest are left (proofs/Counts.antt).
 -- What is left gets smaller with each. Assumes nothing.
 use mathlib.Core.Path.{_≡_, refl, ap}
 use Prim.Native.Nat.{ℕ, _+_, _<_}
 use native.Mathlib.Omega.{arith}
 use lib.Bits.{bitAnd}
 use lib.Count.{trailingZeros, trailing-le}
-use Rattle.wordtally.proofs.Counts.{Tallied, none-tallied, all-added, all-meet, at-inside, not-yet, onward-less, one-tallied}
-use Rattle.wordtally.proofs.tally.Statement.{statement}
-use Rattle.wordtally.proofs.tally.Tie as tie
+use Rattle.wordtable.proofs.Counts.{Tallied, none-tallied, all-added, all-meet, at-inside, not-yet, onward-less, one-tallied}
+use Rattle.wordtable.proofs.tally.Statement.{statement}
+use Rattle.wordtable.proofs.tally.Tie as tie
 
 abbrev Inv-loop : tie.InvT-loop
 Inv-loop counts₀ word times clash cells met₀ left₀ counts met left = (k : ℕ) × Tallied cells word times clash counts₀ k counts met left

@@ -1,4 +1,4 @@
--- `wordtally::lowest_wrong` meets its contract: a search: what is left gives the answer. Assumes nothing.
+-- `wordtable::lowest_wrong` meets its contract: a search: what is left gives the answer. Assumes nothing.
 use mathlib.Core.Path.{_≡_, refl, ap}
 use mathlib.Core.Bool.{not}
 use Prim.Native.Nat.{_-_}
@@ -7,10 +7,10 @@ use lib.ListN.{getD}
 use borrow.Author.Tests.{eq-eqb, ne-eqb}
 use Rattle.laws.specs.Search.{first}
 use Rattle.laws.proofs.Search.{found, missed, ended}
-use Rattle.wordtally.specs.Tally.{miscounted}
+use Rattle.wordtable.specs.Tally.{miscounted}
 use borrow.Author.Needs.{needs}
-use Rattle.wordtally.proofs.lowest_wrong.Statement.{statement}
-use Rattle.wordtally.proofs.lowest_wrong.Tie as tie
+use Rattle.wordtable.proofs.lowest_wrong.Statement.{statement}
+use Rattle.wordtable.proofs.lowest_wrong.Tie as tie
 
 abbrev Inv-loop : tie.InvT-loop
 Inv-loop counts cells loads i₀ i = first (miscounted counts loads) 0 cells ≡ first (miscounted counts loads) i cells

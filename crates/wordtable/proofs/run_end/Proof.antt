@@ -1,4 +1,4 @@
--- `wordtally::run_end` meets its contract: a search: what is left gives the answer. Assumes nothing.
+-- `wordtable::run_end` meets its contract: a search: what is left gives the answer. Assumes nothing.
 use mathlib.Core.Path.{_≡_, refl, ap}
 use mathlib.Core.Bool.{not}
 use Prim.Native.Nat.{_+_, _-_, _<_}
@@ -7,10 +7,10 @@ use lib.ListN.{getD}
 use borrow.Author.Tests.{eq-eqb, ne-eqb}
 use Rattle.laws.specs.Search.{first}
 use Rattle.laws.proofs.Search.{found, missed, ended}
-use Rattle.wordtally.specs.Tally.{differs}
+use Rattle.wordtable.specs.Tally.{differs}
 use borrow.Author.Needs.{needs}
-use Rattle.wordtally.proofs.run_end.Statement.{statement}
-use Rattle.wordtally.proofs.run_end.Tie as tie
+use Rattle.wordtable.proofs.run_end.Statement.{statement}
+use Rattle.wordtable.proofs.run_end.Tie as tie
 
 abbrev Inv-loop : tie.InvT-loop
 Inv-loop words p n word k₀ k = (p < k) × (first (differs words p) (p + 1) n ≡ first (differs words p) k n)

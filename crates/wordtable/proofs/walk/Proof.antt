@@ -1,4 +1,4 @@
--- `wordtally::walk` meets its contract: a search over the runs of equal words: what is left gives the answer, and what is passed is counted. Assumes nothing.
+-- `wordtable::walk` meets its contract: a search over the runs of equal words: what is left gives the answer, and what is passed is counted. Assumes nothing.
 use mathlib.Core.Path.{_≡_, refl, sym, ap, _∙_}
 use mathlib.Core.Bool.{true, false, not}
 use Prim.Native.Nat.{_-_, _≤_, _<_}
@@ -9,10 +9,10 @@ use borrow.Author.Needs.{needs}
 use borrow.Author.Tests.{eq-eqb, ne-eqb}
 use Rattle.laws.specs.Search.{first}
 use Rattle.laws.proofs.Search.{found, ended}
-use Rattle.wordtally.specs.Tally.{clashingWord, CountedTo}
-use Rattle.wordtally.proofs.Runs.{run-least, run-most, run-passed, run-room, run-counted}
-use Rattle.wordtally.proofs.walk.Statement.{statement}
-use Rattle.wordtally.proofs.walk.Tie as tie
+use Rattle.wordtable.specs.Tally.{clashingWord, CountedTo}
+use Rattle.wordtable.proofs.Runs.{run-least, run-most, run-passed, run-room, run-counted}
+use Rattle.wordtable.proofs.walk.Statement.{statement}
+use Rattle.wordtable.proofs.walk.Tie as tie
 
 abbrev Inv-loop : tie.InvT-loop
 Inv-loop counts₀ words n clash cells p₀ counts p =

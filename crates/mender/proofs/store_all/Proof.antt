@@ -1,4 +1,4 @@
--- `changelist::store_all` meets its contract: at the head of the loop the changes of the cells below j are stored, and later rows are as they were.
+-- `mender::store_all` meets its contract: at the head of the loop the changes of the cells below j are stored, and later rows are as they were.
 -- A row's changes fit the list, since a cell has at most as many as positions. Assumes nothing.
 use mathlib.Core.Path.{_≡_, refl, sym, ap, _∙_}
 use Prim.Native.Nat.{_-_, _≤_, _<_}
@@ -11,10 +11,10 @@ use Rattle.theory.specs.Greedy.{reserved}
 use Rattle.mending.specs.Changes.{changed, cellChanges, changes, follow}
 use Rattle.mending.proofs.Follow.{cell-long}
 use Rattle.standing.specs.Words.{standsIn}
 use Rattle.changelist.proofs.Lists.{same-count, table-cell}
 use borrow.Author.Needs.{needs}
-use Rattle.changelist.proofs.store_all.Statement.{statement}
-use Rattle.changelist.proofs.store_all.Tie as tie
+use Rattle.mender.proofs.store_all.Statement.{statement}
+use Rattle.mender.proofs.store_all.Tie as tie
 
 abbrev Inv-loop : tie.InvT-loop
 Inv-loop table₀ list₀ words counts n cells j₀ table list j =

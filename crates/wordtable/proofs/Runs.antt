@@ -18,7 +18,7 @@ use Rattle.laws.specs.Sum.{sum, count}
 use Rattle.laws.proofs.Search.{first-least, first-most, first-before, first-skip}
 use Rattle.laws.proofs.Sums.{count-same, count-most}
 use Rattle.wordforms.specs.Words.{sendsAt}
-use Rattle.wordtally.specs.Tally.{differs, Room, Added, CountedTo}
+use Rattle.wordtable.specs.Tally.{differs, Room, Added, CountedTo}
 
 -- no word yet
 pub none-counted : (cells : ℕ) (words : List ℕ) → cells ≤ 32 → CountedTo cells words 0 (replicate 32 0)

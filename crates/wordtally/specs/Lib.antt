@@ -1,2 +1,0 @@
--- The definitions of crate `wordtally`, module by module.
-pub mod Tally
