@@ -3,6 +3,7 @@ pub mod SquareOne
 pub mod ReachrowsOne
 pub mod SiteOne
 pub mod WordsOne
+pub mod LoadsOne
 pub mod TextOne
 pub mod FlowlistOne
 pub mod BestsetOne

@@ -4,18 +4,13 @@ use mathlib.Core.Path.{_≡_, refl}
 use mathlib.Core.Bool.{Bool, _&&_, not}
 use mathlib.Core.List.{List}
 use Prim.Native.Nat.{ℕ}
-use Rattle.contracts.specs.WordsSays.{WordsAddRow, WordsApart, WordsFirstIn, WordsGreater, WordsHas, WordsJoinRow, WordsLay, WordsLoaded, WordsLoadedIn}
-use Rattle.contracts.specs.WordsSays.{WordsLoadsOf, WordsLoadsOfMany, WordsLowest, WordsSecondIn, WordsWide, WordsWordAt}
+use Rattle.contracts.specs.WordsSays.{WordsAddRow, WordsApart, WordsFirstIn, WordsHas, WordsJoinRow, WordsLay, WordsLowest, WordsSecondIn, WordsWordAt}
 use Rattle.laws.specs.Bits.{bitAt, wordOf}
-use Rattle.laws.specs.Most.{greater}
 use Rattle.laws.specs.Part.{listOf}
 use Rattle.laws.specs.Search.{first}
 use Rattle.theory.specs.Greedy.{reserved}
 use Rattle.words.specs.Clashes.{firstIn, secondIn}
-use Rattle.words.specs.Loads.{loadsIn}
 use Rattle.words.specs.Words.{joinedRow, markedRow, wordAt}
-use lib.Dec.{ltb}
-use lib.ListN.{getD}
 use lib.Seq.{sets}
 
 -- words::lay
@@ -105,66 +100,6 @@ pub wordsFirstIn-one : (word : ℕ) (clash : List ℕ) (cells : ℕ)
     × ((q : ℕ) → WordsFirstIn word clash cells q → (q ≡ r))
 wordsFirstIn-one word clash cells = (
   firstIn word clash cells,
-  record { answer = refl },
-  λ q says. says .answer,
-)
-
--- words::wide
-pub wordsWide-one : (x : ℕ)
-    → (r : ℕ) × (WordsWide x r)
-    × ((q : ℕ) → WordsWide x q → (q ≡ r))
-wordsWide-one x = (
-  x,
-  record { answer = refl },
-  λ q says. says .answer,
-)
-
--- words::greater
-pub wordsGreater-one : (a : ℕ) (b : ℕ)
-    → (r : ℕ) × (WordsGreater a b r)
-    × ((q : ℕ) → WordsGreater a b q → (q ≡ r))
-wordsGreater-one a b = (
-  greater a b,
-  record { answer = refl },
-  λ q says. says .answer,
-)
-
--- words::loaded
-pub wordsLoaded-one : (loads : List ℕ)
-    → (r : ℕ) × (WordsLoaded loads r)
-    × ((q : ℕ) → WordsLoaded loads q → (q ≡ r))
-wordsLoaded-one loads = (
-  wordOf (λ i. ltb 0 (getD loads i 0)) 32,
-  record { answer = refl },
-  λ q says. says .answer,
-)
-
--- words::loaded_in
-pub wordsLoadedIn-one : (loads : List ℕ) (cells : ℕ)
-    → (r : ℕ) × (WordsLoadedIn loads cells r)
-    × ((q : ℕ) → WordsLoadedIn loads cells q → (q ≡ r))
-wordsLoadedIn-one loads cells = (
-  wordOf (λ i. ltb 0 (getD loads i 0)) cells,
-  record { answer = refl },
-  λ q says. says .answer,
-)
-
--- words::loads_of_many
-pub wordsLoadsOfMany-one : (loads : List ℕ) (word : ℕ)
-    → (r : ℕ) × (WordsLoadsOfMany loads word r)
-    × ((q : ℕ) → WordsLoadsOfMany loads word q → (q ≡ r))
-wordsLoadsOfMany-one loads word = (
-  loadsIn loads word,
-  record { answer = refl },
-  λ q says. says .answer,
-)
-
--- words::loads_of
-pub wordsLoadsOf-one : (loads : List ℕ) (word : ℕ)
-    → (r : ℕ) × (WordsLoadsOf loads word r)
-    × ((q : ℕ) → WordsLoadsOf loads word q → (q ≡ r))
-wordsLoadsOf-one loads word = (
-  loadsIn loads word,
   record { answer = refl },
   λ q says. says .answer,
 )

@@ -3,6 +3,7 @@ pub mod SquareSays
 pub mod ReachrowsSays
 pub mod SiteSays
 pub mod WordsSays
+pub mod LoadsSays
 pub mod TextSays
 pub mod FlowlistSays
 pub mod BestsetSays

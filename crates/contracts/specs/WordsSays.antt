@@ -5,15 +5,11 @@ use mathlib.Core.Bool.{Bool, _&&_, not}
 use mathlib.Core.List.{List}
 use Prim.Native.Nat.{ℕ}
 use Rattle.laws.specs.Bits.{bitAt, wordOf}
-use Rattle.laws.specs.Most.{greater}
 use Rattle.laws.specs.Part.{listOf}
 use Rattle.laws.specs.Search.{first}
 use Rattle.theory.specs.Greedy.{reserved}
 use Rattle.words.specs.Clashes.{firstIn, secondIn}
-use Rattle.words.specs.Loads.{loadsIn}
 use Rattle.words.specs.Words.{joinedRow, markedRow, wordAt}
-use lib.Dec.{ltb}
-use lib.ListN.{getD}
 use lib.Seq.{sets}
 
 -- words::lay
@@ -53,27 +49,3 @@ pub record WordsSecondIn (word : ℕ) (clash : List ℕ) (cells : ℕ) (a : ℕ)
 -- words::first_in
 pub record WordsFirstIn (word : ℕ) (clash : List ℕ) (cells : ℕ) (r : ℕ) : Type 0 where
   pub answer : r ≡ firstIn word clash cells
-
--- words::wide
-pub record WordsWide (x : ℕ) (r : ℕ) : Type 0 where
-  pub answer : r ≡ x
-
--- words::greater
-pub record WordsGreater (a : ℕ) (b : ℕ) (r : ℕ) : Type 0 where
-  pub answer : r ≡ greater a b
-
--- words::loaded
-pub record WordsLoaded (loads : List ℕ) (r : ℕ) : Type 0 where
-  pub answer : r ≡ wordOf (λ i. ltb 0 (getD loads i 0)) 32
-
--- words::loaded_in
-pub record WordsLoadedIn (loads : List ℕ) (cells : ℕ) (r : ℕ) : Type 0 where
-  pub answer : r ≡ wordOf (λ i. ltb 0 (getD loads i 0)) cells
-
--- words::loads_of_many
-pub record WordsLoadsOfMany (loads : List ℕ) (word : ℕ) (r : ℕ) : Type 0 where
-  pub answer : r ≡ loadsIn loads word
-
--- words::loads_of
-pub record WordsLoadsOf (loads : List ℕ) (word : ℕ) (r : ℕ) : Type 0 where
-  pub answer : r ≡ loadsIn loads word

@@ -6,7 +6,7 @@ use lib.Dec.{ltb}
 use lib.ListN.{getD}
 use Rattle.laws.specs.Bits.{bitAt}
 use Rattle.laws.specs.Choice.{pick}
-use Rattle.words.specs.Loads.{loadsBelow}
+use Rattle.loads.specs.Loads.{loadsBelow}
 
 -- "its load plus the loads of its lower-numbered clashing cells", by the cell's clash row
 abbrev pub demandAt : List ℕ → ℕ → ℕ → ℕ

@@ -1,8 +1,8 @@
 // The demands of a site's cells, over the loads, the clash rows and the word of the cells that count: the first that is over, and the greatest.
+use loads::greater;
+use loads::loads_of;
+use loads::wide;
 use words::has;
-use words::loads::greater;
-use words::loads::loads_of;
-use words::loads::wide;
 ghost use mathlib.Core.Path.{_≡_};
 ghost use Prim.Native.Nat.{_≤_, _<_};
 ghost use lib.ListN.{getD};

@@ -9,9 +9,9 @@ use chainwords::gap;
 use demands::demand;
 use demands::first_over;
 use demands::most_demand;
+use loads::loaded;
 use site::Fault;
 use site::Site;
-use words::loads::loaded;
 
 // The load test's verdict: it holds, or the lowest cell that is over, by number, and by how much.
 pub enum LoadAnswer {

@@ -21,10 +21,10 @@ ghost use Rattle.words.specs.Words.{outWords};
 ghost use Rattle.planner.specs.Plan.{answerOf};
 ghost use Rattle.stretches.specs.Stretches.{laidTo, leftTo, inNeed, shortest, spent};
 ghost use Rattle.site.specs.Reach.{netBy};
+use loads::loaded_in;
 use planner::PlanAnswer;
 use words::apart;
 use words::lay;
-use words::loads::loaded_in;
 use words::lowest;
 
 // A stretch: the word of its positions, and for how many it stays.

@@ -14,7 +14,7 @@ use Rattle.laws.proofs.Bits.{one-shl}
 use Rattle.laws.proofs.Lowest.{bit-all}
 use Rattle.laws.proofs.Bits.{bit-and}
 use Rattle.laws.proofs.Sums.{sum-eq, sum-stop}
-use Rattle.words.specs.Loads.{loadsBelow, loadsIn}
+use Rattle.loads.specs.Loads.{loadsBelow, loadsIn}
 use borrow.Author.Needs.{needs}
 use Rattle.demands.proofs.demand.Statement.{statement}
 use Rattle.demands.proofs.demand.Tie as tie

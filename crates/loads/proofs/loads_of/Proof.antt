@@ -1,4 +1,4 @@
--- `words::loads::loads_of` meets its contract: when the loop stands at cell j of the word, the loads of the cells below j are summed,
+-- `loads::loads_of` meets its contract: when the loop stands at cell j of the word, the loads of the cells below j are summed,
 -- since those passed over add nothing.
 -- Assumes nothing.
 use Prim.Native.Nat.{ℕ, _+_, _-_, _*_, _≤_, _<_}
@@ -14,10 +14,10 @@ use Rattle.laws.specs.Sum.{sum}
 use Rattle.laws.proofs.Lowest.{sum-first}
 use Rattle.laws.proofs.Search.{first-least, first-most, first-passes}
 use Rattle.laws.proofs.Sums.{sum-more}
-use Rattle.words.specs.Loads.{loadsBelow}
+use Rattle.loads.specs.Loads.{loadsBelow}
 use borrow.Author.Needs.{needs}
-use Rattle.words.proofs.loads.loads_of.Statement.{statement}
-use Rattle.words.proofs.loads.loads_of.Tie as tie
+use Rattle.loads.proofs.loads_of.Statement.{statement}
+use Rattle.loads.proofs.loads_of.Tie as tie
 
 -- what cell i adds
 abbrev adds : List ℕ → ℕ → ℕ → ℕ

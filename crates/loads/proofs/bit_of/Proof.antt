@@ -1,9 +1,9 @@
--- `words::loads::bit_of` meets its contract: a case for each way out. Assumes nothing.
+-- `loads::bit_of` meets its contract: a case for each way out. Assumes nothing.
 use Prim.Native.Nat.{_≤_, _<_}
 use native.Mathlib.Omega.{arith}
 use borrow.Author.Tests.{lt-ltb, le-ltb}
-use Rattle.words.proofs.loads.bit_of.Statement.{statement}
-use Rattle.words.proofs.loads.bit_of.Tie as tie
+use Rattle.loads.proofs.bit_of.Statement.{statement}
+use Rattle.loads.proofs.bit_of.Tie as tie
 
 returns : tie.Need-returns
 returns c = let h : 0 < c .before .args .load = omega (arith, c .if1 .taken) in rw (lt-ltb _ _ h)

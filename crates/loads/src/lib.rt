@@ -7,8 +7,8 @@ ghost use lib.ListN.{length, getD};
 ghost use Rattle.laws.specs.Bits.{bitAt, wordOf};
 ghost use Rattle.laws.specs.Choice.{pick};
 ghost use Rattle.laws.specs.Most.{greater};
-ghost use Rattle.words.specs.Loads.{loadsIn};
-use crate::lowest;
+ghost use Rattle.loads.specs.Loads.{loadsIn};
+use words::lowest;
 
 // A load as a number that sums of loads fit, with its bound.
 pub fn wide(x: u16) -> u32

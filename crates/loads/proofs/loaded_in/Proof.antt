@@ -1,4 +1,4 @@
--- `words::loads::loaded_in` meets its contract: before cell i, the word of the cells below i that are loaded. Assumes nothing.
+-- `loads::loaded_in` meets its contract: before cell i, the word of the cells below i that are loaded. Assumes nothing.
 use mathlib.Core.Bool.{Bool}
 use mathlib.Core.List.{List}
 use mathlib.Core.Path.{_≡_, sym, ap, ap₂, _∙_}
@@ -12,8 +12,8 @@ use Rattle.laws.specs.Choice.{pick}
 use Rattle.laws.proofs.Bits.{one-shl}
 use Rattle.laws.proofs.Words.{word-zero, word-more}
 use borrow.Author.Needs.{needs}
-use Rattle.words.proofs.loads.loaded_in.Statement.{statement}
-use Rattle.words.proofs.loads.loaded_in.Tie as tie
+use Rattle.loads.proofs.loaded_in.Statement.{statement}
+use Rattle.loads.proofs.loaded_in.Tie as tie
 
 abbrev has : List ℕ → ℕ → Bool
 has loads i = ltb 0 (getD loads i 0)

@@ -1,4 +1,4 @@
--- `words::loads::part` meets its contract: a bit times the load is the load or nothing, and a load is a `u16`. Assumes nothing.
+-- `loads::part` meets its contract: a bit times the load is the load or nothing, and a load is a `u16`. Assumes nothing.
 use mathlib.Core.Path.{_≡_}
 use Prim.Native.Nat.{ℕ, zero, suc, _/_, _%_, _*_, _≤_, _<_, _^_}
 use native.Mathlib.Nat.{mod-lt}
@@ -6,8 +6,8 @@ use native.Mathlib.Omega.{arith}
 use lib.Dec.{eqb, lit<}
 use Rattle.laws.specs.Choice.{pick}
 use borrow.Author.Needs.{needs}
-use Rattle.words.proofs.loads.part.Statement.{statement}
-use Rattle.words.proofs.loads.part.Tie as tie
+use Rattle.loads.proofs.part.Statement.{statement}
+use Rattle.loads.proofs.part.Tie as tie
 
 times : (u load : ℕ) → u < 2 → load ≤ 65535 → (u * load ≡ pick (eqb u 1) load 0) × (u * load ≤ 65535)
 times zero load h g = (omega arith, omega arith)

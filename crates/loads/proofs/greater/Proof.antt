@@ -1,9 +1,9 @@
--- `words::loads::greater` meets its contract: a case for each way out. Assumes nothing.
+-- `loads::greater` meets its contract: a case for each way out. Assumes nothing.
 use Prim.Native.Nat.{_≤_, _<_}
 use native.Mathlib.Omega.{arith}
 use borrow.Author.Tests.{lt-ltb, le-ltb}
-use Rattle.words.proofs.loads.greater.Statement.{statement}
-use Rattle.words.proofs.loads.greater.Tie as tie
+use Rattle.loads.proofs.greater.Statement.{statement}
+use Rattle.loads.proofs.greater.Tie as tie
 
 returns : tie.Need-returns
 returns c = let h : c .before .args .a < c .before .args .b = omega (arith, c .if1 .taken) in rw (lt-ltb _ _ h)

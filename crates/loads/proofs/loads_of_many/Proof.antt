@@ -1,4 +1,4 @@
--- `words::loads::loads_of_many` meets its contract: before cell j, the loads of the cells below j, each at most 65,535. Assumes nothing.
+-- `loads::loads_of_many` meets its contract: before cell j, the loads of the cells below j, each at most 65,535. Assumes nothing.
 use Prim.Native.Nat.{ℕ, _+_, _-_, _*_, _≤_}
 use mathlib.Core.Path.{_≡_, refl, ap, ap₂, _∙_}
 use native.Mathlib.Omega.{arith}
@@ -7,9 +7,9 @@ use Rattle.laws.specs.Bits.{bitAt}
 use Rattle.laws.specs.Choice.{pick}
 use Rattle.laws.specs.Sum.{sum}
 use Rattle.laws.proofs.Sums.{sum-more}
-use Rattle.words.specs.Loads.{loadsBelow}
-use Rattle.words.proofs.loads.loads_of_many.Statement.{statement}
-use Rattle.words.proofs.loads.loads_of_many.Tie as tie
+use Rattle.loads.specs.Loads.{loadsBelow}
+use Rattle.loads.proofs.loads_of_many.Statement.{statement}
+use Rattle.loads.proofs.loads_of_many.Tie as tie
 
 abbrev Inv-loop : tie.InvT-loop
 Inv-loop loads word sum₀ j₀ sum j = (sum ≡ loadsBelow loads word j) × (sum ≤ 65535 * j) × (j ≤ 32)

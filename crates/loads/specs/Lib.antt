@@ -1,0 +1,2 @@
+-- The definitions of crate `loads`, module by module.
+pub mod Loads
