@@ -38,6 +38,7 @@ pub mod SayChangesOne
 pub mod SayListingOne
 pub mod ListingOne
 pub mod SayVerdictsOne
+pub mod SayFlowsheetOne
 pub mod SayFlowsOne
 pub mod SayWhyOne
 pub mod ToldOne

@@ -4,11 +4,10 @@ use mathlib.Core.Path.{_≡_, refl}
 use mathlib.Core.List.{List}
 use Prim.Native.Nat.{_+_, ℕ}
 use Rattle.admission.specs.declared.AdmitAnswer.{AdmitAnswer}
-use Rattle.contracts.specs.SayFlowsSays.{SayFlowsPutAdmit, SayFlowsPutFlowSheet}
+use Rattle.contracts.specs.SayFlowsSays.{SayFlowsPutAdmit}
 use Rattle.flowlist.specs.List.{zeroFlow}
 use Rattle.flowlist.specs.declared.FlowList.{FlowList}
-use Rattle.flowsheet.specs.declared.FlowsAnswer.{FlowsAnswer}
-use Rattle.say_flows.specs.Said.{admitSaid, flowSheetSaid}
+use Rattle.say_flows.specs.Said.{admitSaid}
 use Rattle.site.specs.declared.Site.{Site}
 use lib.ListN.{getD, length}
 use lib.Seq.{sets}
@@ -20,17 +19,6 @@ pub sayFlowsPutAdmit-one : (out : List ℕ) (at : ℕ) (site : Site) (l : FlowLi
 sayFlowsPutAdmit-one out at site l count reply = (
   at + length (admitSaid site (λ k. getD (l .list) k zeroFlow) count reply),
   sets out at (admitSaid site (λ k. getD (l .list) k zeroFlow) count reply),
-  record { answer = refl; out-after = refl },
-  λ q out″ says. (says .answer, says .out-after),
-)
-
--- say_flows::put_flow_sheet
-pub sayFlowsPutFlowSheet-one : (out : List ℕ) (at : ℕ) (reply : FlowsAnswer)
-    → (r : ℕ) × (out′ : List ℕ) × (SayFlowsPutFlowSheet out at reply r out′)
-    × ((q : ℕ) (out″ : List ℕ) → SayFlowsPutFlowSheet out at reply q out″ → (q ≡ r) × (out″ ≡ out′))
-sayFlowsPutFlowSheet-one out at reply = (
-  at + length (flowSheetSaid reply),
-  sets out at (flowSheetSaid reply),
   record { answer = refl; out-after = refl },
   λ q out″ says. (says .answer, says .out-after),
 )

@@ -38,6 +38,7 @@ pub mod SayChangesSays
 pub mod SayListingSays
 pub mod ListingSays
 pub mod SayVerdictsSays
+pub mod SayFlowsheetSays
 pub mod SayFlowsSays
 pub mod SayWhySays
 pub mod ToldSays

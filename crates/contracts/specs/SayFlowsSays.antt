@@ -6,8 +6,7 @@ use Prim.Native.Nat.{_+_, ℕ}
 use Rattle.admission.specs.declared.AdmitAnswer.{AdmitAnswer}
 use Rattle.flowlist.specs.List.{zeroFlow}
 use Rattle.flowlist.specs.declared.FlowList.{FlowList}
-use Rattle.flowsheet.specs.declared.FlowsAnswer.{FlowsAnswer}
-use Rattle.say_flows.specs.Said.{admitSaid, flowSheetSaid}
+use Rattle.say_flows.specs.Said.{admitSaid}
 use Rattle.site.specs.declared.Site.{Site}
 use lib.ListN.{getD, length}
 use lib.Seq.{sets}
@@ -16,8 +15,3 @@ use lib.Seq.{sets}
 pub record SayFlowsPutAdmit (out : List ℕ) (at : ℕ) (site : Site) (l : FlowList) (count : ℕ) (reply : AdmitAnswer) (r : ℕ) (out′ : List ℕ) : Type 0 where
   pub answer : r ≡ at + length (admitSaid site (λ k. getD (l .list) k zeroFlow) count reply)
   pub out-after : out′ ≡ sets out at (admitSaid site (λ k. getD (l .list) k zeroFlow) count reply)
-
--- say_flows::put_flow_sheet
-pub record SayFlowsPutFlowSheet (out : List ℕ) (at : ℕ) (reply : FlowsAnswer) (r : ℕ) (out′ : List ℕ) : Type 0 where
-  pub answer : r ≡ at + length (flowSheetSaid reply)
-  pub out-after : out′ ≡ sets out at (flowSheetSaid reply)

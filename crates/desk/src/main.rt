@@ -415,7 +415,7 @@ fn admit(input: &[u8], second: &[u8], text: &mut [u8])
     let said = flows.answer;
     let FlowsAnswer::Done = said else {
         reply::named(SECOND_NAME, second, Input::FlowSheet);
-        let end = say_flows::put_flow_sheet(text, 0, said);
+        let end = say_flowsheet::put_flow_sheet(text, 0, said);
         no(text, end);
         return;
     };

@@ -1,5 +1,5 @@
 -- The text of `duggfrask admit`: that the loads of the site do not count; for each flow its cell, its share and its value, and whether it is taken; what the
--- flows that are taken are worth; or why there is no answer, and why a sheet of flows is refused.
+-- flows that are taken are worth; or why there is no answer.
 use Prim.Native.Nat.{ℕ, zero, suc, _+_}
 use mathlib.Core.List.{List, [], _++_}
 use Rattle.laws.specs.Bits.{bitAt}
@@ -10,8 +10,6 @@ use Rattle.site.specs.Record.{faultOf, isFine}
 use Rattle.site.specs.Reach.{netOf}
 use Rattle.site.specs.declared.Site.{Site}
 use Rattle.flowlist.specs.declared.Flow.{Flow}
-use Rattle.flowsheet.specs.declared.FlowsAnswer.{FlowsAnswer}
-use Rattle.flowsheet.specs.declared.FlowsAnswer.the-variants as flows
 use Rattle.admitting.specs.Best.{worth}
 use Rattle.admission.specs.Admit.{shareIn, amount, flowsAsked}
 use Rattle.admission.specs.declared.AdmitAnswer.{AdmitAnswer}
@@ -70,11 +68,3 @@ admitSaid s f n (admit.BadCell k) = refusedLine 2 (place.Flow k)
 admitSaid s f n (admit.BadFlow k) = refusedLine 15 (place.Flow k)
 admitSaid s f n (admit.BigShare k) = refusedLine 16 (place.Flow k)
 admitSaid s f n (admit.Refused fault) = faultSaid fault
-
--- ---- the sheet of flows
-
--- a sheet that was read: nothing to say; 17 and the line; or 18
-abbrev pub flowSheetSaid : FlowsAnswer → List ℕ
-flowSheetSaid flows.Done = []
-flowSheetSaid (flows.BadLine line) = refusedLine 17 (place.Line line)
-flowSheetSaid flows.TooMany = refusedLine 18 place.Nowhere

@@ -1,5 +1,4 @@
-// The text of an admission, and of the sheet of flows that it is asked with, written into a lent buffer. Each function puts its text at `at` and
-// answers where the next byte goes.
+// The text of an admission, written into a lent buffer. Each function puts its text at `at` and answers where the next byte goes.
 use admission::AdmitAnswer;
 use admission::share_in;
 use chainwords::break_of;
@@ -7,7 +6,6 @@ use chainwords::first_break;
 use chainwords::gap;
 use flowlist::Flow;
 use flowlist::FlowList;
-use flowsheet::FlowsAnswer;
 use phrases::Phrase;
 use phrases::put_phrase;
 use say_refusals::Place;
@@ -27,7 +25,7 @@ ghost use Rattle.admission.specs.declared.AdmitAnswer.the-variants.{Admitted};
 ghost use Rattle.phrases.specs.Put.{Put};
 ghost use Rattle.phrases.specs.Phrases.{phrase};
 ghost use Rattle.say_flows.specs.Lines.{admitLines};
-ghost use Rattle.say_flows.specs.Said.{flowPhrase, listSaid, brokenLine, nineteenSaid, admitSaid, flowSheetSaid};
+ghost use Rattle.say_flows.specs.Said.{flowPhrase, listSaid, brokenLine, nineteenSaid, admitSaid};
 
 const ASIDE: usize = 0;
 
@@ -184,17 +182,5 @@ pub fn put_admit(
         AdmitAnswer::BadFlow(flow) => say_refusals::put_refused(out, at, 15, Place::Flow(flow)),
         AdmitAnswer::BigShare(flow) => say_refusals::put_refused(out, at, 16, Place::Flow(flow)),
         AdmitAnswer::Refused(f) => say_verdicts::put_fault(out, at, f),
-    }
-}
-
-// A sheet of flows that was read, or its refusal.
-pub fn put_flow_sheet(out: &mut [u8], at: usize, reply: FlowsAnswer) -> usize
-    requires { ⌜ at + 2000 ≤ length (now out) ⌝ }
-    ensures { λ r. ⌜ Put (now (out .entry)) at (flowSheetSaid reply) 2000 (now (out .exit)) r ⌝ }
-{
-    match reply {
-        FlowsAnswer::Done => at,
-        FlowsAnswer::BadLine(line) => say_refusals::put_refused(out, at, 17, Place::Line(line)),
-        FlowsAnswer::TooMany => say_refusals::put_refused(out, at, 18, Place::Nowhere),
     }
 }

@@ -1,8 +1,8 @@
--- `say_flows::put_flow_sheet` meets its contract: each arm puts the text of its case. Assumes nothing.
+-- `say_flowsheet::put_flow_sheet` meets its contract: each arm puts the text of its case. Assumes nothing.
 use borrow.Author.Needs.{needs}
 use Rattle.phrases.proofs.Put.{put-none}
-use Rattle.say_flows.proofs.put_flow_sheet.Statement.{statement}
-use Rattle.say_flows.proofs.put_flow_sheet.Tie as tie
+use Rattle.say_flowsheet.proofs.put_flow_sheet.Statement.{statement}
+use Rattle.say_flowsheet.proofs.put_flow_sheet.Tie as tie
 
 returns : tie.Need-returns
 returns c = rw (c .enum-told .given .1) (put-none _ _ _)

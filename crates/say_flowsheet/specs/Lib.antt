@@ -1,0 +1,2 @@
+-- The definitions of crate `say_flowsheet`, module by module.
+pub mod Said
