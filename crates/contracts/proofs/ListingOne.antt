@@ -13,22 +13,22 @@ use lib.ListN.{length}
 use lib.Seq.{sets}
 
 -- listing::row_count
-pub listingRowCount-one : (answer : PlanAnswer) (cells : ℕ)
-    → (r : ℕ) × (ListingRowCount answer cells r)
-    × ((q : ℕ) → ListingRowCount answer cells q → (q ≡ r))
-listingRowCount-one answer cells = (
-  rowCount answer cells,
+pub listingRowCount-one : (reply : PlanAnswer) (cells : ℕ)
+    → (r : ℕ) × (ListingRowCount reply cells r)
+    × ((q : ℕ) → ListingRowCount reply cells q → (q ≡ r))
+listingRowCount-one reply cells = (
+  rowCount reply cells,
   record { answer = refl },
   λ q says. says .answer,
 )
 
 -- listing::put_answers
-pub listingPutAnswers-one : (out : List ℕ) (site : Site) (answer : PlanAnswer)
-    → (r : ℕ) × (out′ : List ℕ) × (ListingPutAnswers out site answer r out′)
-    × ((q : ℕ) (out″ : List ℕ) → ListingPutAnswers out site answer q out″ → (q ≡ r) × (out″ ≡ out′))
-listingPutAnswers-one out site answer = (
-  0 + length (headWith site answer),
-  sets out 0 (headWith site answer),
+pub listingPutAnswers-one : (out : List ℕ) (site : Site) (reply : PlanAnswer)
+    → (r : ℕ) × (out′ : List ℕ) × (ListingPutAnswers out site reply r out′)
+    × ((q : ℕ) (out″ : List ℕ) → ListingPutAnswers out site reply q out″ → (q ≡ r) × (out″ ≡ out′))
+listingPutAnswers-one out site reply = (
+  0 + length (headWith site reply),
+  sets out 0 (headWith site reply),
   record { answer = refl; out-after = refl },
   λ q out″ says. (says .answer, says .out-after),
 )

@@ -12,13 +12,13 @@ use lib.ListN.{length}
 use lib.Seq.{sets}
 
 -- listing::row_count
-pub record ListingRowCount (answer : PlanAnswer) (cells : ℕ) (r : ℕ) : Type 0 where
-  pub answer : r ≡ rowCount answer cells
+pub record ListingRowCount (reply : PlanAnswer) (cells : ℕ) (r : ℕ) : Type 0 where
+  pub answer : r ≡ rowCount reply cells
 
 -- listing::put_answers
-pub record ListingPutAnswers (out : List ℕ) (site : Site) (answer : PlanAnswer) (r : ℕ) (out′ : List ℕ) : Type 0 where
-  pub answer : r ≡ 0 + length (headWith site answer)
-  pub out-after : out′ ≡ sets out 0 (headWith site answer)
+pub record ListingPutAnswers (out : List ℕ) (site : Site) (reply : PlanAnswer) (r : ℕ) (out′ : List ℕ) : Type 0 where
+  pub answer : r ≡ 0 + length (headWith site reply)
+  pub out-after : out′ ≡ sets out 0 (headWith site reply)
 
 -- listing::row_line
 pub record ListingRowLine (out : List ℕ) (table : List ℕ) (width : ℕ) (channels : ℕ) (i : ℕ) (r : ℕ) (out′ : List ℕ) : Type 0 where

@@ -65,10 +65,10 @@ fn plan_line(answer: PlanAnswer) -> Phrase
 }
 
 // How many cell lines follow: one for each cell of a planned site.
-pub fn row_count(answer: PlanAnswer, cells: usize) -> usize
-    ensures { λ r. ⌜ r ≡ rowCount answer cells ⌝ }
+pub fn row_count(reply: PlanAnswer, cells: usize) -> usize
+    ensures { λ r. ⌜ r ≡ rowCount reply cells ⌝ }
 {
-    match answer {
+    match reply {
         PlanAnswer::Done => cells,
         PlanAnswer::NoRoom(_, _) => 0,
         PlanAnswer::TableShort => 0,
@@ -77,14 +77,14 @@ pub fn row_count(answer: PlanAnswer, cells: usize) -> usize
 }
 
 // The lines of the head, with the planner's answer, and where they end.
-pub fn put_answers(out: &mut [u8], site: Site, answer: PlanAnswer) -> usize
+pub fn put_answers(out: &mut [u8], site: Site, reply: PlanAnswer) -> usize
     requires { ⌜ 800 ≤ length (now out) ⌝ }
-    ensures { λ r. ⌜ Put (now (out .entry)) 0 (headWith site answer) 800 (now (out .exit)) r ⌝ }
+    ensures { λ r. ⌜ Put (now (out .entry)) 0 (headWith site reply) 800 (now (out .exit)) r ⌝ }
 {
     let chain = put_line(out, 0, site_line(site));
     let load = put_line(out, chain, chain_line(judges::chain(site)));
     let plan = put_line(out, load, load_line(judges::load_test(site)));
-    put_line(out, plan, plan_line(answer))
+    put_line(out, plan, plan_line(reply))
 }
 
 // The line of the cell at index `i`, from its row of the table.
