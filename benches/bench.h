@@ -26,7 +26,7 @@ typedef struct {
     dugg_answer (*write_site)(dugg_site, uint8_t *, size_t);
     dugg_plan_read (*read_plan)(const uint8_t *, size_t, uint8_t *, size_t);
     dugg_answer (*write_plan)(dugg_site, const uint8_t *, size_t, uint8_t *, size_t);
-    dugg_edited (*read_sheet)(const uint8_t *, size_t, uint16_t, uint16_t);
+    dugg_edited (*read_sheet)(const uint8_t *, size_t, uint16_t, uint16_t, dugg_blocked);
     dugg_answer (*write_sheet)(dugg_site, uint8_t *, size_t);
     dugg_answer (*share_repeated)(uint16_t, uint16_t, uint16_t, uint16_t);
     dugg_answer (*admit)(dugg_site, const dugg_flow *, size_t);
@@ -53,6 +53,9 @@ void size(dugg_site *s, unsigned cells, unsigned slots, unsigned channels);
 
 /* Each cell reaches the next few, one way. */
 void tunnel(dugg_site *s, unsigned width);
+
+/* Blocks half of the site, every second position or in every slot the second half of the channels, and halves the loads. */
+void block_half(dugg_site *s, bool by_channels);
 
 /* A random number, the same in every run for the same seed (splitmix64). */
 uint64_t chance(uint64_t *seed);
@@ -86,5 +89,7 @@ int mend_agree(void);
 void mend_table(void);
 int heaviest_agree(void);
 void heaviest_table(void);
+int blocked_agree(void);
+void blocked_table(void);
 
 #endif

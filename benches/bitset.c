@@ -82,12 +82,13 @@ static void pack_row(set *s, const uint8_t *row, size_t n)
     }
 }
 
-/* "last" is the block where the filling stopped: before it nothing is idle, after it nothing is reserved. */
-static void unpack_row(uint8_t *row, const set *forbidden, const set *reserved, size_t last, size_t n)
+/* "last" is the block where the filling stopped: before it nothing is idle but what is blocked, after it nothing is
+ * reserved. */
+static void unpack_row(uint8_t *row, const set *forbidden, const set *reserved, size_t last, size_t n, bool all_open)
 {
     size_t whole = n / BLOCK, rest = n % BLOCK;
     for (size_t k = 0; k < whole; k++)
-        if (k < last)
+        if (k < last && all_open)
             unpack_marked(row + BLOCK * k, &forbidden->blocks[k], 1);
         else if (k > last)
             unpack_marked(row + BLOCK * k, &forbidden->blocks[k], 0);
@@ -103,7 +104,7 @@ static void unpack_row(uint8_t *row, const set *forbidden, const set *reserved, 
 /* ---- sets ---- */
 
 /* Adds to a set those of the cells in the mask. */
-static void unite(set *restrict sum, const set sets[CELLS], uint32_t cells, size_t blocks)
+static void unite(set *restrict sum, const set *sets, uint32_t cells, size_t blocks)
 {
     for (; cells != 0; cells &= cells - 1) {
         const set *other = &sets[__builtin_ctz(cells)];
@@ -137,6 +138,19 @@ static set beyond(size_t n)
     return s;
 }
 
+/* The blocked positions. */
+static set blocked_set(const dugg_site *s, size_t blocks)
+{
+    set shut;
+    for (size_t k = 0; k < blocks; k++) {
+        uint8_t bytes[BLOCK];
+        for (size_t b = 0; b < BLOCK; b++)
+            bytes[b] = is_blocked(s, BLOCK * k + b);
+        shut.blocks[k] = pack(bytes);
+    }
+    return shut;
+}
+
 /* The lowest positions of a block, as many as asked for; there are more. */
 static block lowest(block idle, unsigned many)
 {
@@ -151,13 +165,15 @@ static block lowest(block idle, unsigned many)
     return taken;
 }
 
-/* Reserves the lowest positions that are not forbidden until the load is met; gives what is left of it, and the block
- * where it stopped. */
-static unsigned fill(set *restrict reserved, size_t *last, const set *restrict forbidden, size_t blocks, unsigned load)
+/* Reserves the lowest positions that are neither forbidden nor shut until the load is met; gives what is left of it, and
+ * the block where it stopped. */
+static unsigned fill(set *restrict reserved, size_t *last, const set *restrict forbidden, const set *restrict shut,
+                     size_t blocks, unsigned load)
 {
     size_t k = 0;
     for (bool met = false; k < blocks && !met; k++) {
-        block idle = {{~forbidden->blocks[k].half[0], ~forbidden->blocks[k].half[1]}};
+        block idle = {{~(forbidden->blocks[k].half[0] | shut->blocks[k].half[0]),
+                       ~(forbidden->blocks[k].half[1] | shut->blocks[k].half[1])}};
         unsigned many = ones(idle.half[0]) + ones(idle.half[1]);
         met = many > load;
         reserved->blocks[k] = met ? lowest(idle, load) : idle;
@@ -177,18 +193,23 @@ dugg_answer bits_plan(dugg_site site, uint8_t *table, size_t len)
     if (len < site.cells * n)
         return answer(4, 0, 0, 0);
     uint32_t mask[CELLS];
-    set reserved[CELLS], forbidden, none = beyond(n);
+    set reserved[CELLS], forbidden, shut = beyond(n);
+    bool all_open = !any_blocked(&site);
+    if (!all_open) {
+        set blocked = blocked_set(&site, blocks);
+        unite(&shut, &blocked, 1, blocks);
+    }
     clash_masks(&site, mask);
     for (unsigned i = 0; i < site.cells; i++) {
-        memcpy(&forbidden, &none, blocks * sizeof(block));
+        memset(&forbidden, 0, blocks * sizeof(block));
         unite(&forbidden, reserved, mask[i] & first_cells(i), blocks);
         size_t last;
-        unsigned left = fill(&reserved[i], &last, &forbidden, blocks, site.loads[i]);
+        unsigned left = fill(&reserved[i], &last, &forbidden, &shut, blocks, site.loads[i]);
         if (left != 0) {
             memset(table, 0, site.cells * n);
             return answer(5, i + 1, left, 0);
         }
-        unpack_row(table + i * n, &forbidden, &reserved[i], last, n);
+        unpack_row(table + i * n, &forbidden, &reserved[i], last, n, all_open);
     }
     return answer(0, 0, 0, 0);
 }
@@ -221,6 +242,23 @@ static dugg_answer name_pair(const dugg_site *s, const uint32_t mask[CELLS], con
     return answer(6, position, first + 1, __builtin_ctz(here & mask[first]) + 1);
 }
 
+/* Refusal 22, or 0: the lowest blocked position where a cell transmits, and the lowest cell there. */
+static dugg_answer none_blocked(const dugg_site *s, const set reserved[CELLS], const uint8_t *table, size_t blocks)
+{
+    set shut = blocked_set(s, blocks), sends = {0};
+    uint64_t any = 0;
+    unite(&sends, reserved, first_cells(s->cells), blocks);
+    for (size_t k = 0; k < blocks; k++)
+        for (unsigned h = 0; h < 2; h++)
+            any |= sends.blocks[k].half[h] &= shut.blocks[k].half[h];
+    if (any == 0)
+        return answer(0, 0, 0, 0);
+    size_t position = first_position(&sends), cell = 0;
+    while (table[cell * positions_of(s) + position] != 1)
+        cell++;
+    return answer(22, position, cell + 1, 0);
+}
+
 dugg_answer bits_check(dugg_site site, const uint8_t *table, size_t len)
 {
     dugg_answer f = fault(&site);
@@ -240,6 +278,11 @@ dugg_answer bits_check(dugg_site site, const uint8_t *table, size_t len)
         for (size_t k = 0; k < blocks; k++)
             for (unsigned h = 0; h < 2; h++)
                 any |= clashes.blocks[k].half[h] |= earlier.blocks[k].half[h] & reserved[i].blocks[k].half[h];
+    }
+    if (any_blocked(&site)) {
+        f = none_blocked(&site, reserved, table, blocks);
+        if (f.number != 0)
+            return f;
     }
     if (any != 0)
         return name_pair(&site, mask, table, first_position(&clashes));

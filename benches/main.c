@@ -75,6 +75,13 @@ static void keep(left *l, dugg_edited read)
     l->site = read.site;
 }
 
+static dugg_blocked blocked_of(const dugg_site *s)
+{
+    dugg_blocked blocked;
+    memcpy(blocked.bits, s->blocked, sizeof blocked.bits);
+    return blocked;
+}
+
 static void run(const maker *m, int operation, const work *w, left *l)
 {
     switch (operation) {
@@ -92,7 +99,11 @@ static void run(const maker *m, int operation, const work *w, left *l)
         break;
     }
     case WRITE_PLAN: l->answer = m->write_plan(w->site, w->table, w->table_len, l->bytes, sizeof l->bytes); break;
-    case READ_SHEET: keep(l, m->read_sheet(w->sheet, w->sheet_len, w->site.slots, w->site.channels)); break;
+    case READ_SHEET: {
+        dugg_blocked blocked = blocked_of(&w->site);
+        keep(l, m->read_sheet(w->sheet, w->sheet_len, w->site.slots, w->site.channels, blocked));
+        break;
+    }
     case WRITE_SHEET: l->answer = m->write_sheet(w->site, l->bytes, sizeof l->bytes); break;
     case SHARE: l->answer = m->share_repeated(w->site.slots, w->burst, w->period, w->repeats); break;
     }
@@ -132,7 +143,8 @@ static int make_files(work *w)
 static int same_site(const dugg_site *a, const dugg_site *b)
 {
     return a->cells == b->cells && a->slots == b->slots && a->channels == b->channels &&
-           memcmp(a->loads, b->loads, sizeof a->loads) == 0 && memcmp(a->reach, b->reach, sizeof a->reach) == 0;
+           memcmp(a->loads, b->loads, sizeof a->loads) == 0 && memcmp(a->reach, b->reach, sizeof a->reach) == 0 &&
+           memcmp(a->blocked, b->blocked, sizeof a->blocked) == 0;
 }
 
 /* Do all that have a call answer alike, and leave the same bytes? */
@@ -268,7 +280,7 @@ int main(void)
         }
         fine &= agree(&w[k]) & agree_when_wrong(&w[k]);
     }
-    fine &= admit_agree() & words_agree() & mend_agree() & heaviest_agree();
+    fine &= admit_agree() & words_agree() & mend_agree() & heaviest_agree() & blocked_agree();
     if (!fine)
         return 1;
     printf("All gave the same answers and the same bytes on these inputs before they were timed.\n");
@@ -279,6 +291,7 @@ int main(void)
     words_table();
     mend_table();
     heaviest_table();
+    blocked_table();
     printf("\nPlan and check on the largest sites are %s a quarter of C -O3: the worst ratio is %.2f.\n",
            worst[C3] <= 1.25 ? "within" : "NOT within", worst[C3]);
     printf("\nReading and writing the sheets of the largest sites take %s twice the time of C -O3: the worst ratio is %.2f.\n",

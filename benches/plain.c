@@ -92,7 +92,7 @@ dugg_answer NAME(load_test)(dugg_site site)
     dugg_answer f = judged(&site, mask);
     if (f.number != 0)
         return f;
-    uint32_t room = positions_of(&site);
+    uint32_t room = room_of(&site);
     for (unsigned i = 0; i < site.cells; i++) {
         if (site.loads[i] == 0)
             continue;
@@ -168,6 +168,17 @@ static unsigned fill(uint8_t *row, unsigned slots, unsigned channels, unsigned l
     return load;
 }
 
+/* The same over open positions alone. */
+static unsigned fill_open(const dugg_site *s, uint8_t *row, size_t n, unsigned load)
+{
+    for (size_t p = 0; p < n && load != 0; p++)
+        if (row[p] == 0 && !is_blocked(s, p)) {
+            row[p] = 1;
+            load--;
+        }
+    return load;
+}
+
 dugg_answer NAME(plan)(dugg_site site, uint8_t *table, size_t len)
 {
     dugg_answer f = fault(&site);
@@ -177,13 +188,15 @@ dugg_answer NAME(plan)(dugg_site site, uint8_t *table, size_t len)
     if (len < site.cells * n)
         return answer(4, 0, 0, 0);
     uint32_t mask[CELLS];
+    bool all_open = !any_blocked(&site);
     clash_masks(&site, mask);
     for (unsigned i = 0; i < site.cells; i++) {
         uint8_t *row = table + i * n;
         memset(row, 0, n);
         for (uint32_t lower = mask[i] & first_cells(i); lower != 0; lower &= lower - 1)
             forbid(row, table + __builtin_ctz(lower) * n, n);
-        unsigned left = fill(row, site.slots, site.channels, site.loads[i]);
+        unsigned left = all_open ? fill(row, site.slots, site.channels, site.loads[i])
+                                 : fill_open(&site, row, n, site.loads[i]);
         if (left != 0) {
             memset(table, 0, site.cells * n);
             return answer(5, i + 1, left, 0);
@@ -213,6 +226,9 @@ dugg_answer NAME(check)(dugg_site site, const uint8_t *table, size_t len)
     memset(words, 0, n * sizeof words[0]);
     for (unsigned i = 0; i < site.cells; i++)
         gather(words, table + i * n, n, i);
+    f = stands_blocked(&site, words, ~0u);
+    if (f.number != 0)
+        return f;
     for (size_t p = 0; p < n; p++)
         for (uint32_t rest = words[p]; rest != 0; rest &= rest - 1) {
             unsigned a = __builtin_ctz(rest);
@@ -308,6 +324,24 @@ static dugg_edited refused_read(unsigned number, size_t at)
     return r;
 }
 
+/* Kind 6 at the end of a site file: 14 for a left-over bit, then 21, then 12. */
+static dugg_edited read_blocked(const uint8_t *bytes, size_t len, size_t at, const dugg_edited *read)
+{
+    dugg_edited r = *read;
+    size_t n = positions_of(&r.site), size = (n + 7) / 8, end = at + 4 + size;
+    unsigned bad = open(bytes, len, at, 6, 2 + size);
+    if (bad != 0)
+        return refused_read(bad, at);
+    const uint8_t *body = bytes + at + 4;
+    if (n % 8 != 0 && body[size - 1] >> n % 8 != 0)
+        return refused_read(14, at);
+    for (size_t k = 0; k < size; k++)
+        r.site.blocked[k / 8] |= (uint64_t)body[k] << 8 * (k % 8);
+    if (!any_blocked(&r.site))
+        return refused_read(21, at);
+    return end < len ? refused_read(12, end) : r;
+}
+
 dugg_edited NAME(read_site)(const uint8_t *bytes, size_t len)
 {
     dugg_edited r = refused_read(0, 0);
@@ -329,9 +363,7 @@ dugg_edited NAME(read_site)(const uint8_t *bytes, size_t len)
     bad = read_pairs(bytes + at + 4, bytes + end, &r.site);
     if (bad != 0)
         return refused_read(bad, at);
-    if (end < len)
-        return refused_read(12, end);
-    return r;
+    return end < len ? read_blocked(bytes, len, end, &r) : r;
 }
 
 static uint8_t *put_head(uint8_t *p, const dugg_site *s)
@@ -348,7 +380,8 @@ dugg_answer NAME(write_site)(dugg_site site, uint8_t *out, size_t len)
     unsigned pairs = 0;
     for (unsigned i = 0; i < site.cells; i++)
         pairs += __builtin_popcount(site.reach[i]);
-    size_t need = 18 + 2 * site.cells + 2 * pairs;
+    size_t bits = any_blocked(&site) ? (positions_of(&site) + 7) / 8 : 0;
+    size_t need = 18 + 2 * site.cells + 2 * pairs + (bits == 0 ? 0 : 4 + bits);
     if (len < need)
         return answer(13, need, 0, 0);
     uint8_t *p = put_head(out, &site);
@@ -361,6 +394,10 @@ dugg_answer NAME(write_site)(dugg_site site, uint8_t *out, size_t len)
             *p++ = i + 1;
             *p++ = __builtin_ctz(row) + 1;
         }
+    if (bits != 0)
+        p = put_word(put_word(p, 2 + bits), 6);
+    for (size_t k = 0; k < bits; k++)
+        *p++ = site.blocked[k / 8] >> 8 * (k % 8);
     return answer(0, need, 0, 0);
 }
 
@@ -493,7 +530,7 @@ static const uint8_t *cell_line(const uint8_t *p, const uint8_t *end, unsigned k
     return after(p, end, "\r\n", 2);
 }
 
-dugg_edited NAME(read_sheet)(const uint8_t *bytes, size_t len, uint16_t slots, uint16_t channels)
+dugg_edited NAME(read_sheet)(const uint8_t *bytes, size_t len, uint16_t slots, uint16_t channels, dugg_blocked blocked)
 {
     dugg_edited r = refused_read(0, 0);
     const uint8_t *end = bytes + len;
@@ -504,6 +541,7 @@ dugg_edited NAME(read_sheet)(const uint8_t *bytes, size_t len, uint16_t slots, u
     r.site.cells = cells;
     r.site.slots = slots;
     r.site.channels = channels;
+    memcpy(r.site.blocked, blocked.bits, sizeof r.site.blocked);
     for (unsigned k = 0; k < cells; k++) {
         p = cell_line(p, end, k, &r.site);
         if (p == NULL)

@@ -55,7 +55,7 @@ dugg_answer NAME(admit)(dugg_site site, const dugg_flow *flows, size_t count)
     f = read_flows(&site, mask, flows, count, &list);
     if (f.number != 0)
         return f;
-    in.room = positions_of(&site);
+    in.room = room_of(&site);
     weigh(&in, &list, mask);
     for (unsigned k = 0; k < list.count; k++)
         rest += list.value[k];

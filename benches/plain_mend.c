@@ -1,5 +1,5 @@
-/* Mending a table, in plain C. What stands is kept as one word for each position, with a bit for each cell; nothing
- * lent is written before the outcome is known. */
+/* Mending a table, in plain C. What stands is kept as one word for each position, with a bit for each cell; where it is
+ * blocked every cell counts as standing there. Nothing lent is written before the outcome is known. */
 #include "plain.h"
 #include "site.h"
 
@@ -12,10 +12,11 @@ typedef struct {
 static tally keep(uint32_t *restrict words, const uint8_t *restrict row, size_t n, unsigned cell, uint32_t mask,
                   uint32_t load)
 {
+    uint32_t taken = mask | 1u << cell;
     tally t = {0, 0};
     for (size_t p = 0; p < n; p++) {
         uint32_t one = row[p] == 1;
-        uint32_t stays = one & ((words[p] & mask) == 0) & (t.kept < load);
+        uint32_t stays = one & ((words[p] & taken) == 0) & (t.kept < load);
         words[p] |= stays << cell;
         t.kept += stays;
         t.held += one;
@@ -60,6 +61,7 @@ dugg_answer NAME(mend)(dugg_site site, uint8_t *table, size_t len, uint16_t *cha
     uint32_t mask[CELLS], words[POSITIONS], changed = 0;
     clash_masks(&site, mask);
     memset(words, 0, n * sizeof words[0]);
+    at_blocked(&site, words, ~0u);
     for (unsigned i = 0; i < site.cells; i++) {
         tally t = keep(words, table + i * n, n, i, mask[i], site.loads[i]);
         uint32_t more = site.loads[i] - t.kept, left = add(words, n, i, mask[i], more);
@@ -70,6 +72,7 @@ dugg_answer NAME(mend)(dugg_site site, uint8_t *table, size_t len, uint16_t *cha
     }
     if (count / 4 < total)
         return answer(13, total, 0, 0);
+    at_blocked(&site, words, 0);
     for (; changed != 0; changed &= changed - 1) {
         unsigned i = __builtin_ctz(changed);
         changes = change(changes, table + i * n, words, n, i);

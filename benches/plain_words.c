@@ -1,5 +1,5 @@
-/* One word per position, in plain C. The planner goes by stretches: the word of a position depends only on which cells
- * still have fragments left, so it is laid down for as long as none of its cells runs out. */
+/* One word per position, in plain C. The planner goes by stretches: the word of an open position depends only on which
+ * cells still have fragments left, so it is laid down for as long as none of its cells runs out. */
 #include "plain.h"
 #include "site.h"
 
@@ -36,25 +36,41 @@ static uint32_t use(uint32_t word, uint32_t left[CELLS], uint32_t run)
     return met;
 }
 
+/* Lays a word down at the next so many open positions, and 0 at the blocked ones up to there; gives the place after. */
+static size_t lay(const dugg_site *s, uint32_t *words, size_t at, uint32_t word, uint32_t run)
+{
+    for (; run != 0; at++) {
+        uint32_t open = !is_blocked(s, at);
+        words[at] = word & -open;
+        run -= open;
+    }
+    return at;
+}
+
 dugg_answer NAME(plan_words)(dugg_site site, uint32_t *words, size_t count)
 {
     dugg_answer f = words_fault(&site, count);
     if (f.number != 0)
         return f;
-    uint32_t mask[CELLS], left[CELLS], need = 0;
-    size_t n = positions_of(&site);
+    uint32_t mask[CELLS], left[CELLS], need = 0, room = room_of(&site);
+    size_t n = positions_of(&site), at = 0;
+    bool all_open = room == n;
     clash_masks(&site, mask);
     for (unsigned i = 0; i < CELLS; i++) {
         left[i] = site.loads[i];
         need |= (uint32_t)(left[i] != 0) << i;
     }
-    for (size_t at = 0; at < n;) {
-        uint32_t run = n - at, word = take(need, mask, left, &run);
-        for (size_t k = at; k < at + run; k++)
-            words[k] = word;
+    while (room != 0) {
+        uint32_t run = room, word = take(need, mask, left, &run);
+        if (all_open)
+            for (size_t end = at + run; at < end; at++)
+                words[at] = word;
+        else
+            at = lay(&site, words, at, word, run);
         need &= ~use(word, left, run);
-        at += run;
+        room -= run;
     }
+    memset(words + at, 0, (n - at) * sizeof words[0]);
     if (need == 0)
         return answer(0, 0, 0, 0);
     memset(words, 0, n * sizeof words[0]);
@@ -68,6 +84,9 @@ dugg_answer NAME(check_words)(dugg_site site, const uint32_t *words, size_t coun
         return f;
     uint32_t mask[CELLS], held[CELLS] = {0}, cells = first_cells(site.cells);
     size_t n = positions_of(&site);
+    f = stands_blocked(&site, words, cells);
+    if (f.number != 0)
+        return f;
     clash_masks(&site, mask);
     for (size_t p = 0; p < n; p++)
         for (uint32_t rest = words[p] & cells; rest != 0; rest &= rest - 1) {

@@ -1,5 +1,5 @@
-/* What the plain C and the C on bit sets share: the answer, the faults of a site record, who clashes with whom, the
- * share of a flow, and the words of a table.
+/* What the plain C and the C on bit sets share: the answer, the faults of a site record, its open positions, who clashes
+ * with whom, the share of a flow, and the words of a table.
  * Inside, cells are counted from 0; in answers they are numbered from 1. */
 #ifndef SITE_H
 #define SITE_H
@@ -8,7 +8,7 @@
 #include <string.h>
 #include "../include/duggfrask.h"
 
-enum { CELLS = 32, SLOTS = 128, CHANNELS = 16, POSITIONS = SLOTS * CHANNELS };
+enum { CELLS = 32, SLOTS = 128, CHANNELS = 16, POSITIONS = SLOTS * CHANNELS, BLOCK_WORDS = POSITIONS / 64 };
 
 static inline dugg_answer answer(uint64_t number, uint64_t a, uint64_t b, uint64_t c)
 {
@@ -31,6 +31,26 @@ static inline bool sizes_fine(unsigned cells, unsigned slots, unsigned channels)
     return cells - 1 < CELLS && slots - 1 < SLOTS && channels - 1 < CHANNELS;
 }
 
+static inline bool any_blocked(const dugg_site *s)
+{
+    uint64_t any = 0;
+    for (unsigned w = 0; w < BLOCK_WORDS; w++)
+        any |= s->blocked[w];
+    return any != 0;
+}
+
+/* Refusal 20 for a blocked position that the site does not have, or 0. */
+static inline dugg_answer blocked_past(const dugg_site *s)
+{
+    size_t n = positions_of(s);
+    for (size_t w = n / 64; w < BLOCK_WORDS; w++) {
+        uint64_t past = w == n / 64 ? s->blocked[w] & ~0ull << n % 64 : s->blocked[w];
+        if (past != 0)
+            return answer(20, 64 * w + __builtin_ctzll(past), 0, 0);
+    }
+    return answer(0, 0, 0, 0);
+}
+
 static inline dugg_answer fault(const dugg_site *s)
 {
     if (!sizes_fine(s->cells, s->slots, s->channels))
@@ -44,6 +64,45 @@ static inline dugg_answer fault(const dugg_site *s)
         if (s->reach[i] & ~allowed)
             return answer(3, i + 1, 0, 0);
     }
+    return any_blocked(s) ? blocked_past(s) : answer(0, 0, 0, 0);
+}
+
+/* How many positions of a sound site are open. */
+static inline uint32_t room_of(const dugg_site *s)
+{
+    uint32_t room = positions_of(s);
+    if (any_blocked(s))
+        for (unsigned w = 0; w < BLOCK_WORDS; w++)
+            room -= __builtin_popcountll(s->blocked[w]);
+    return room;
+}
+
+static inline bool is_blocked(const dugg_site *s, size_t p)
+{
+    return s->blocked[p / 64] >> p % 64 & 1;
+}
+
+/* Lays one word down at every blocked position. */
+static inline void at_blocked(const dugg_site *s, uint32_t *words, uint32_t word)
+{
+    if (!any_blocked(s))
+        return;
+    for (unsigned w = 0; w < BLOCK_WORDS; w++)
+        for (uint64_t rest = s->blocked[w]; rest != 0; rest &= rest - 1)
+            words[64 * w + __builtin_ctzll(rest)] = word;
+}
+
+/* Refusal 22 for words where one of these cells stands at a blocked position, or 0. */
+static inline dugg_answer stands_blocked(const dugg_site *s, const uint32_t *words, uint32_t cells)
+{
+    if (!any_blocked(s))
+        return answer(0, 0, 0, 0);
+    for (unsigned w = 0; w < BLOCK_WORDS; w++)
+        for (uint64_t rest = s->blocked[w]; rest != 0; rest &= rest - 1) {
+            size_t p = 64 * w + __builtin_ctzll(rest);
+            if (words[p] & cells)
+                return answer(22, p, __builtin_ctz(words[p] & cells) + 1, 0);
+        }
     return answer(0, 0, 0, 0);
 }
 

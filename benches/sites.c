@@ -15,6 +15,16 @@ void tunnel(dugg_site *s, unsigned width)
             s->reach[i] |= 1u << j;
 }
 
+void block_half(dugg_site *s, bool by_channels)
+{
+    unsigned n = s->slots * s->channels;
+    for (unsigned p = 0; p < n; p++)
+        if (by_channels ? p % s->channels >= s->channels / 2 : p % 2 == 1)
+            s->blocked[p / 64] |= 1ull << p % 64;
+    for (unsigned i = 0; i < s->cells; i++)
+        s->loads[i] /= 2;
+}
+
 uint64_t chance(uint64_t *seed)
 {
     uint64_t z = *seed += 0x9E3779B97F4A7C15;

@@ -9,7 +9,7 @@ import sys
 
 class Site(ctypes.Structure):
     _fields_ = [("cells", ctypes.c_uint16), ("slots", ctypes.c_uint16), ("channels", ctypes.c_uint16),
-                ("loads", ctypes.c_uint16 * 32), ("reach", ctypes.c_uint32 * 32)]
+                ("loads", ctypes.c_uint16 * 32), ("reach", ctypes.c_uint32 * 32), ("blocked", ctypes.c_uint64 * 32)]
 
 
 class Answer(ctypes.Structure):

@@ -1,13 +1,13 @@
 /* Duggfrask, the C interface: plans channel time-slots for the cells of a wireless fieldbus, and checks finished plans.
  *
- * Every call answers a number and up to three values. Number 0 is "done"; 1 to 19 are the refusals of
+ * Every call answers a number and up to three values. Number 0 is "done"; 1 to 22 are the refusals of
  * docs/RULES.md. Values that are not named below are 0. No call keeps anything between calls.
  *
  *    1  cells, slots or channels out of range
  *    2  a load beyond the last cell (value: lowest such cell), or a load edit of a cell that is not there (the cell)
  *    3  a reach row or bit beyond the last cell, or of a cell to itself (value: lowest row); or an edit or a pair that
  *       names a cell that is not there, or one cell twice (in an edit the value is its "from")
- *    4  the lent table is too short, or too few words are lent
+ *    4  the lent table is too short, or too few words are lent; blocked positions count as open ones do
  *    5  the planner, or the mender, finds no room (values: cell, fragments short)
  *    6  two clashing cells transmit at one position (values: position, first cell, second cell)
  *    7  a cell has the wrong number of reservations (values: cell, its count)
@@ -17,16 +17,19 @@
  *   11  reach pairs do not rise
  *   12  bytes after the last record
  *   13  the lent output is too short (value: bytes needed), or the list of changes is (value: how many there are)
- *   14  a left-over bit of a plan is 1
+ *   14  a left-over bit of a plan, or of the blocked positions in a site file, is 1
  *   15  burst or period is 0, or repeats are not 1 to 4
  *   16  the share is above 65,535
  *   17  the range sheet is malformed (value: its first bad line, from 1)
  *   18  more than 16 flows
  *   19  the site is not chained, all its cells counted
+ *   20  a blocked position that the site does not have (value: lowest such position)
+ *   21  the record of blocked positions in a site file blocks none
+ *   22  a cell transmits at a blocked position (values: position, cell)
  *
  * A refused file read has one value: where in the file the refused record begins (12: the first byte too many;
- * 4: 0). A sheet has no records: its 17 gives the line, its 3 the lowest row. Cells are numbered from 1, positions
- * from 0: slot t and channel f are position (t-1) * channels + (f-1).
+ * 4: 0). A sheet has no records: its 17 gives the line, its 3 the lowest row, its 20 the lowest position.
+ * Cells are numbered from 1, positions from 0: slot t and channel f are position (t-1) * channels + (f-1).
  * A pointer that is lent with length 0 is never looked at. Lent parts must not overlap. */
 #ifndef DUGGFRASK_H
 #define DUGGFRASK_H
@@ -35,7 +38,7 @@
 #include <stdint.h>
 
 /* The version: one more where a record or a call has another shape than before. */
-#define DUGG_VERSION 1
+#define DUGG_VERSION 2
 
 #ifdef __cplusplus
 extern "C" {
@@ -43,8 +46,13 @@ extern "C" {
 
 /* A site: 1 to 32 cells, 1 to 128 slots, 1 to 16 channels, the load of each cell in fragments per superframe, and
  * who reaches whom: bit b-1 of reach[a-1] is set when cell a's transmissions can disturb cell b's. Loads and reach
- * of cells that the site does not have are 0. */
-typedef struct { uint16_t cells, slots, channels, loads[32]; uint32_t reach[32]; } dugg_site;
+ * of cells that the site does not have are 0. Where the plant runs its own Wi-Fi a position is blocked: position k is when
+ * bit k % 64 of blocked[k / 64] is set. The other positions are open. Bits of positions that the site does not have, from
+ * slots * channels on, are 0. Everything may be blocked. */
+typedef struct { uint16_t cells, slots, channels, loads[32]; uint32_t reach[32]; uint64_t blocked[32]; } dugg_site;
+
+/* The blocked positions alone, as a site has them: they are given beside a range sheet. */
+typedef struct { uint64_t bits[32]; } dugg_blocked;
 
 /* The number given back, and the values that belong to it. */
 typedef struct { uint64_t number, value[3]; } dugg_answer;
@@ -60,7 +68,7 @@ typedef struct { uint16_t cells, slots, channels; dugg_answer answer; } dugg_pla
  * fragment is sent, and what it is worth. */
 typedef struct { uint16_t cell, burst, period, repeats, value; } dugg_flow;
 
-/* Is the site record in order? 0, or refusal 1, 2 or 3. Every call that takes a site asks this first. */
+/* Is the site record in order? 0, or refusal 1, 2, 3 or 20. Every call that takes a site asks this first. */
 dugg_answer dugg_fault(dugg_site site);
 
 /* Do cells a and b clash, that is, does either reach the other? Done: value[0] is 1 for yes and 0 for no. A cell that
@@ -76,33 +84,35 @@ dugg_edited dugg_set_reach(dugg_site site, uint16_t from, uint16_t to);
 /* Notes that cell "from" does not reach cell "to". Refusal 3 gives "from". */
 dugg_edited dugg_clear_reach(dugg_site site, uint16_t from, uint16_t to);
 
-/* Does the load of each cell with load above 0, with the loads of its lower-numbered clashing cells, fit into the
- * superframe? Done: 0, 0, 0 if so; otherwise the lowest such cell that is over, and by how many fragments. */
+/* Does the load of each cell with load above 0, with the loads of its lower-numbered clashing cells, fit into the open
+ * positions? Done: 0, 0, 0 if so; otherwise the lowest such cell that is over, and by how many fragments. */
 dugg_answer dugg_load_test(dugg_site site);
 
 /* Is the site chained: for each clashing pair a < c, does each cell between them clash with a? Only cells with load
  * above 0 are asked, as a, as c and between. Done: 0, 0, 0 if so; otherwise the first a, b, c where b does not. */
 dugg_answer dugg_chain(dugg_site site);
 
-/* How many channel-slots, slots times channels, do for the cells, loads and reach of the site, whatever slots and
- * channels it has? Done: value[0] is how many: with so many or more the site is planned. It can be above 2,048, the most
+/* How many open positions do for the cells, loads and reach of the site, whatever slots and channels it has and
+ * whatever is blocked? Done: value[0] is how many: with so many or more the site is planned. It can be above 2,048, the most
  * that a site has. value[1] is 0 on a chained site: fewer never do, whoever plans; otherwise it is 1: fewer may. */
 dugg_answer dugg_least(dugg_site site);
 
 /* The heaviest clash: of all sets of cells that clash with one another the one with the greatest load; of equals, the
  * one with the smallest word. No two of them transmit at one position, so every valid table has at least so many
- * positions, and where the load is above slots times channels no plan exists. On a chained site the load is the number
+ * open positions, and where the load is above their number no plan exists. On a chained site the load is the number
  * that dugg_least gives. Done: value[0] is the load, value[1] the cells, bit i-1 for cell i; 0 and 0 if no cell has a
  * load. */
 dugg_answer dugg_heaviest(dugg_site site);
 
-/* Plans the site into the table, one byte per cell and position, cell after cell: 0 idle, 1 reserved, 2 forbidden.
+/* Plans the site into the table, one byte per cell and position, cell after cell: 0 idle, 1 reserved, 2 forbidden. A
+ * blocked position is skipped: its byte is 0 in every row.
  * The table needs cells * slots * channels bytes (refusal 4); bytes past those are not written. Refusal 5 gives the
  * first cell without room and how many fragments are short, and leaves those bytes 0. */
 dugg_answer dugg_plan(dugg_site site, uint8_t *table, size_t len);
 
-/* Is the finished table valid for the site? A byte that is 1 means transmit, any other is silence. Refusal 6 gives the
- * lowest position with a clash and the two cells; refusal 7 the lowest cell with a wrong count, and its count. */
+/* Is the finished table valid for the site? A byte that is 1 means transmit, any other is silence. Refusal 22 comes first
+ * and gives the lowest blocked position where a cell transmits, and the lowest such cell; refusal 6 the lowest position
+ * with a clash and the two cells; refusal 7 the lowest cell with a wrong count, and its count. */
 dugg_answer dugg_check(dugg_site site, const uint8_t *table, size_t len);
 
 /* A table as words: one for each position, slots * channels of them, position after position. Bit i-1 of a word is set
@@ -124,8 +134,8 @@ dugg_answer dugg_to_words(dugg_site site, const uint8_t *table, size_t len, uint
 dugg_answer dugg_to_bytes(dugg_site site, const uint32_t *words, size_t count, uint8_t *table, size_t len);
 
 /* Mends a table from another planner where it stands, and lists the changes. Cells in rising number: each keeps its
- * reservations in rising position where no earlier clashing cell stands, until its load is met; drops the rest; then
- * takes the lowest free positions until it is met. A byte that is added becomes 1, one that is dropped 0; every other
+ * reservations in rising position where it is open and no earlier clashing cell stands, until its load is met; drops the
+ * rest; then takes the lowest free positions, which are open, until it is met. A byte that is added becomes 1, one that is dropped 0; every other
  * byte stays. The changes stand by cell, then position, four numbers each: cell, position, what it was, what it is (1
  * reservation, 0 silence). "count" is how many numbers the list has; what is left over after whole fours, and entries
  * past the last change, are not written. Done: how many changes. Refusal 4: the table is short; 5: the first cell
@@ -143,15 +153,17 @@ dugg_answer dugg_share_repeated(uint16_t slots, uint16_t burst, uint16_t period,
 
 /* Which of at most 16 flows to admit on a chained site: the set of greatest total value whose shares, summed by cell,
  * pass the load test; of equals, the set with the smallest number, where flow 1 weighs 1, flow 2 weighs 2, flow 3 weighs
- * 4 and so on. The site's own loads are set aside. Done: value[0] is the set's number. Refusals: the record's 1, 2 or 3;
- * 18; 19; then flow by flow 2 for a cell that the site does not have, 15 and 16, each with the flow's number, from 1. A
+ * 4 and so on. The site's own loads are set aside. Done: value[0] is the set's number. Refusals: the record's 1, 2, 3 or
+ * 20; 18; 19; then flow by flow 2 for a cell that the site does not have, 15 and 16, each with the flow's number, from 1. A
  * flow's 2 has the same number as the record's: dugg_fault tells which it is. */
 dugg_answer dugg_admit(dugg_site site, const dugg_flow *flows, size_t count);
 
 /* Reads a site file. */
 dugg_edited dugg_read_site(const uint8_t *bytes, size_t len);
 
-/* Writes a site file. Done: value[0] is the number of bytes written; bytes past those are not touched. */
+/* Writes a site file. Where something is blocked it ends with a record of kind 6; software that is older than version 2
+ * refuses such a file with 12. A site without blocked positions has the file that it had before. Done: value[0] is the
+ * number of bytes written; bytes past those are not touched. */
 dugg_answer dugg_write_site(dugg_site site, uint8_t *out, size_t len);
 
 /* Reads a plan file into the table, 1 for reserved and 0 for the rest. A refused file writes nothing. */
@@ -162,11 +174,12 @@ dugg_plan_read dugg_read_plan(const uint8_t *bytes, size_t len, uint8_t *table, 
 dugg_answer dugg_write_plan(dugg_site site, const uint8_t *table, size_t table_len, uint8_t *out, size_t len);
 
 /* Reads a range sheet: a first line "cell,load,1,2,.." with the cell numbers, then a line for each cell with its number,
- * its load, and for each cell a mark, 1 if it reaches that cell and 0 if not. Every line ends in CR LF. The slots and
- * the channels of the site come beside it. Refusals: 17, then 1, then 3 for a cell that marks itself. */
-dugg_edited dugg_read_sheet(const uint8_t *bytes, size_t len, uint16_t slots, uint16_t channels);
+ * its load, and for each cell a mark, 1 if it reaches that cell and 0 if not. Every line ends in CR LF. The slots, the
+ * channels and the blocked positions of the site come beside it. Refusals: 17, then 1, then 3 for a cell that marks itself,
+ * then 20. */
+dugg_edited dugg_read_sheet(const uint8_t *bytes, size_t len, uint16_t slots, uint16_t channels, dugg_blocked blocked);
 
-/* Writes the range sheet of a site. Done: value[0] is the number of bytes written; bytes past those are not touched. */
+/* Writes the range sheet of a site; the blocked positions are not in it. Done: value[0] is the number of bytes written; bytes past those are not touched. */
 dugg_answer dugg_write_sheet(dugg_site site, uint8_t *out, size_t len);
 
 #ifdef __cplusplus

@@ -3,7 +3,7 @@
 use crate::admit::Flow;
 use crate::answer::{done, Answer, Outcome};
 use crate::share::{Fragments, Repeats, Share, Slots};
-use crate::site::Site;
+use crate::site::{Positions, Site};
 use crate::{admit, checker, files, heaviest, judge, mender, planner, share, sheet, words};
 
 #[repr(C)]
@@ -11,6 +11,13 @@ use crate::{admit, checker, files, heaviest, judge, mender, planner, share, shee
 pub struct Edited {
     pub site: Site,
     pub answer: Answer,
+}
+
+/// The blocked positions that are given beside a sheet.
+#[repr(C)]
+#[derive(Clone, Copy, Debug, PartialEq, Eq)]
+pub struct Blocked {
+    pub bits: Positions,
 }
 
 #[repr(C)]
@@ -174,8 +181,14 @@ pub unsafe extern "C" fn second_write_plan(
 /// # Safety
 /// `bytes` has `len` bytes.
 #[no_mangle]
-pub unsafe extern "C" fn second_read_sheet(bytes: *const u8, len: usize, slots: u16, channels: u16) -> Edited {
-    edited(sheet::read_sheet(lent(bytes, len), slots, channels), Site::default())
+pub unsafe extern "C" fn second_read_sheet(
+    bytes: *const u8,
+    len: usize,
+    slots: u16,
+    channels: u16,
+    blocked: Blocked,
+) -> Edited {
+    edited(sheet::read_sheet(lent(bytes, len), slots, channels, &blocked.bits), Site::default())
 }
 
 /// # Safety

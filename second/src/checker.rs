@@ -15,10 +15,24 @@ pub fn transmits(site: &Site, table: &[u8], cell: usize, position: usize) -> boo
     table[(cell - 1) * site.positions() + position] == RESERVED
 }
 
-/// Are the transmissions, by cell and position, valid for the site? Refusal 6 comes before refusal 7.
+/// Are the transmissions, by cell and position, valid for the site? Refusal 22 comes before refusal 6, and that before 7.
 pub fn judge(site: &Site, sends: impl Fn(usize, usize) -> bool) -> Outcome<()> {
+    none_where_blocked(site, &sends)?;
     no_clash(site, &sends)?;
     counts_right(site, &sends)
+}
+
+/// Refusal 22: the lowest blocked position with a reservation; there the lowest cell that has one.
+fn none_where_blocked(site: &Site, sends: impl Fn(usize, usize) -> bool) -> Outcome<()> {
+    for position in 0..site.positions() {
+        if site.is_open(position) {
+            continue;
+        }
+        if let Some(cell) = (1..=site.count()).find(|&cell| sends(cell, position)) {
+            return refuse(22, &[position as u64, cell as u64]);
+        }
+    }
+    Ok(())
 }
 
 /// Refusal 6: the lowest position with a clash; there the pair with the lowest first cell, then second.

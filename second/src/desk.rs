@@ -8,6 +8,7 @@ mod wording;
 
 use crate::admit::{admit as admitted_set, Flow};
 use crate::answer::Answer;
+use crate::blocklist::read_list;
 use crate::checker;
 use crate::files::{read_plan, read_site, write_plan, write_site};
 use crate::judge::first_gap;
@@ -15,12 +16,12 @@ use crate::mender;
 use crate::planner;
 use crate::share::{share as share_once, share_of, Fragments, Repeats, Share, Slots};
 use crate::sheet::{read_sheet, write_sheet};
-use crate::site::Site;
+use crate::site::{Positions, Site};
 pub use input::Input;
 use input::Kind;
 use wording::{
-    change_line, counted, no_room, no_room_beside, not_chained, refused, sends_wrongly, sizes, wrong_flow, wrong_slots,
-    Place,
+    bad_list, change_line, counted, no_room, no_room_beside, not_chained, refused, sends_wrongly, sizes, wrong_flow,
+    wrong_slots, Place,
 };
 
 /// Of each input no more than this is looked at.
@@ -114,11 +115,16 @@ pub fn sheet(site_file: Input) -> Told {
     result(written(|file| write_sheet(&site, file)))
 }
 
+/// The positions that a list names, or the line for standard error: the command is used wrongly, and its status is 2.
+pub fn blocked(list: &[u8], slots: u16, channels: u16) -> Result<Positions, String> {
+    read_list(list, slots, channels).map_err(bad_list)
+}
+
 /// The site file of a range sheet. Slots and channels above 65,535 are given as 0, which is out of range as well: that
-/// refusal is not the sheet's.
-pub fn site(sheet: Input, slots: u16, channels: u16) -> Told {
+/// refusal is not the sheet's. Blocked positions come from a list, which names none that the site does not have.
+pub fn site(sheet: Input, slots: u16, channels: u16, blocked: &Positions) -> Told {
     let sheet = seen(sheet);
-    let site = read_sheet(sheet.bytes, slots, channels).map_err(|no| {
+    let site = read_sheet(sheet.bytes, slots, channels, blocked).map_err(|no| {
         let value = no.value[0];
         match no.number {
             1 => refused(1, Place::Nowhere),
@@ -253,10 +259,38 @@ mod tests {
     fn sheets_and_their_refusals() {
         let sheet_of_one = b"cell,load,1\r\n1,1,0\r\n";
         assert_eq!(sheet(file(&one(1))), result(*sheet_of_one));
-        assert_eq!(site(file(sheet_of_one), 2, 1), result(one(1)));
-        assert!(site(file(sheet_of_one), 0, 1).unwrap_err().starts_with("refused 1: "));
-        assert!(site(file(b"cell,load,1\r\n1,1,1\r\n"), 2, 1).unwrap_err().starts_with("f: refused 3, cell 1: "));
-        assert!(site(file(b"cell,load,1\r\n"), 0, 1).unwrap_err().starts_with("f: refused 17, line 2: "));
+        let site = |bytes, slots, channels| site(file(bytes), slots, channels, &[0; 32]);
+        assert_eq!(site(sheet_of_one, 2, 1), result(one(1)));
+        assert!(site(sheet_of_one, 0, 1).unwrap_err().starts_with("refused 1: "));
+        assert!(site(b"cell,load,1\r\n1,1,1\r\n", 2, 1).unwrap_err().starts_with("f: refused 3, cell 1: "));
+        assert!(site(b"cell,load,1\r\n", 0, 1).unwrap_err().starts_with("f: refused 17, line 2: "));
+    }
+
+    #[test]
+    fn a_sheet_with_a_list_of_blocked_positions() {
+        let set = blocked(b"2.*", 2, 1).unwrap();
+        let made = site(file(b"cell,load,1\r\n1,1,0\r\n"), 2, 1, &set).unwrap().result;
+        assert_eq!(made, [&one(1)[..], &[3, 0, 6, 0, 2]].concat());
+        assert_eq!(sheet(file(&made)), result(*b"cell,load,1\r\n1,1,0\r\n"));
+        let line = "--blocked: at character 5 stands no slot.channel of this site\n";
+        assert_eq!(blocked(b"1.1,3.1", 2, 1), Err(line.into()));
+    }
+
+    #[test]
+    fn a_plan_that_sends_where_it_is_blocked() {
+        let empty = plan_of(&Site::sized(1, 2, 1), &[0, 0]);
+        let first = plan_of(&Site::sized(1, 2, 1), &[1, 0]);
+        let second = plan_of(&Site::sized(1, 2, 1), &[0, 1]);
+        let site = [&one(1)[..], &[3, 0, 6, 0, 1]].concat();
+        let line = "refused 22: cell 1 sends in slot 1, channel 1, which is blocked\n";
+        assert_eq!(check(file(&site), file(&first)), Err(line.into()));
+        assert_eq!(plan(file(&site)).unwrap().result, second);
+        assert_eq!(
+            mend(file(&site), file(&empty)).unwrap().words,
+            "mended with 1 change\ncell 1: slot 2 channel 1 added\n"
+        );
+        let both = "mended with 2 changes\ncell 1: slot 1 channel 1 dropped\ncell 1: slot 2 channel 1 added\n";
+        assert_eq!(mend(file(&site), file(&first)), Ok(Done { result: second, words: both.into() }));
     }
 
     #[test]

@@ -1,14 +1,16 @@
-//! "House files": the site file (kinds 1, 2, 3) and the plan file (kinds 1, 4), read and written. A record is its
-//! length (two bytes, counting what follows them), its kind (two bytes) and its body; numbers are little-endian.
+//! "House files": the site file (kinds 1, 2, 3, and 6 where something is blocked) and the plan file (kinds 1, 4), read and
+//! written. A record is its length (two bytes, counting what follows them), its kind (two bytes) and its body; numbers are
+//! little-endian.
 
 use crate::answer::{refuse, Outcome};
 use crate::planner::{table_fits, RESERVED};
-use crate::site::{sizes_in_range, Site};
+use crate::site::{set_of, sizes_in_range, Site};
 
 const HEAD: u16 = 1;
 const LOADS: u16 = 2;
 const REACH: u16 = 3;
 const PLAN: u16 = 4;
+const BLOCKED: u16 = 6;
 
 /// A record that has the kind and the length that are due, and lies within the file.
 struct Record<'a> {
@@ -49,7 +51,7 @@ fn open(bytes: &[u8], at: usize, kind: u16, right: impl Fn(usize) -> bool) -> Ou
     Ok(Record { at, body: &bytes[at + 4..end], end })
 }
 
-/// Kind 1. The site that comes of it has no loads and no reach.
+/// Kind 1. The site that comes of it has its sizes alone.
 fn read_head(bytes: &[u8]) -> Outcome<(Site, usize)> {
     let head = open(bytes, 0, HEAD, |length| length == 8)?;
     let (cells, slots, channels) = (word(head.body, 0), word(head.body, 2), word(head.body, 4));
@@ -86,8 +88,40 @@ pub fn read_site(bytes: &[u8]) -> Outcome<Site> {
         before = Some((from, to));
         site.reach[from - 1] |= 1 << (to - 1);
     }
-    nothing_after(bytes, reach.end)?;
+    // A file that ends here is whole; any byte more makes kind 6 due.
+    if reach.end < bytes.len() {
+        read_blocked(bytes, reach.end, &mut site)?;
+    }
     Ok(site)
+}
+
+/// Kind 6, the last record of a site file: 14 for a left-over bit, then 21 if nothing is blocked, and 12 after it.
+fn read_blocked(bytes: &[u8], at: usize, site: &mut Site) -> Outcome<()> {
+    let bits = site.positions();
+    let blocked = open_bits(bytes, at, BLOCKED, bits)?;
+    site.blocked = set_of((0..bits).filter(|&k| bit(blocked.body, k)));
+    if !site.has_blocked() {
+        return blocked.refuse(21);
+    }
+    nothing_after(bytes, blocked.end)
+}
+
+/// Opens a record of bits, which is of just the length that they take: 14 after its other refusals.
+fn open_bits(bytes: &[u8], at: usize, kind: u16, bits: usize) -> Outcome<Record<'_>> {
+    let record = open(bytes, at, kind, |length| length == 2 + bits.div_ceil(8))?;
+    if (bits..8 * record.body.len()).any(|k| bit(record.body, k)) {
+        return record.refuse(14);
+    }
+    Ok(record)
+}
+
+/// The bytes of so many bits, left-over bits 0.
+fn packed(bits: impl ExactSizeIterator<Item = bool>) -> Vec<u8> {
+    let mut body = vec![0; bits.len().div_ceil(8)];
+    for (k, set) in bits.enumerate() {
+        body[k / 8] |= (set as u8) << (k % 8);
+    }
+    body
 }
 
 fn push_word(file: &mut Vec<u8>, number: usize) {
@@ -133,6 +167,9 @@ pub fn write_site(site: &Site, out: &mut [u8]) -> Outcome<usize> {
     push_head(&mut file, site);
     push_record(&mut file, LOADS, &loads);
     push_record(&mut file, REACH, &pairs);
+    if site.has_blocked() {
+        push_record(&mut file, BLOCKED, &packed((0..site.positions()).map(|k| !site.is_open(k))));
+    }
     deliver(&file, out)
 }
 
@@ -141,14 +178,11 @@ fn bit(bytes: &[u8], k: usize) -> bool {
     bytes[k / 8] >> (k % 8) & 1 == 1
 }
 
-/// Reads a plan file into the lent table and gives the three sizes, as a site with no loads and no reach.
+/// Reads a plan file into the lent table and gives the three sizes, as a site that has them alone.
 pub fn read_plan(bytes: &[u8], table: &mut [u8]) -> Outcome<Site> {
     let (site, head_end) = read_head(bytes)?;
     let bits = site.table_len();
-    let plan = open(bytes, head_end, PLAN, |length| length == 2 + bits.div_ceil(8))?;
-    if (bits..8 * plan.body.len()).any(|k| bit(plan.body, k)) {
-        return plan.refuse(14);
-    }
+    let plan = open_bits(bytes, head_end, PLAN, bits)?;
     nothing_after(bytes, plan.end)?;
     table_fits(&site, table.len())?;
     for (k, byte) in table[..bits].iter_mut().enumerate() {
@@ -161,13 +195,7 @@ pub fn read_plan(bytes: &[u8], table: &mut [u8]) -> Outcome<Site> {
 pub fn write_plan(site: &Site, table: &[u8], out: &mut [u8]) -> Outcome<usize> {
     site.sound()?;
     table_fits(site, table.len())?;
-    let bits = site.table_len();
-    let mut body = vec![0; bits.div_ceil(8)];
-    for (k, &byte) in table[..bits].iter().enumerate() {
-        if byte == RESERVED {
-            body[k / 8] |= 1 << (k % 8);
-        }
-    }
+    let body = packed(table[..site.table_len()].iter().map(|&byte| byte == RESERVED));
     let mut file = Vec::new();
     push_head(&mut file, site);
     push_record(&mut file, PLAN, &body);

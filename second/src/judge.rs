@@ -1,4 +1,4 @@
-//! "Load test and chain": the two verdicts on a sound site, and how many channel-slots do. All are about the cells with
+//! "Load test and chain": the two verdicts on a sound site, and how many open channel-slots do. All are about the cells with
 //! load above 0 only; a cell with load 0 is a spare.
 
 use crate::answer::Outcome;
@@ -27,7 +27,7 @@ fn sum_at(site: &Site, loads: &[u64], cell: usize) -> u64 {
 
 /// The load test with these loads in place of the site's own, the first for cell 1. Spares are skipped.
 pub fn first_over(site: &Site, loads: &[u64]) -> Option<(usize, u64)> {
-    let room = site.positions() as u64;
+    let room = site.room();
     for cell in 1..=site.count() {
         if loads[cell - 1] == 0 {
             continue;
@@ -40,7 +40,7 @@ pub fn first_over(site: &Site, loads: &[u64]) -> Option<(usize, u64)> {
     None
 }
 
-/// How many channel-slots do for the site's cells, loads and reach.
+/// How many open channel-slots do for the site's cells, loads and reach.
 #[derive(Clone, Copy, Debug, PartialEq, Eq)]
 pub struct Least {
     pub channel_slots: u64,
@@ -48,8 +48,8 @@ pub struct Least {
     pub fewer_may_do: bool,
 }
 
-/// The most that a loaded cell asks of the channel-slots; 0 if no cell is loaded. The site's own slots and channels play
-/// no part.
+/// The most that a loaded cell asks of the channel-slots; 0 if no cell is loaded. The site's own slots, channels and
+/// blocked positions play no part.
 pub fn least(site: &Site) -> Outcome<Least> {
     let fewer_may_do = chain(site)?.is_some();
     let loads = loads(site);

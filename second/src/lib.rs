@@ -3,6 +3,7 @@
 
 pub mod admit;
 pub mod answer;
+pub mod blocklist;
 pub mod capi;
 pub mod checker;
 pub mod desk;
@@ -11,6 +12,7 @@ pub mod heaviest;
 pub mod judge;
 pub mod listing;
 pub mod mender;
+pub mod old_reader;
 pub mod planner;
 pub mod share;
 pub mod sheet;

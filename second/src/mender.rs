@@ -40,9 +40,10 @@ impl Stands<'_> {
         self.at[self.index(cell, position)]
     }
 
-    /// No kept or added reservation of an earlier clashing cell stands here.
+    /// The position is open, and no kept or added reservation of an earlier clashing cell stands here.
     fn free(&self, cell: usize, position: usize) -> bool {
-        (1..cell).all(|earlier| !(self.holds(earlier, position) && self.site.clash(earlier, cell)))
+        self.site.is_open(position)
+            && (1..cell).all(|earlier| !(self.holds(earlier, position) && self.site.clash(earlier, cell)))
     }
 
     /// Reserves those of the positions that are free, in rising order, until nothing is left of the load.

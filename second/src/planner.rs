@@ -1,4 +1,4 @@
-//! "Greedy order": paper 000's Figure 1, line by line.
+//! "Greedy order": paper 000's Figure 1, line by line; blocked positions are skipped.
 
 use crate::answer::{refuse, Outcome};
 use crate::site::Site;
@@ -30,7 +30,8 @@ pub fn plan(site: &Site, table: &mut [u8]) -> Outcome<()> {
 fn g_schedule(site: &Site, s: &mut [u8]) -> Outcome<()> {
     let (slots, channels) = (site.slots as usize, site.channels as usize);
     // Slots and channels are counted from 1, as the paper does.
-    let at = |i: usize, t: usize, f: usize| (i - 1) * site.positions() + (t - 1) * channels + (f - 1);
+    let position = |t: usize, f: usize| (t - 1) * channels + (f - 1);
+    let at = |i: usize, t: usize, f: usize| (i - 1) * site.positions() + position(t, f);
     s.fill(IDLE);
     for i in 1..=site.count() {
         let mut l = site.load(i);
@@ -39,7 +40,7 @@ fn g_schedule(site: &Site, s: &mut [u8]) -> Outcome<()> {
                 if l == 0 {
                     break 'search;
                 }
-                if s[at(i, t, f)] == IDLE {
+                if s[at(i, t, f)] == IDLE && site.is_open(position(t, f)) {
                     s[at(i, t, f)] = RESERVED;
                     l -= 1;
                     for j in i + 1..=site.count() {

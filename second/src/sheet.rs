@@ -1,8 +1,9 @@
-//! "Range sheets": a site as a comma-separated sheet, read and written. Its slots and channels come beside it.
+//! "Range sheets": a site as a comma-separated sheet, read and written. Its slots, channels and blocked positions come
+//! beside it.
 
 use crate::answer::{refuse, Outcome};
 use crate::files::deliver;
-use crate::site::{Site, MOST_CELLS};
+use crate::site::{Positions, Site, MOST_CELLS};
 
 const LINE_END: &[u8] = b"\r\n";
 
@@ -62,13 +63,13 @@ pub fn bad_line<T>(line: usize) -> Outcome<T> {
     refuse(17, &[line as u64])
 }
 
-/// Reads a sheet: 17, then the record's 1 and 3.
-pub fn read_sheet(bytes: &[u8], slots: u16, channels: u16) -> Outcome<Site> {
+/// Reads a sheet: 17, then the record's 1, 3 and 20.
+pub fn read_sheet(bytes: &[u8], slots: u16, channels: u16, blocked: &Positions) -> Outcome<Site> {
     let (lines, rest) = split_lines(bytes);
     let Some(cells) = lines.first().and_then(|line| read_first(line)) else {
         return bad_line(1);
     };
-    let mut site = Site::sized(cells, slots as usize, channels as usize);
+    let mut site = Site { blocked: *blocked, ..Site::sized(cells, slots as usize, channels as usize) };
     for cell in 1..=cells {
         let Some((load, row)) = lines.get(cell).and_then(|line| read_cell(line, cell, cells)) else {
             return bad_line(cell + 1);
@@ -104,11 +105,14 @@ pub fn write_sheet(site: &Site, out: &mut [u8]) -> Outcome<usize> {
 #[cfg(test)]
 mod tests {
     use super::*;
+    use crate::site::set_of;
+
+    const NONE: Positions = [0; 32];
 
     const P1: &str = "cell,load,1,2,3\r\n1,5,0,0,0\r\n2,1,1,0,1\r\n3,4,0,0,0\r\n";
 
     fn read(text: &str) -> Outcome<Site> {
-        read_sheet(text.as_bytes(), 3, 2)
+        read_sheet(text.as_bytes(), 3, 2, &NONE)
     }
 
     #[test]
@@ -125,6 +129,17 @@ mod tests {
         assert_eq!(P1.len(), 50);
         assert_eq!(write_sheet(&site, &mut short), refuse(13, &[50]));
         assert_eq!(short, [9; 49]);
+    }
+
+    #[test]
+    fn blocked_positions_come_beside() {
+        let site = read(P1).unwrap();
+        for blocked in [set_of(0..1), set_of(5..6), set_of(0..6)] {
+            assert_eq!(read_sheet(P1.as_bytes(), 3, 2, &blocked), Ok(Site { blocked, ..site }));
+            let mut out = [9; 50];
+            assert_eq!(write_sheet(&Site { blocked, ..site }, &mut out), Ok(50));
+            assert_eq!(&out[..], P1.as_bytes());
+        }
     }
 
     #[test]
@@ -161,10 +176,13 @@ mod tests {
     #[test]
     fn refusals_in_their_order() {
         let own = P1.replace("3,4,0,0,0", "3,4,0,0,1").replace("2,1,1,0,1", "2,1,1,1,1");
+        let past = set_of([3, 7, 6].into_iter());
         assert_eq!(read(&own), refuse(3, &[2]));
-        assert_eq!(read_sheet(own.as_bytes(), 129, 2), refuse(1, &[]));
-        assert_eq!(read_sheet(own.as_bytes(), 3, 0), refuse(1, &[]));
-        assert_eq!(read_sheet(own.replace("1,5", "1,5x").as_bytes(), 0, 0), bad_line(2));
+        assert_eq!(read_sheet(own.as_bytes(), 3, 2, &past), refuse(3, &[2]));
+        assert_eq!(read_sheet(P1.as_bytes(), 3, 2, &past), refuse(20, &[6]));
+        assert_eq!(read_sheet(own.as_bytes(), 129, 2, &past), refuse(1, &[]));
+        assert_eq!(read_sheet(own.as_bytes(), 3, 0, &past), refuse(1, &[]));
+        assert_eq!(read_sheet(own.replace("1,5", "1,5x").as_bytes(), 0, 0, &past), bad_line(2));
         assert_eq!(read(&P1.replace("1,5,", "1,65535,")).unwrap().loads[0], 65_535);
     }
 }

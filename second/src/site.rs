@@ -6,7 +6,26 @@ pub const MOST_CELLS: usize = 32;
 pub const MOST_SLOTS: usize = 128;
 pub const MOST_CHANNELS: usize = 16;
 
-/// One site record: all 32 loads and all 32 reach rows, used or not. Bit b-1 of row a-1 means that cell a reaches b.
+/// The positions of the largest site, 128 times 16.
+pub const MOST_POSITIONS: usize = 2048;
+
+/// A set of positions: position k is bit k % 64 of word k / 64.
+pub type Positions = [u64; 32];
+
+pub fn in_set(set: &Positions, position: usize) -> bool {
+    set[position / 64] >> (position % 64) & 1 == 1
+}
+
+pub fn set_of(positions: impl Iterator<Item = usize>) -> Positions {
+    let mut set = [0; 32];
+    for position in positions {
+        set[position / 64] |= 1 << (position % 64);
+    }
+    set
+}
+
+/// One site record: all 32 loads and all 32 reach rows, used or not. Bit b-1 of row a-1 means that cell a reaches b. The
+/// blocked positions are those that the plant uses itself: no cell may send there.
 #[repr(C)]
 #[derive(Clone, Copy, Debug, Default, PartialEq, Eq)]
 pub struct Site {
@@ -15,10 +34,11 @@ pub struct Site {
     pub channels: u16,
     pub loads: [u16; 32],
     pub reach: [u32; 32],
+    pub blocked: Positions,
 }
 
 impl Site {
-    /// A site with no loads and no reach.
+    /// A site with no loads, no reach and nothing blocked.
     pub fn sized(cells: usize, slots: usize, channels: usize) -> Site {
         let (cells, slots, channels) = (cells as u16, slots as u16, channels as u16);
         Site { cells, slots, channels, ..Site::default() }
@@ -29,9 +49,23 @@ impl Site {
         self.cells as usize
     }
 
-    /// N, the number of positions: channels times slots.
+    /// N, the number of positions, open and blocked: channels times slots.
     pub fn positions(&self) -> usize {
         self.slots as usize * self.channels as usize
+    }
+
+    pub fn is_open(&self, position: usize) -> bool {
+        !in_set(&self.blocked, position)
+    }
+
+    pub fn has_blocked(&self) -> bool {
+        self.blocked != [0; 32]
+    }
+
+    /// How many positions of a sound site are open: the load test's N.
+    pub fn room(&self) -> u64 {
+        let blocked: u32 = self.blocked.iter().map(|word| word.count_ones()).sum();
+        self.positions() as u64 - blocked as u64
     }
 
     /// The bytes of a table, one for each cell and position.
@@ -56,7 +90,8 @@ impl Site {
         self.has(a) && self.has(b) && a != b && (self.reaches(a, b) || self.reaches(b, a))
     }
 
-    /// The record's own faults: 1, then 2 with the lowest cell, then 3 with the lowest row.
+    /// The record's own faults: 1, then 2 with the lowest cell, then 3 with the lowest row, then 20 with the lowest blocked
+    /// position that the site does not have.
     pub fn sound(&self) -> Outcome<()> {
         sizes_in_range(self.count(), self.slots as usize, self.channels as usize)?;
         for cell in 1..=MOST_CELLS {
@@ -72,7 +107,11 @@ impl Site {
                 }
             }
         }
-        Ok(())
+        let past = || (self.positions()..MOST_POSITIONS).find(|&position| !self.is_open(position));
+        match self.has_blocked().then(past).flatten() {
+            Some(position) => refuse(20, &[position as u64]),
+            None => Ok(()),
+        }
     }
 
     /// The site with one load set.
@@ -152,11 +191,32 @@ mod tests {
         assert_eq!(site.sound(), refuse(3, &[2]));
         site.reach[0] = 1 << 3;
         assert_eq!(site.sound(), refuse(3, &[1]));
+        site.blocked = [!0; 32];
+        assert_eq!(site.sound(), refuse(3, &[1]));
         site.loads[31] = 1;
         site.loads[3] = 1;
         assert_eq!(site.sound(), refuse(2, &[4]));
         site.slots = 0;
         assert_eq!(site.sound(), refuse(1, &[]));
+    }
+
+    #[test]
+    fn blocked_positions_within_the_site() {
+        let blocked = |positions: &[usize]| Site { blocked: set_of(positions.iter().copied()), ..three() };
+        for positions in [&[][..], &[0], &[5], &[0, 1, 2, 3, 4, 5]] {
+            let site = blocked(positions);
+            assert_eq!((site.sound(), site.room()), (Ok(()), 6 - positions.len() as u64));
+            assert_eq!(site.has_blocked(), !positions.is_empty());
+            assert!((0..6).all(|k| site.is_open(k) != positions.contains(&k)));
+        }
+        for (positions, lowest) in
+            [(&[6][..], 6), (&[5, 2047], 2047), (&[64, 63], 63), (&[2000, 128, 0], 128), (&[6, 7, 8], 6)]
+        {
+            assert_eq!(blocked(positions).sound(), refuse(20, &[lowest]));
+            assert_eq!(blocked(positions).with_load(9, 1), refuse(20, &[lowest]));
+        }
+        let largest = Site { blocked: [!0; 32], ..Site::sized(32, 128, 16) };
+        assert_eq!((largest.sound(), largest.room()), (Ok(()), 0));
     }
 
     #[test]

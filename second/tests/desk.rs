@@ -7,7 +7,7 @@ use second::answer::{refuse, Outcome};
 use second::checker::check;
 use second::judge::{chain, load_test};
 use second::planner::plan;
-use second::site::Site;
+use second::site::{set_of, Site};
 
 fn planned(site: &Site) -> Outcome<Vec<u8>> {
     let mut table = vec![9; site.table_len()];
@@ -68,6 +68,20 @@ fn p2_is_over() {
     let site = p1(&[5, 2, 4]);
     assert_eq!(load_test(&site), Ok(Some((2, 1))));
     assert_eq!(planned(&site), refuse(5, &[2, 1]));
+}
+
+/// P1 has 6 positions; without position 0 cell 1 takes the other 5, and cell 2, which clashes with it, has none left.
+#[test]
+fn p1_with_position_0_blocked_is_over() {
+    let site = Site { blocked: set_of(0..1), ..p1(&[5, 1, 4]) };
+    assert_eq!(load_test(&site), Ok(Some((2, 1))));
+    assert_eq!(chain(&site), Ok(None));
+    assert_eq!(planned(&site), refuse(5, &[2, 1]));
+    // With one fragment less in cell 1 there is room: cell 2 takes position 5, and cell 3 takes 1 to 4.
+    let less = site.with_load(1, 4).unwrap();
+    assert_eq!(load_test(&less), Ok(None));
+    assert_eq!(planned(&less), Ok(table("011110 022221 011112")));
+    assert_eq!(check(&less, &table("011110 022221 011112")), Ok(()));
 }
 
 #[test]

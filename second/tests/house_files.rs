@@ -53,10 +53,10 @@ fn the_files_of_the_rules_are_the_samples() {
 
 #[test]
 fn the_sample_sheets_are_the_sites() {
-    for (name, slots, channels) in [("p1", 3, 2), ("tunnel32", 128, 16)] {
+    for (name, slots, channels) in [("p1", 3, 2), ("north", 8, 2), ("tunnel32", 128, 16)] {
         let sheet = sample(&format!("{name}.sheet.csv"));
         let site = read_site(&sample(&format!("{name}.site"))).unwrap();
-        assert_eq!(read_sheet(&sheet, slots, channels), Ok(site));
+        assert_eq!(read_sheet(&sheet, slots, channels, &[0; 32]), Ok(site));
         let mut out = vec![9; sheet.len()];
         assert_eq!(write_sheet(&site, &mut out), Ok(sheet.len()));
         assert_eq!(out, sheet);
@@ -124,7 +124,8 @@ fn refusals_of_the_site_reader() {
     assert_eq!(read_site(&changed(&[(25, 2)])), refuse(3, &[20]));
     assert_eq!(read_site(&changed(&[(27, 1)])), refuse(11, &[20]));
     assert_eq!(read_site(&changed(&[(26, 1), (27, 1)])), refuse(3, &[20]));
-    assert_eq!(read_site(&changed(&[(20, 4)])), refuse(12, &[26]));
+    // Two bytes are left after the reach: a record is due there.
+    assert_eq!(read_site(&changed(&[(20, 4)])), refuse(8, &[26]));
     assert_eq!(read_site(&PLAN), refuse(9, &[10]));
 }
 
@@ -159,6 +160,12 @@ fn samples_are_what_their_names_say() {
     assert_eq!(listing(&sample("p3.site")), p3);
     assert!(listing(&sample("p4.site")).ends_with("\nplan 5 4 1\n"));
     assert!(listing(&sample("p6.site")).ends_with("\nplan done\n1 1.1\n2 1.1\n3 2.1\n4 2.1\n5 1.1\n"));
+    let north = "site 5 8 2\nchain yes\nload holds\nplan done\n1 1.1 1.2 2.1 2.2 3.1 3.2\n";
+    assert!(listing(&sample("north.site")).starts_with(north));
+    let wifi = "site 5 8 2\nchain yes\nload holds\nplan done\n1 1.1 2.1 3.1 4.1 5.1 5.2\n2 6.1 6.2 7.1 7.2 8.1\n\
+                3 1.1 2.1 3.1 4.1\n4 5.1 5.2 6.1 6.2 7.1 7.2 8.1\n5\n";
+    assert_eq!(listing(&sample("wifi.site")), wifi);
+    assert_eq!(listing(&sample("p1blocked.site")), "site 3 3 2\nchain yes\nload over 2 1\nplan 5 2 1\n");
     assert_eq!(listing(&sample("p11.site")), "site 1 1 1\nchain yes\nload holds\nplan done\n1 1.1\n");
     let tunnel = read_site(&sample("tunnel32.site")).unwrap();
     assert_eq!((tunnel.cells, tunnel.slots, tunnel.channels), (32, 128, 16));

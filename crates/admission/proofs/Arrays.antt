@@ -18,6 +18,7 @@ use Rattle.laws.proofs.Search.{first-most, first-before}
 use Rattle.laws.proofs.Stores.{sets-at, sets-beyond}
 use Rattle.theory.specs.Net.{everyone}
 use Rattle.theory.specs.Verdict.{chainVerdict}
+use Rattle.positions.specs.Blocked.{openIn}
 use Rattle.site.specs.Record.{positions, faultOf}
 use Rattle.site.specs.Reach.{clashOf, netOf}
 use Rattle.site.specs.declared.Site.{Site}
@@ -69,8 +70,9 @@ module _ (s : Site) (fine : faultOf s ≡ Fine) (f : ℕ → Flow) (n : ℕ) (fe
     pub inside-most : (k : ℕ) → k < 16 → getD own k 0 < 32
     inside-most k l = omega (arith, inside k l, fine-sized s fine .cells-most)
 
-    pub stands : (rows : List ℕ) → bitIn rows ≡ clashOf s → isChained (chainVerdict (netOf s) everyone) ≡ true → Stands (netOf s) (positions s) rows own
-    stands rows relation chain = record { room-is = sym (net-open s); clash-is = relation; inside = inside; class = chain-class (netOf s) chain }
+    pub stands : (room : ℕ) → room ≡ openIn (s .blocked) (positions s) → (rows : List ℕ) → bitIn rows ≡ clashOf s
+        → isChained (chainVerdict (netOf s) everyone) ≡ true → Stands (netOf s) room rows own
+    stands room is rows relation chain = record { room-is = is ∙ sym (net-open s); clash-is = relation; inside = inside; class = chain-class (netOf s) chain }
 
     pub same-best : (shares values : List ℕ) → shares ≡ sets zeros 0 (listOf (λ k. amount (shareIn (s .slots) (f k))) bad)
         → values ≡ sets zeros 0 (listOf (λ k. f k .value) bad)

@@ -16,7 +16,7 @@ use Rattle.site.specs.Reach.{netOf}
 use Rattle.site.specs.Given.{Given}
 use Rattle.site.specs.declared.Site.{Site}
 use Rattle.site.specs.declared.Fault.{Fault}
-use Rattle.site.specs.declared.Fault.the-variants.{Fine, Size, Load, Reach}
+use Rattle.site.specs.declared.Fault.the-variants.{Fine, Size, Load, Reach, Blocked}
 use Rattle.site.proofs.Given.{faultFrom}
 use Rattle.site.proofs.PassedOn.{proper-call, proper-either}
 use Rattle.shares.specs.declared.ShareAnswer.{ShareAnswer}
@@ -44,6 +44,7 @@ read-refusal Fine h = absurd (false≢true h)
 read-refusal Size h = refl
 read-refusal (Load k) h = refl
 read-refusal (Reach k) h = refl
+read-refusal (Blocked k) h = refl
 
 read-back : (a : AdmitAnswer) → admitProper a ≡ true → readBack (ofRecord a) (admitGiven a) ≡ a
 read-back (Admitted set) h = refl
@@ -69,6 +70,7 @@ done-set (Refused Fine) x e = absurd (omega (arith, ap (λ (g : Given). length (
 done-set (Refused Size) x e = absurd (omega (arith, ap (λ (g : Given). g .number) e))
 done-set (Refused (Load k)) x e = absurd (omega (arith, ap (λ (g : Given). g .number) e))
 done-set (Refused (Reach k)) x e = absurd (omega (arith, ap (λ (g : Given). g .number) e))
+done-set (Refused (Blocked k)) x e = absurd (omega (arith, ap (λ (g : Given). g .number) e))
 
 -- a flow's 2 and the record's 2 have the same number, and the same value where the flow and the cell have the same number
 pub two-alike : (k : ℕ) → admitGiven (BadCell k) ≡ admitGiven (Refused (Load k))
@@ -99,12 +101,13 @@ admit-proper s fs =
     (refused-proper (s .cells) (s .slots) (flowAt fs bad) (bad + 1)) refl) refl))
 
 -- the numbers and the values, in their order, of an answer of each kind
-abbrev answers : (set flow cell row : ℕ) → List AdmitAnswer
-answers set flow cell row =
-    Admitted set ∷ TooMany ∷ NotChained ∷ BadCell flow ∷ BadFlow flow ∷ BigShare flow ∷ Refused Size ∷ Refused (Load cell) ∷ Refused (Reach row) ∷ []
+abbrev answers : (set flow cell row position : ℕ) → List AdmitAnswer
+answers set flow cell row position =
+    Admitted set ∷ TooMany ∷ NotChained ∷ BadCell flow ∷ BadFlow flow ∷ BigShare flow ∷ Refused Size ∷ Refused (Load cell) ∷ Refused (Reach row)
+    ∷ Refused (Blocked position) ∷ []
 
-pub admit-numbers : (set flow cell row : ℕ)
-    → (map (λ (a : AdmitAnswer). admitGiven a .number) (answers set flow cell row) ≡ 0 ∷ 18 ∷ 19 ∷ 2 ∷ 15 ∷ 16 ∷ 1 ∷ 2 ∷ 3 ∷ [])
-    × (map (λ (a : AdmitAnswer). admitGiven a .values) (answers set flow cell row)
-    ≡ (set ∷ []) ∷ [] ∷ [] ∷ (flow ∷ []) ∷ (flow ∷ []) ∷ (flow ∷ []) ∷ [] ∷ (cell ∷ []) ∷ (row ∷ []) ∷ [])
-admit-numbers set flow cell row = (refl, refl)
+pub admit-numbers : (set flow cell row position : ℕ)
+    → (map (λ (a : AdmitAnswer). admitGiven a .number) (answers set flow cell row position) ≡ 0 ∷ 18 ∷ 19 ∷ 2 ∷ 15 ∷ 16 ∷ 1 ∷ 2 ∷ 3 ∷ 20 ∷ [])
+    × (map (λ (a : AdmitAnswer). admitGiven a .values) (answers set flow cell row position)
+    ≡ (set ∷ []) ∷ [] ∷ [] ∷ (flow ∷ []) ∷ (flow ∷ []) ∷ (flow ∷ []) ∷ [] ∷ (cell ∷ []) ∷ (row ∷ []) ∷ (position ∷ []) ∷ [])
+admit-numbers set flow cell row position = (refl, refl)

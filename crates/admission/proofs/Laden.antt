@@ -15,13 +15,13 @@ use Rattle.laws.specs.Choice.{pick}
 use Rattle.laws.specs.Part.{listOf}
 use Rattle.laws.proofs.Choice.{cases, alike}
 use Rattle.laws.proofs.Stores.{list-at, length-list}
-use Rattle.laws.proofs.Sums.{sum-eq}
+use Rattle.laws.proofs.Sums.{sum-eq, count-most}
 use Rattle.theory.specs.Net.{Net, loaded, LoadTest}
 use Rattle.site.specs.Record.{positions, loadAt, faultOf}
-use Rattle.site.specs.Reach.{clashOf, usableIn, netOf}
+use Rattle.site.specs.Reach.{clashOf, isOpen, netOf}
 use Rattle.site.specs.declared.Site.{Site}
 use Rattle.site.specs.declared.Fault.the-variants.{Fine}
-use Rattle.site.proofs.Accepted.{fine-sound, sound-fine, net-open}
+use Rattle.site.proofs.Accepted.{fine-sound, sound-fine}
 use Rattle.site.proofs.Faults.{fine-sized}
 use Rattle.admitting.specs.Best.{loadIn, laden, allowed}
 use Rattle.admitting.proofs.Best.{allowed-means}
@@ -56,12 +56,17 @@ module _ (s : Site) (fs : List Flow) (settled : Settled s fs) (x : ℕ) where
 
   pub laden-net : netOf (ladenSite s fs x) ≡ laden (netOf s) (flowsOf s fs) x
   laden-net =
-      ap (λ (load : ℕ → ℕ). record { cells = s .cells; width = positions s; load = load; clash = clashOf s; usable = usableIn s }) (fun-ext laden-load)
+      ap (λ (load : ℕ → ℕ). record { cells = s .cells; width = positions s; load = load; clash = clashOf s; usable = isOpen (s .blocked) }) (fun-ext laden-load)
 
   pub laden-fine : faultOf (ladenSite s fs x) ≡ Fine
   laden-fine =
       let sound = fine-sound s (settled .looked .fine) in
-      sound-fine (ladenSite s fs x) (record { sizes = sound .sizes; loads = λ k l h. laden-load k ∙ no-load k l; rows = sound .rows })
+      sound-fine (ladenSite s fs x) (record {
+        sizes = sound .sizes;
+        loads = λ k l h. laden-load k ∙ no-load k l;
+        rows = sound .rows;
+        none-past = sound .none-past;
+      })
 
   -- a set is allowed exactly where the load test holds for the site that it makes
   pub laden-allowed : allowed (netOf s) (flowsOf s fs) x ≡ true ↔ LoadTest (netOf (ladenSite s fs x)) (loaded (netOf (ladenSite s fs x)))
@@ -77,7 +82,7 @@ module _ (s : Site) (fs : List Flow) (settled : Settled s fs) (x : ℕ) where
       ⊎-elim
       (λ c.
       let inside : i < s .cells = ltb-true i (s .cells) c in
-      ⊎-elim (λ e. omega (arith, net-open s, allowed-means (netOf s) (flowsOf s fs) x .0 h i inside e))
+      ⊎-elim (λ e. omega (arith, count-most (isOpen (s .blocked)) (positions s), allowed-means (netOf s) (flowsOf s fs) x .0 h i inside e))
       (λ e. omega (arith, ltb-false 0 (loadIn (flowsOf s fs) x i) e))
       (cases (ltb 0 (loadIn (flowsOf s fs) x i))))
       (λ c. omega (arith, no-load i (ltb-false i (s .cells) c)))

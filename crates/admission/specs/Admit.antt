@@ -106,7 +106,8 @@ firstBad s fs = firstBadIn (s .cells) (s .slots) (flowAt fs) (length fs)
 abbrev pub flowsOf : Site → List Flow → Flows
 flowsOf s fs = flowsAsked (s .slots) (flowAt fs) (length fs)
 
--- "Answer the set of greatest total value whose shares, summed by cell, pass the load test"
+-- "Answer the set of greatest total value whose shares, summed by cell, pass the load test"; W8: "N in the load test becomes the count of open positions",
+-- `room` of the problem
 abbrev pub admitted : Site → List Flow → ℕ
 admitted s fs = best (netOf s) (flowsOf s fs)
 

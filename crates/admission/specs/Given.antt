@@ -8,7 +8,7 @@ use Rattle.site.specs.Given.{Given, faultGiven}
 use Rattle.admission.specs.declared.AdmitAnswer.{AdmitAnswer}
 use Rattle.admission.specs.declared.AdmitAnswer.the-variants.{Admitted, TooMany, NotChained, BadCell, BadFlow, BigShare, Refused}
 
--- 0 done, with the set's number; 18 and 19 carry nothing; 2, 15 and 16 with the flow's number; the record's 1 to 3
+-- 0 done, with the set's number; 18 and 19 carry nothing; 2, 15 and 16 with the flow's number; the record's 1 to 3 and 20
 abbrev pub admitGiven : AdmitAnswer → Given
 admitGiven (Admitted set) = record { number = 0; values = set ∷ [] }
 admitGiven TooMany = record { number = 18; values = [] }

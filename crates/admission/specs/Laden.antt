@@ -1,4 +1,4 @@
--- The site that a set of flows makes: the cells, slots, channels and reach of a site, and for loads the shares of the set, summed by cell.
+-- The site that a set of flows makes: the cells, slots, channels, reach and blocked positions of a site, and for loads the shares of the set, summed by cell.
 -- "The site's own loads are set aside."
 use Prim.Native.Nat.{ℕ}
 use mathlib.Core.Bool.{_&&_}
@@ -20,7 +20,7 @@ use Rattle.flowlist.specs.declared.Flow.{Flow}
 use Rattle.admission.specs.Admit.{flowsOf}
 
 abbrev pub ladenSite : Site → List Flow → ℕ → Site
-ladenSite s fs x = siteOf (s .cells) (s .slots) (s .channels) (listOf (loadIn (flowsOf s fs) x) 32) (s .reach)
+ladenSite s fs x = siteOf (s .cells) (s .slots) (s .channels) (listOf (loadIn (flowsOf s fs) x) 32) (s .reach) (s .blocked)
 
 -- W4: "Everything that takes a share follows". The public share of a flow: what `share_of` gives back for the site's slots and the flow's burst, period and
 -- repeats

@@ -15,6 +15,7 @@ use chainwords::first_break;
 use flowlist::Flow;
 use flowlist::FlowList;
 use flowlist::gather;
+use positions::open_count;
 use shares::Fragments;
 use shares::Repeats;
 use shares::ShareAnswer;
@@ -170,7 +171,9 @@ pub fn decide(site: Site, l: FlowList, count: usize) -> AdmitAnswer
         let list = l.list;
         return refusal(cells, slots, list[bad], bad + 1);
     }
-    let room = site.slots as u32 * site.channels as u32;
+    let n = site.slots as u32 * site.channels as u32;
+    let blocked = site.blocked;
+    let room = open_count(&blocked, n as usize) as u32;
     let own = asked.cells;
     let shares = asked.shares;
     let values = asked.values;

@@ -5,6 +5,7 @@ use shares::Repeats;
 use shares::Slots;
 use site::Site;
 use told::Answer;
+use toldfiles::Blocked;
 use toldfiles::EditedSite;
 use toldfiles::PlanReadC;
 ghost use mathlib.Core.Path.{_≡_};
@@ -215,10 +216,16 @@ pub extern "C" fn dugg_write_plan(site: Site, table: &[u8], out: &mut [u8]) -> A
 }
 
 #[no_mangle]
-pub extern "C" fn dugg_read_sheet(bytes: &[u8], slots: u16, channels: u16) -> EditedSite
-    ensures { λ r. ⌜ r ≡ toldSheetRead (readSheet (now (bytes .entry)) slots channels) ⌝ }
+pub extern "C" fn dugg_read_sheet(
+    bytes: &[u8],
+    slots: u16,
+    channels: u16,
+    blocked: Blocked,
+) -> EditedSite
+    ensures { λ r. ⌜ r ≡ toldSheetRead (readSheet (now (bytes .entry)) slots channels (blocked .bits)) ⌝ }
 {
-    toldfiles::sheet_read(sheet::read_sheet(bytes, slots, channels))
+    let bits = blocked.bits;
+    toldfiles::sheet_read(sheet::read_sheet(bytes, slots, channels, bits))
 }
 
 #[no_mangle]

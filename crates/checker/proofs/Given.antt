@@ -8,39 +8,43 @@ use lib.Dec.{eqb, ltb}
 use lib.ListN.{length, getD}
 use Rattle.laws.specs.Choice.{pick}
 use Rattle.theory.specs.Greedy.{reserved}
-use Rattle.theory.specs.Verdict.{TableVerdict, valid, clash, wrong, tableVerdict}
+use Rattle.theory.specs.Verdict.{TableVerdict, valid, barred, clash, wrong, tableVerdict}
 use Rattle.site.specs.Record.{positions, size, faultOf}
 use Rattle.site.specs.Reach.{netOf}
 use Rattle.site.specs.Given.{Given}
 use Rattle.site.proofs.PassedOn.{proper-call, proper-either}
 use Rattle.site.specs.declared.Site.{Site}
 use Rattle.site.specs.declared.Fault.{Fault}
-use Rattle.site.specs.declared.Fault.the-variants.{Fine, Size, Load, Reach}
+use Rattle.site.specs.declared.Fault.the-variants as fault
 use Rattle.checker.specs.Check.{verdictOf, checkAnswer}
 use Rattle.checker.specs.Given.{checkGiven, checkProper}
 use Rattle.checker.specs.declared.CheckAnswer.{CheckAnswer}
-use Rattle.checker.specs.declared.CheckAnswer.the-variants.{Valid, TableShort, Clash, Count, Refused}
+use Rattle.checker.specs.declared.CheckAnswer.the-variants.{Valid, TableShort, Blocked, Clash, Count, Refused}
 
 -- the answer with this number and these values
 abbrev readBack : Given → CheckAnswer
 readBack g =
     pick (eqb (g .number) 0) Valid
-    (pick (eqb (g .number) 1) (Refused Size)
-    (pick (eqb (g .number) 2) (Refused (Load (getD (g .values) 0 0)))
-    (pick (eqb (g .number) 3) (Refused (Reach (getD (g .values) 0 0)))
+    (pick (eqb (g .number) 1) (Refused fault.Size)
+    (pick (eqb (g .number) 2) (Refused (fault.Load (getD (g .values) 0 0)))
+    (pick (eqb (g .number) 3) (Refused (fault.Reach (getD (g .values) 0 0)))
     (pick (eqb (g .number) 4) TableShort
     (pick (eqb (g .number) 6) (Clash (getD (g .values) 0 0) (getD (g .values) 1 0) (getD (g .values) 2 0))
-    (Count (getD (g .values) 0 0) (getD (g .values) 1 0)))))))
+    (pick (eqb (g .number) 20) (Refused (fault.Blocked (getD (g .values) 0 0)))
+    (pick (eqb (g .number) 22) (Blocked (getD (g .values) 0 0) (getD (g .values) 1 0))
+    (Count (getD (g .values) 0 0) (getD (g .values) 1 0)))))))))
 
 read-refusal : (f : Fault) → checkProper (Refused f) ≡ true → readBack (checkGiven (Refused f)) ≡ Refused f
-read-refusal Fine h = absurd (false≢true h)
-read-refusal Size h = refl
-read-refusal (Load k) h = refl
-read-refusal (Reach k) h = refl
+read-refusal fault.Fine h = absurd (false≢true h)
+read-refusal fault.Size h = refl
+read-refusal (fault.Load k) h = refl
+read-refusal (fault.Reach k) h = refl
+read-refusal (fault.Blocked k) h = refl
 
 read-back : (a : CheckAnswer) → checkProper a ≡ true → readBack (checkGiven a) ≡ a
 read-back Valid h = refl
 read-back TableShort h = refl
+read-back (Blocked p c) h = refl
 read-back (Clash p a c) h = refl
 read-back (Count c n) h = refl
 read-back (Refused f) h = read-refusal f h
@@ -52,6 +56,7 @@ check-apart a b p q e = sym (read-back a p) ∙ ap readBack e ∙ read-back b q
 pub verdict-proper : (v : TableVerdict) → checkProper (verdictOf v) ≡ true
 unfolding verdictOf
 verdict-proper valid = refl
+verdict-proper (barred k i) = refl
 verdict-proper (clash k a c) = refl
 verdict-proper (wrong i n) = refl
 
@@ -64,10 +69,12 @@ check-proper s t =
 
 -- the numbers and the values, in their order, of an answer of each kind
 abbrev checks : (position a c cell n row : ℕ) → List CheckAnswer
-checks position a c cell n row = Valid ∷ TableShort ∷ Clash position a c ∷ Count cell n ∷ Refused Size ∷ Refused (Load cell) ∷ Refused (Reach row) ∷ []
+checks position a c cell n row =
+    Valid ∷ TableShort ∷ Blocked position cell ∷ Clash position a c ∷ Count cell n ∷ Refused fault.Size ∷ Refused (fault.Load cell)
+    ∷ Refused (fault.Reach row) ∷ Refused (fault.Blocked position) ∷ []
 
 pub check-numbers : (position a c cell n row : ℕ)
-    → (map (λ (a : CheckAnswer). checkGiven a .number) (checks position a c cell n row) ≡ 0 ∷ 4 ∷ 6 ∷ 7 ∷ 1 ∷ 2 ∷ 3 ∷ [])
+    → (map (λ (a : CheckAnswer). checkGiven a .number) (checks position a c cell n row) ≡ 0 ∷ 4 ∷ 22 ∷ 6 ∷ 7 ∷ 1 ∷ 2 ∷ 3 ∷ 20 ∷ [])
     × (map (λ (a : CheckAnswer). checkGiven a .values) (checks position a c cell n row)
-    ≡ [] ∷ [] ∷ (position ∷ a ∷ c ∷ []) ∷ (cell ∷ n ∷ []) ∷ [] ∷ (cell ∷ []) ∷ (row ∷ []) ∷ [])
+    ≡ [] ∷ [] ∷ (position ∷ cell ∷ []) ∷ (position ∷ a ∷ c ∷ []) ∷ (cell ∷ n ∷ []) ∷ [] ∷ (cell ∷ []) ∷ (row ∷ []) ∷ (position ∷ []) ∷ [])
 check-numbers position a c cell n row = (refl, refl)

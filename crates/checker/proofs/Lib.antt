@@ -2,6 +2,7 @@
 pub mod Marks
 pub mod Rows
 pub mod Lowest
+pub mod Barred
 pub mod Judged
 pub mod Given
 pub mod Meaning

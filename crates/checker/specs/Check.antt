@@ -7,21 +7,23 @@ use lib.ListN.{length}
 use Rattle.laws.specs.Choice.{pick}
 use Rattle.theory.specs.Net.{Reserved}
 use Rattle.theory.specs.Greedy.{reserved}
-use Rattle.theory.specs.Verdict.{TableVerdict, valid, clash, wrong, tableVerdict}
+use Rattle.theory.specs.Verdict.{TableVerdict, valid, barred, clash, wrong, tableVerdict}
 use Rattle.site.specs.Record.{positions, size, faultOf, isFine}
 use Rattle.site.specs.Reach.{netOf}
 use Rattle.site.specs.declared.Site.{Site}
 use Rattle.checker.specs.declared.CheckAnswer.{CheckAnswer}
-use Rattle.checker.specs.declared.CheckAnswer.the-variants.{Valid, TableShort, Clash, Count, Refused}
+use Rattle.checker.specs.declared.CheckAnswer.the-variants.{Valid, TableShort, Blocked, Clash, Count, Refused}
 
+-- W8: 22, "reservation on a blocked position (lowest position, then cell), before 6"
 -- 6, "clash in a table": "lowest position; there the pair with the lowest first cell, then second"
 -- 7, "wrong number of reservations": "lowest cell, its count"
 unfoldable pub verdictOf : TableVerdict → CheckAnswer
 verdictOf valid = Valid
+verdictOf (barred k i) = Blocked k (i + 1)
 verdictOf (clash k a c) = Clash k (a + 1) (c + 1)
 verdictOf (wrong i n) = Count (i + 1) n
 
--- "Order: record 1, 2, 3, .. then 4, .. or 6 before 7.": a check, by how much is lent, how much is due, and which cells are reserved where
+-- "Order: record 1, 2, 3, .. then 4, .. or 6 before 7."; W8: 22 "before 6": a check, by how much is lent, how much is due, and which cells are reserved where
 abbrev pub checkedBy : Site → (lent due : ℕ) → Reserved → CheckAnswer
 checkedBy s lent due res =
     pick (isFine (faultOf s)) (pick (ltb lent due) TableShort (verdictOf (tableVerdict (netOf s) res))) (Refused (faultOf s))

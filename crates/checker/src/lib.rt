@@ -1,30 +1,35 @@
-// The checker of finished tables: the first clash, then the first wrong number of reservations.
+// The checker of finished tables: the first reservation on a blocked position, then the first clash, then the first wrong number of reservations.
 //
 // What it costs, for I cells and N positions: each row is read once to join its cell to a word for each position and to try it there against the cells joined
 // before it (I times N steps), and each row is counted where it stands in the table (I times N steps, sixteen or more bytes at once). Both are passes over
 // neighbouring places without a branch, and the search for a clash ends at the first 64 positions that have one. Pairs of cells are looked at at one position,
 // the one that the answer names. Nothing of the table is copied; the local room is two words for each of 64 positions.
+// Where some of 64 positions are blocked, each row is read there once more, as bytes; where none is, only their word is looked at.
 ghost use mathlib.Core.Path.{_≡_};
-ghost use Prim.Native.Nat.{_+_, _*_, _≤_, _<_};
+ghost use mathlib.Core.Bool.{_&&_, not};
+ghost use Prim.Native.Nat.{_+_, _-_, _*_, _≤_, _<_};
+ghost use lib.Dec.{eqb};
 ghost use lib.ListN.{length};
-ghost use Rattle.laws.specs.Bits.{bitIn};
+ghost use Rattle.laws.specs.Bits.{bitAt, bitIn};
+ghost use Rattle.laws.specs.Choice.{pick};
 ghost use Rattle.laws.specs.Search.{first};
 ghost use Rattle.laws.specs.Sum.{bit, count};
 ghost use Rattle.theory.specs.Net.{unblocked};
 ghost use Rattle.theory.specs.Greedy.{sends, reserved, held};
-ghost use Rattle.theory.specs.Verdict.{lowestClash, lowestWrong, tableVerdict};
-ghost use Rattle.site.specs.Reach.{netIn};
-ghost use Rattle.checker.specs.Marks.{clashNet, loadNet, clashingIn, markSet, Marks};
+ghost use Rattle.theory.specs.Verdict.{lowestBarred, lowestClash, lowestWrong, openVerdict, tableVerdict};
+ghost use Rattle.site.specs.Reach.{isOpen, netIn};
+ghost use Rattle.checker.specs.Marks.{barNet, clashNet, loadNet, clashingIn, heldIn, markSet, Marks, heldRow};
 ghost use Rattle.checker.specs.Check.{verdictOf, checkAnswer};
 ghost use Rattle.laws.specs.Part.{Zeros};
 use site::Fault;
 use site::Site;
 
 // The answer to a check. Cells are numbered from 1, positions from 0.
-// Clash: position, first cell, second cell. Count: cell, its count.
+// Blocked: position, cell. Clash: position, first cell, second cell. Count: cell, its count.
 pub enum CheckAnswer {
     Valid,
     TableShort,
+    Blocked(usize, usize),
     Clash(usize, usize, usize),
     Count(usize, usize),
     Refused(Fault),
@@ -82,7 +87,7 @@ fn clash_in(table: &[u8], n: usize, from: usize, m: usize, clash: &[u32; 32], ce
 // How many of the positions that are left are looked at together.
 fn together(left: usize) -> usize
     requires { ⌜ 0 < left ⌝ }
-    ensures { λ r. ⌜ (r ≤ left) × (r ≤ 64) × (0 < r) ⌝ }
+    ensures { λ r. ⌜ (r ≤ left) × (r ≤ 64) × (0 < r) × (left - 64 ≡ left - r) ⌝ }
 {
     if left < 64 {
         return left;
@@ -99,6 +104,93 @@ fn lowest_clash(table: &[u8], n: usize, clash: &[u32; 32], cells: usize) -> usiz
     while from < n {
         let m = together(n - from);
         let p = clash_in(table, n, from, m, clash, cells);
+        if p < m {
+            return from + p;
+        }
+        from += m;
+    }
+    from
+}
+
+// A mark that is set where a byte is a reservation, and else as it was.
+fn seen(mark: u8, byte: u8) -> u8
+    ensures { λ r. ⌜ r ≡ pick (sends byte) 1 mark ⌝ }
+{
+    if byte == 1 {
+        return 1;
+    }
+    mark
+}
+
+// Marks each of m positions whose byte, from `from` on, is a reservation. One pass without a branch.
+fn hold_row(marks: &mut [u8], table: &[u8], from: usize, m: usize)
+    requires { ⌜ (m ≤ length (now marks)) × (from + m ≤ length (now table)) ⌝ }
+    ensures { λ _. ⌜ now (marks .exit) ≡ heldRow (now (marks .entry)) (now (table .entry)) from m ⌝ }
+{
+    for p in 0..m {
+        marks[p] = seen(marks[p], table[from + p]);
+    }
+}
+
+// Marks each of m positions, from `from` on, that some cell reserves. The marks that are lent are 0.
+fn mark_held(marks: &mut [u8], table: &[u8], n: usize, from: usize, m: usize, cells: usize)
+    requires { ⌜ (cells ≤ 32) × (m ≤ length (now marks)) × (from + m ≤ n) × (cells * n ≤ length (now table)) ⌝ }
+    requires { ⌜ Zeros m (now marks) ⌝ }
+    ensures { λ _. ⌜ Marks (heldIn cells n (now (table .entry))) from m (now (marks .exit)) ⌝ }
+{
+    for i in 0..cells {
+        hold_row(marks, table, i * n + from, m);
+    }
+}
+
+// Whether a mark is set and its bit is in the word.
+fn mark_in(word: u64, mark: u8, p: usize) -> bool
+    requires { ⌜ p < 64 ⌝ }
+    ensures { λ r. ⌜ r ≡ (bitAt word p && not (eqb mark 0)) ⌝ }
+{
+    if (word >> p) % 2 == 1 {
+        return mark != 0;
+    }
+    false
+}
+
+// The lowest of the first m positions that is marked and in the word; m where there is none.
+fn lowest_in(word: u64, marks: &[u8], m: usize) -> usize
+    requires { ⌜ (m ≤ length (now marks)) × (m ≤ 64) ⌝ }
+    ensures { λ r. ⌜ r ≡ first (λ k. bitAt word k && markSet (now (marks .entry)) k) 0 m ⌝ }
+{
+    let mut k = 0;
+    while k < m {
+        if mark_in(word, marks[k], k) {
+            return k;
+        }
+        k += 1;
+    }
+    k
+}
+
+// The lowest of m positions, from `from` on, that is in the word and that some cell reserves, counted from `from`; m where there is none.
+fn barred_in(table: &[u8], n: usize, from: usize, m: usize, word: u64, cells: usize) -> usize
+    requires { ⌜ (cells ≤ 32) × (m ≤ 64) × (from + m ≤ n) × (cells * n ≤ length (now table)) ⌝ }
+    ensures { λ r. ⌜ r ≡ first (λ k. bitAt word k && heldIn cells n (now (table .entry)) (from + k)) 0 m ⌝ }
+{
+    if word == 0 {
+        return m;
+    }
+    let mut marks = [0u8; 64];
+    mark_held(&mut marks, table, n, from, m, cells);
+    lowest_in(word, &marks, m)
+}
+
+// The lowest blocked position that some cell reserves; n where there is none.
+fn lowest_barred(table: &[u8], n: usize, blocked: &[u64; 32], cells: usize) -> usize
+    requires { ⌜ (cells ≤ 32) × (n ≤ 2048) × (cells * n ≤ length (now table)) ⌝ }
+    ensures { λ r. ⌜ r ≡ lowestBarred (barNet cells n (now (blocked .entry))) (reserved n (now (table .entry))) ⌝ }
+{
+    let mut from: usize = 0;
+    while from < n {
+        let m = together(n - from);
+        let p = barred_in(table, n, from, m, blocked[from / 64], cells);
         if p < m {
             return from + p;
         }
@@ -169,10 +261,16 @@ fn lowest_wrong(table: &[u8], n: usize, loads: [u16; 32], cells: usize) -> usize
     i
 }
 
-// The verdict on a table that is long enough: its first clash, else its first wrong count.
-fn judge(table: &[u8], n: usize, clash: &[u32; 32], loads: [u16; 32], cells: usize) -> CheckAnswer
+// The verdict on a table that is long enough, with no reservation on a blocked position: its first clash, else its first wrong count.
+fn judge_open(
+    table: &[u8],
+    n: usize,
+    clash: &[u32; 32],
+    loads: [u16; 32],
+    cells: usize,
+) -> CheckAnswer
     requires { ⌜ (cells ≤ 32) × (n ≤ 2048) × (cells * n ≤ length (now table)) ⌝ }
-    ensures { λ r. ⌜ r ≡ verdictOf (tableVerdict (netIn cells n loads (bitIn (now (clash .entry))) unblocked) (reserved n (now (table .entry)))) ⌝ }
+    ensures { λ r. ⌜ r ≡ verdictOf (openVerdict (netIn cells n loads (bitIn (now (clash .entry))) unblocked) (reserved n (now (table .entry)))) ⌝ }
 {
     let p = lowest_clash(table, n, clash, cells);
     if p < n {
@@ -188,7 +286,30 @@ fn judge(table: &[u8], n: usize, clash: &[u32; 32], loads: [u16; 32], cells: usi
     CheckAnswer::Valid
 }
 
-// Whether a table is valid for a site; if not, its first clash, else its first wrong count. Refuses a site at fault, then a table that is too short.
+// The verdict on a table that is long enough: its first reservation on a blocked position, there of the lowest cell, else what is said without them.
+fn judge(
+    table: &[u8],
+    n: usize,
+    clash: &[u32; 32],
+    loads: [u16; 32],
+    cells: usize,
+    blocked: &[u64; 32],
+) -> CheckAnswer
+    requires { ⌜ (cells ≤ 32) × (n ≤ 2048) × (cells * n ≤ length (now table)) ⌝ }
+    ensures { λ r. ⌜
+        r ≡ verdictOf (tableVerdict (netIn cells n loads (bitIn (now (clash .entry))) (isOpen (now (blocked .entry)))) (reserved n (now (table .entry))))
+        ⌝ }
+{
+    let p = lowest_barred(table, n, blocked, cells);
+    if p < n {
+        let word = words::word_at(table, n, cells, p);
+        return CheckAnswer::Blocked(p, words::lowest(word, 0, cells) + 1);
+    }
+    judge_open(table, n, clash, loads, cells)
+}
+
+// Whether a table is valid for a site; if not, its first reservation on a blocked position, else its first clash, else its first wrong count.
+// Refuses a site at fault, then a table that is too short.
 pub fn check(site: Site, table: &[u8]) -> CheckAnswer
     ensures { λ r. ⌜ r ≡ checkAnswer site (now (table .entry)) ⌝ }
 {
@@ -203,5 +324,6 @@ pub fn check(site: Site, table: &[u8]) -> CheckAnswer
     }
     let clash = site.clash_rows();
     let loads = site.loads;
-    judge(table, n, &clash, loads, cells)
+    let blocked = site.blocked;
+    judge(table, n, &clash, loads, cells, &blocked)
 }

@@ -37,6 +37,7 @@ use Rattle.sitefile.specs.Write.{siteOut, siteWritten}
 use Rattle.told.specs.Told.{told}
 use Rattle.told.specs.declared.Answer.{Answer}
 use Rattle.toldfiles.specs.Files.{toldEdited, toldPlanRead, toldSheetRead, toldSiteRead}
+use Rattle.toldfiles.specs.declared.Blocked.{Blocked}
 use Rattle.toldfiles.specs.declared.EditedSite.{EditedSite}
 use Rattle.toldfiles.specs.declared.PlanReadC.{PlanReadC}
 use Rattle.wordtable.specs.Check.{checkWordsAnswer}
@@ -274,11 +275,11 @@ duggWritePlan-one site table out = (
 )
 
 -- capi::dugg_read_sheet
-pub duggReadSheet-one : (bytes : List ℕ) (slots : ℕ) (channels : ℕ)
-    → (r : EditedSite) × (DuggReadSheet bytes slots channels r)
-    × ((q : EditedSite) → DuggReadSheet bytes slots channels q → (q ≡ r))
-duggReadSheet-one bytes slots channels = (
-  toldSheetRead (readSheet bytes slots channels),
+pub duggReadSheet-one : (bytes : List ℕ) (slots : ℕ) (channels : ℕ) (blocked : Blocked)
+    → (r : EditedSite) × (DuggReadSheet bytes slots channels blocked r)
+    × ((q : EditedSite) → DuggReadSheet bytes slots channels blocked q → (q ≡ r))
+duggReadSheet-one bytes slots channels blocked = (
+  toldSheetRead (readSheet bytes slots channels (blocked .bits)),
   record { answer = refl },
   λ q says. says .answer,
 )

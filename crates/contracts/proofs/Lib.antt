@@ -1,5 +1,6 @@
 -- The laws of crate `contracts`, module by module. Made by tools/surface.
 pub mod SquareOne
+pub mod PositionsOne
 pub mod ReachrowsOne
 pub mod SiteOne
 pub mod WordsOne
@@ -25,6 +26,8 @@ pub mod AdmissionOne
 pub mod RecordsOne
 pub mod LinesOne
 pub mod PutlinesOne
+pub mod BlocklistOne
+pub mod PutblocksOne
 pub mod FlowsheetOne
 pub mod SitefileOne
 pub mod PlanbitsOne

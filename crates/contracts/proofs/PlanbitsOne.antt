@@ -4,7 +4,8 @@ use mathlib.Core.Path.{_≡_, refl}
 use mathlib.Core.List.{List}
 use Prim.Native.Nat.{ℕ}
 use Rattle.contracts.specs.PlanbitsSays.{PlanbitsPutBits, PlanbitsUnpack}
-use Rattle.planbits.specs.Bits.{bitsFrom, bytesFor, packedFrom}
+use Rattle.planbits.specs.Bits.{bitsFrom, packedFrom}
+use Rattle.records.specs.Bits.{bytesFor}
 use lib.ListN.{length}
 use lib.Seq.{sets}
 

@@ -1,10 +1,12 @@
 -- For any arguments one answer and one content of what is lent meet the contract, and no other, in crate `records`: by its equalities alone.
 -- Made by tools/surface from the source. Assumes nothing.
 use mathlib.Core.Path.{_≡_, refl}
+use mathlib.Core.Bool.{Bool}
 use mathlib.Core.List.{List, [], _∷_}
 use Prim.Native.Nat.{ℕ}
-use Rattle.contracts.specs.RecordsSays.{RecordsHeadAnswer, RecordsOpen, RecordsOpenedAnswer, RecordsPutHead, RecordsPutStart, RecordsPutTwo}
-use Rattle.contracts.specs.RecordsSays.{RecordsPutTwoBytes, RecordsTwoBytes}
+use Rattle.contracts.specs.RecordsSays.{RecordsHeadAnswer, RecordsLeftOver, RecordsOpen, RecordsOpenedAnswer, RecordsPutHead, RecordsPutStart}
+use Rattle.contracts.specs.RecordsSays.{RecordsPutTwo, RecordsPutTwoBytes, RecordsTwoBytes}
+use Rattle.records.specs.Bits.{leftOver}
 use Rattle.records.specs.Bytes.{le16, twoBytesEach}
 use Rattle.records.specs.Head.{headAnswer, headRecord}
 use Rattle.records.specs.Opener.{openAnswer, openAt}
@@ -49,6 +51,16 @@ pub recordsHeadAnswer-one : (s : List ℕ)
     × ((q : ReadAnswer) → RecordsHeadAnswer s q → (q ≡ r))
 recordsHeadAnswer-one s = (
   headAnswer s,
+  record { answer = refl },
+  λ q says. says .answer,
+)
+
+-- records::left_over
+pub recordsLeftOver-one : (body : List ℕ) (n : ℕ)
+    → (r : Bool) × (RecordsLeftOver body n r)
+    × ((q : Bool) → RecordsLeftOver body n q → (q ≡ r))
+recordsLeftOver-one body n = (
+  leftOver body n,
   record { answer = refl },
   λ q says. says .answer,
 )

@@ -3,11 +3,12 @@
 use mathlib.Core.Path.{_≡_, refl}
 use mathlib.Core.List.{List}
 use Prim.Native.Nat.{_*_, ℕ}
-use Rattle.contracts.specs.RowsSays.{RowsClear, RowsFillRow, RowsForbidRow}
+use Rattle.contracts.specs.RowsSays.{RowsClear, RowsFillRow, RowsForbidRow, RowsLayMask, RowsLift}
 use Rattle.laws.specs.Part.{part, put}
+use Rattle.rows.specs.Bars.{lifted}
 use Rattle.theory.specs.Greedy.{fill, forbid, unmet}
 use Rattle.theory.specs.Net.{unblocked}
-use lib.ListN.{length, replicate}
+use lib.ListN.{length, replicate, take}
 
 -- rows::fill_row
 pub rowsFillRow-one : (row : List ℕ) (slots : ℕ) (channels : ℕ) (load : ℕ)
@@ -38,4 +39,24 @@ rowsClear-one bytes = (
   replicate (length bytes) 0,
   record { bytes-after = refl },
   λ bytes″ says. says .bytes-after,
+)
+
+-- rows::lay_mask
+pub rowsLayMask-one : (row : List ℕ) (mask : List ℕ)
+    → (row′ : List ℕ) × (RowsLayMask row mask row′)
+    × ((row″ : List ℕ) → RowsLayMask row mask row″ → (row″ ≡ row′))
+rowsLayMask-one row mask = (
+  take (length row) mask,
+  record { row-after = refl },
+  λ row″ says. says .row-after,
+)
+
+-- rows::lift
+pub rowsLift-one : (row : List ℕ)
+    → (row′ : List ℕ) × (RowsLift row row′)
+    × ((row″ : List ℕ) → RowsLift row row″ → (row″ ≡ row′))
+rowsLift-one row = (
+  lifted row,
+  record { row-after = refl },
+  λ row″ says. says .row-after,
 )

@@ -4,12 +4,12 @@ use mathlib.Core.Path.{_≡_, refl}
 use mathlib.Core.List.{List}
 use Prim.Native.Nat.{_+_, ℕ}
 use Rattle.checker.specs.declared.CheckAnswer.{CheckAnswer}
-use Rattle.contracts.specs.SayVerdictsSays.{SayVerdictsPutCheck, SayVerdictsPutFault, SayVerdictsPutMend, SayVerdictsPutOtherPlan, SayVerdictsPutPlan}
-use Rattle.contracts.specs.SayVerdictsSays.{SayVerdictsPutRead, SayVerdictsPutShare, SayVerdictsPutSheetRead}
+use Rattle.contracts.specs.SayVerdictsSays.{SayVerdictsPutBadList, SayVerdictsPutCheck, SayVerdictsPutFault, SayVerdictsPutMend, SayVerdictsPutOtherPlan}
+use Rattle.contracts.specs.SayVerdictsSays.{SayVerdictsPutPlan, SayVerdictsPutRead, SayVerdictsPutShare, SayVerdictsPutSheetRead}
 use Rattle.mender.specs.declared.MendAnswer.{MendAnswer}
 use Rattle.planner.specs.declared.PlanAnswer.{PlanAnswer}
 use Rattle.records.specs.declared.ReadAnswer.{ReadAnswer}
-use Rattle.say_verdicts.specs.Said.{checkSaid, faultSaid, mendSaid, otherPlanLine, planSaid, readSaid, shareSaid, sheetSaid}
+use Rattle.say_verdicts.specs.Said.{badListLine, checkSaid, faultSaid, mendSaid, otherPlanLine, planSaid, readSaid, shareSaid, sheetSaid}
 use Rattle.say_verdicts.specs.declared.File.{File}
 use Rattle.shares.specs.declared.ShareAnswer.{ShareAnswer}
 use Rattle.sheet.specs.declared.SheetAnswer.{SheetAnswer}
@@ -80,6 +80,17 @@ pub sayVerdictsPutOtherPlan-one : (out : List ℕ) (at : ℕ) (cells : ℕ) (slo
 sayVerdictsPutOtherPlan-one out at cells slots channels = (
   at + length (otherPlanLine cells slots channels),
   sets out at (otherPlanLine cells slots channels),
+  record { answer = refl; out-after = refl },
+  λ q out″ says. (says .answer, says .out-after),
+)
+
+-- say_verdicts::put_bad_list
+pub sayVerdictsPutBadList-one : (out : List ℕ) (at : ℕ) (character : ℕ)
+    → (r : ℕ) × (out′ : List ℕ) × (SayVerdictsPutBadList out at character r out′)
+    × ((q : ℕ) (out″ : List ℕ) → SayVerdictsPutBadList out at character q out″ → (q ≡ r) × (out″ ≡ out′))
+sayVerdictsPutBadList-one out at character = (
+  at + length (badListLine character),
+  sets out at (badListLine character),
   record { answer = refl; out-after = refl },
   λ q out″ says. (says .answer, says .out-after),
 )

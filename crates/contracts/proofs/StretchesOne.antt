@@ -6,19 +6,18 @@ use Prim.Native.Nat.{ℕ}
 use Rattle.contracts.specs.StretchesSays.{StretchesPlanStretches}
 use Rattle.planner.specs.Plan.{answerOf}
 use Rattle.planner.specs.declared.PlanAnswer.{PlanAnswer}
-use Rattle.site.specs.Reach.{netBy}
+use Rattle.site.specs.Reach.{isOpen, netBy}
 use Rattle.theory.specs.Greedy.{greedy}
-use Rattle.theory.specs.Net.{unblocked}
 use Rattle.words.specs.Words.{outWords}
 use lib.ListN.{drop}
 
 -- stretches::plan_stretches
-pub stretchesPlanStretches-one : (words : List ℕ) (clash : List ℕ) (loads : List ℕ) (cells : ℕ) (n : ℕ)
-    → (r : PlanAnswer) × (words′ : List ℕ) × (StretchesPlanStretches words clash loads cells n r words′)
-    × ((q : PlanAnswer) (words″ : List ℕ) → StretchesPlanStretches words clash loads cells n q words″ → (q ≡ r) × (words″ ≡ words′))
-stretchesPlanStretches-one words clash loads cells n = (
-  answerOf (greedy (netBy cells n loads clash unblocked)),
-  outWords cells n (greedy (netBy cells n loads clash unblocked)) ++ drop n words,
+pub stretchesPlanStretches-one : (words : List ℕ) (clash : List ℕ) (loads : List ℕ) (cells : ℕ) (n : ℕ) (blocked : List ℕ)
+    → (r : PlanAnswer) × (words′ : List ℕ) × (StretchesPlanStretches words clash loads cells n blocked r words′)
+    × ((q : PlanAnswer) (words″ : List ℕ) → StretchesPlanStretches words clash loads cells n blocked q words″ → (q ≡ r) × (words″ ≡ words′))
+stretchesPlanStretches-one words clash loads cells n blocked = (
+  answerOf (greedy (netBy cells n loads clash (isOpen blocked))),
+  outWords cells n (greedy (netBy cells n loads clash (isOpen blocked))) ++ drop n words,
   record { answer = refl; words-after = refl },
   λ q words″ says. (says .answer, says .words-after),
 )

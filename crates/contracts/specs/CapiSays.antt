@@ -34,6 +34,7 @@ use Rattle.sitefile.specs.Write.{siteOut, siteWritten}
 use Rattle.told.specs.Told.{told}
 use Rattle.told.specs.declared.Answer.{Answer}
 use Rattle.toldfiles.specs.Files.{toldEdited, toldPlanRead, toldSheetRead, toldSiteRead}
+use Rattle.toldfiles.specs.declared.Blocked.{Blocked}
 use Rattle.toldfiles.specs.declared.EditedSite.{EditedSite}
 use Rattle.toldfiles.specs.declared.PlanReadC.{PlanReadC}
 use Rattle.wordtable.specs.Check.{checkWordsAnswer}
@@ -139,8 +140,8 @@ pub record DuggWritePlan (site : Site) (table : List ℕ) (out : List ℕ) (r : 
   pub out-after : out′ ≡ planOut site table out
 
 -- capi::dugg_read_sheet
-pub record DuggReadSheet (bytes : List ℕ) (slots : ℕ) (channels : ℕ) (r : EditedSite) : Type 0 where
-  pub answer : r ≡ toldSheetRead (readSheet bytes slots channels)
+pub record DuggReadSheet (bytes : List ℕ) (slots : ℕ) (channels : ℕ) (blocked : Blocked) (r : EditedSite) : Type 0 where
+  pub answer : r ≡ toldSheetRead (readSheet bytes slots channels (blocked .bits))
 
 -- capi::dugg_write_sheet
 pub record DuggWriteSheet (site : Site) (out : List ℕ) (r : Answer) (out′ : List ℕ) : Type 0 where

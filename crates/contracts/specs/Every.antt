@@ -45,6 +45,7 @@ use Rattle.site.specs.declared.Fault.{Fault}
 use Rattle.site.specs.declared.Site.{Site}
 use Rattle.sitefile.specs.declared.SiteRead.{SiteRead}
 use Rattle.told.specs.declared.Answer.{Answer}
+use Rattle.toldfiles.specs.declared.Blocked.{Blocked}
 use Rattle.toldfiles.specs.declared.EditedSite.{EditedSite}
 use Rattle.toldfiles.specs.declared.PlanReadC.{PlanReadC}
 use Rattle.wordtable.specs.declared.FormAnswer.{FormAnswer}
@@ -175,9 +176,9 @@ pub record EveryCall : Type 0 where
       → (r : PlanWritten) × (out′ : List ℕ) × (WritePlan site table out r out′)
       × ((q : PlanWritten) (out″ : List ℕ) → WritePlan site table out q out″ → (q ≡ r) × (out″ ≡ out′))
   -- sheet::read_sheet
-  pub readSheet : (bytes : List ℕ) (slots : ℕ) (channels : ℕ)
-      → (r : SheetRead) × (ReadSheet bytes slots channels r)
-      × ((q : SheetRead) → ReadSheet bytes slots channels q → (q ≡ r))
+  pub readSheet : (bytes : List ℕ) (slots : ℕ) (channels : ℕ) (blocked : List ℕ)
+      → (r : SheetRead) × (ReadSheet bytes slots channels blocked r)
+      × ((q : SheetRead) → ReadSheet bytes slots channels blocked q → (q ≡ r))
   -- sheet::write_sheet
   pub writeSheet : (site : Site) (out : List ℕ)
       → (r : Written) × (out′ : List ℕ) × (WriteSheet site out r out′)
@@ -272,9 +273,9 @@ pub record EveryCall : Type 0 where
       → (r : Answer) × (out′ : List ℕ) × (DuggWritePlan site table out r out′)
       × ((q : Answer) (out″ : List ℕ) → DuggWritePlan site table out q out″ → (q ≡ r) × (out″ ≡ out′))
   -- capi::dugg_read_sheet
-  pub duggReadSheet : (bytes : List ℕ) (slots : ℕ) (channels : ℕ)
-      → (r : EditedSite) × (DuggReadSheet bytes slots channels r)
-      × ((q : EditedSite) → DuggReadSheet bytes slots channels q → (q ≡ r))
+  pub duggReadSheet : (bytes : List ℕ) (slots : ℕ) (channels : ℕ) (blocked : Blocked)
+      → (r : EditedSite) × (DuggReadSheet bytes slots channels blocked r)
+      × ((q : EditedSite) → DuggReadSheet bytes slots channels blocked q → (q ≡ r))
   -- capi::dugg_write_sheet
   pub duggWriteSheet : (site : Site) (out : List ℕ)
       → (r : Answer) × (out′ : List ℕ) × (DuggWriteSheet site out r out′)

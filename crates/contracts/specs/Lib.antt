@@ -1,5 +1,6 @@
 -- The definitions of crate `contracts`, module by module. Made by tools/surface.
 pub mod SquareSays
+pub mod PositionsSays
 pub mod ReachrowsSays
 pub mod SiteSays
 pub mod WordsSays
@@ -25,6 +26,8 @@ pub mod AdmissionSays
 pub mod RecordsSays
 pub mod LinesSays
 pub mod PutlinesSays
+pub mod BlocklistSays
+pub mod PutblocksSays
 pub mod FlowsheetSays
 pub mod SitefileSays
 pub mod PlanbitsSays

@@ -1,8 +1,10 @@
 -- The equalities that the contracts of crate `records` state: r is the answer, and x′ what a lent x holds afterwards.
 -- Made by tools/surface from the source.
 use mathlib.Core.Path.{_≡_}
+use mathlib.Core.Bool.{Bool}
 use mathlib.Core.List.{List, [], _∷_}
 use Prim.Native.Nat.{ℕ}
+use Rattle.records.specs.Bits.{leftOver}
 use Rattle.records.specs.Bytes.{le16, twoBytesEach}
 use Rattle.records.specs.Head.{headAnswer, headRecord}
 use Rattle.records.specs.Opener.{openAnswer, openAt}
@@ -26,6 +28,10 @@ pub record RecordsOpenedAnswer (o : Opened) (r : ReadAnswer) : Type 0 where
 -- records::head_answer
 pub record RecordsHeadAnswer (s : List ℕ) (r : ReadAnswer) : Type 0 where
   pub answer : r ≡ headAnswer s
+
+-- records::left_over
+pub record RecordsLeftOver (body : List ℕ) (n : ℕ) (r : Bool) : Type 0 where
+  pub answer : r ≡ leftOver body n
 
 -- records::put_two
 pub record RecordsPutTwo (out : List ℕ) (at : ℕ) (a : ℕ) (b : ℕ) (out′ : List ℕ) : Type 0 where

@@ -4,9 +4,10 @@ use mathlib.Core.Path.{_≡_}
 use mathlib.Core.List.{List}
 use Prim.Native.Nat.{_*_, ℕ}
 use Rattle.laws.specs.Part.{part, put}
+use Rattle.rows.specs.Bars.{lifted}
 use Rattle.theory.specs.Greedy.{fill, forbid, unmet}
 use Rattle.theory.specs.Net.{unblocked}
-use lib.ListN.{length, replicate}
+use lib.ListN.{length, replicate, take}
 
 -- rows::fill_row
 pub record RowsFillRow (row : List ℕ) (slots : ℕ) (channels : ℕ) (load : ℕ) (r : ℕ) (row′ : List ℕ) : Type 0 where
@@ -20,3 +21,11 @@ pub record RowsForbidRow (table : List ℕ) (n : ℕ) (j : ℕ) (i : ℕ) (table
 -- rows::clear
 pub record RowsClear (bytes : List ℕ) (bytes′ : List ℕ) : Type 0 where
   pub bytes-after : bytes′ ≡ replicate (length bytes) 0
+
+-- rows::lay_mask
+pub record RowsLayMask (row : List ℕ) (mask : List ℕ) (row′ : List ℕ) : Type 0 where
+  pub row-after : row′ ≡ take (length row) mask
+
+-- rows::lift
+pub record RowsLift (row : List ℕ) (row′ : List ℕ) : Type 0 where
+  pub row-after : row′ ≡ lifted row

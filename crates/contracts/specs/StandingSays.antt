@@ -8,8 +8,8 @@ use Rattle.standing.specs.Turns.{countsBy, wordsBy}
 use Rattle.standing.specs.declared.Stood.{Stood}
 
 -- standing::stand_all
-pub record StandingStandAll (words : List ℕ) (counts : List ℕ) (table : List ℕ) (n : ℕ) (cells : ℕ) (loads : List ℕ) (clash : List ℕ) (r : Stood)
-    (words′ : List ℕ) (counts′ : List ℕ) : Type 0 where
-  pub answer : r ≡ stoodBy cells n loads clash table
-  pub words-after : words′ ≡ wordsBy cells n loads clash table words
-  pub counts-after : counts′ ≡ countsBy cells n loads clash table words counts
+pub record StandingStandAll (words : List ℕ) (counts : List ℕ) (table : List ℕ) (n : ℕ) (cells : ℕ) (loads : List ℕ) (clash : List ℕ) (blocked : List ℕ)
+    (r : Stood) (words′ : List ℕ) (counts′ : List ℕ) : Type 0 where
+  pub answer : r ≡ stoodBy cells n loads clash blocked table
+  pub words-after : words′ ≡ wordsBy cells n loads clash blocked table words
+  pub counts-after : counts′ ≡ countsBy cells n loads clash blocked table words counts

@@ -5,13 +5,13 @@ use mathlib.Core.List.{List, _++_}
 use Prim.Native.Nat.{ℕ}
 use Rattle.planner.specs.Plan.{answerOf}
 use Rattle.planner.specs.declared.PlanAnswer.{PlanAnswer}
-use Rattle.site.specs.Reach.{netBy}
+use Rattle.site.specs.Reach.{isOpen, netBy}
 use Rattle.theory.specs.Greedy.{greedy}
-use Rattle.theory.specs.Net.{unblocked}
 use Rattle.words.specs.Words.{outWords}
 use lib.ListN.{drop}
 
 -- stretches::plan_stretches
-pub record StretchesPlanStretches (words : List ℕ) (clash : List ℕ) (loads : List ℕ) (cells : ℕ) (n : ℕ) (r : PlanAnswer) (words′ : List ℕ) : Type 0 where
-  pub answer : r ≡ answerOf (greedy (netBy cells n loads clash unblocked))
-  pub words-after : words′ ≡ outWords cells n (greedy (netBy cells n loads clash unblocked)) ++ drop n words
+pub record StretchesPlanStretches (words : List ℕ) (clash : List ℕ) (loads : List ℕ) (cells : ℕ) (n : ℕ) (blocked : List ℕ) (r : PlanAnswer)
+    (words′ : List ℕ) : Type 0 where
+  pub answer : r ≡ answerOf (greedy (netBy cells n loads clash (isOpen blocked)))
+  pub words-after : words′ ≡ outWords cells n (greedy (netBy cells n loads clash (isOpen blocked))) ++ drop n words

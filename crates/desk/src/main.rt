@@ -1,10 +1,12 @@
-// The desk's program, run by the script `duggfrask`, whose head says how the two speak: argument 1 is the command, 2 and 3 are the names of its inputs, and
-// its numbers follow; the first input is on standard input, the second on descriptor 4. What it says and writes is made by proved functions over slices;
-// here it is only read and written, by way of `reply`.
+// The desk's program, run by the script `duggfrask`, whose head says how the two speak: argument 1 is the command, 2 and 3 are the names of its inputs,
+// and its numbers follow, and a list; the first input is on standard input, the second on descriptor 4. What it says and writes is made by proved
+// functions over slices; here it is only read and written, by way of `reply`.
 //
 // Every buffer has 65,536 bytes: the table of the largest site has as many, 32 cells by 2,048 positions.
 // What is said at once has far fewer, and so has every good input. Of a longer one only the first 65,536 bytes are read, and they are refused.
 use admission::AdmitAnswer;
+use blocklist::ListAnswer;
+use blocklist::ListRead;
 use checker::CheckAnswer;
 use flowlist::FlowList;
 use flowsheet::FlowsAnswer;
@@ -40,6 +42,9 @@ const FIRST_NAME: usize = 2;
 const SECOND_NAME: usize = 3;
 
 const NUMBERS: usize = 4;
+
+// After the slots and the channels, the list of blocked positions.
+const LIST: usize = 6;
 
 // A site file that was refused.
 fn refuse(text: &mut [u8], input: &[u8], answer: ReadAnswer)
@@ -321,6 +326,7 @@ fn of_size(fault: Fault) -> bool {
         Fault::Size => true,
         Fault::Load(_) => false,
         Fault::Reach(_) => false,
+        Fault::Blocked(_) => false,
     }
 }
 
@@ -334,11 +340,39 @@ fn name_sheet(input: &[u8], answer: SheetAnswer) {
     reply::named(FIRST_NAME, input, Input::RangeSheet);
 }
 
-// A range sheet as a site file, with slots and channels.
-fn site(input: &[u8], slots: u16, channels: u16, out: &mut [u8], text: &mut [u8])
+// The list of blocked positions; where none is given nothing is blocked. One of more than 65,536 bytes is read as empty, which is bad.
+fn listed(slots: u16, channels: u16) -> ListRead {
+    if os::arg_count() <= LIST {
+        return ListRead {
+            blocked: [0u64; 32],
+            answer: ListAnswer::Fine,
+        };
+    }
+    let mut list = io::large_buffer();
+    let n = os::arg(LIST, &mut list);
+    blocklist::read_list(&list[..n], slots, channels)
+}
+
+// A place counted from 1. No list has one past its 65,536 bytes.
+fn from_one(at: usize) -> usize {
+    if 65536 < at {
+        return at;
+    }
+    at + 1
+}
+
+// A range sheet as a site file, with slots, channels and blocked positions.
+fn sheet_site(
+    input: &[u8],
+    slots: u16,
+    channels: u16,
+    blocked: [u64; 32],
+    out: &mut [u8],
+    text: &mut [u8],
+)
     requires { ⌜ 65536 ≤ length (now text) ⌝ }
 {
-    let read = sheet::read_sheet(input, slots, channels);
+    let read = sheet::read_sheet(input, slots, channels, blocked);
     let answer = read.answer;
     let site = read.site;
     let end = say_verdicts::put_sheet_read(text, 0, answer);
@@ -353,6 +387,21 @@ fn site(input: &[u8], slots: u16, channels: u16, out: &mut [u8], text: &mut [u8]
         return;
     };
     yes(out, size);
+}
+
+// A range sheet as a site file, where the list beside it is one.
+fn site(input: &[u8], slots: u16, channels: u16, out: &mut [u8], text: &mut [u8])
+    requires { ⌜ 65536 ≤ length (now text) ⌝ }
+{
+    let list = listed(slots, channels);
+    let answer = list.answer;
+    let blocked = list.blocked;
+    if let ListAnswer::Bad(at) = answer {
+        let end = say_verdicts::put_bad_list(text, 0, from_one(at));
+        reply::wrong(text, end);
+        return;
+    }
+    sheet_site(input, slots, channels, blocked, out, text);
 }
 
 // The share of a flow; one that says nothing of repeats has the default.

@@ -20,6 +20,9 @@ fn refused(f: Fault) {
         Fault::Reach(_) => {
             io::write_all(STDOUT_FILENO, b"3");
         }
+        Fault::Blocked(_) => {
+            io::write_all(STDOUT_FILENO, b"20");
+        }
     }
 }
 

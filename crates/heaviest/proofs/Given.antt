@@ -10,7 +10,7 @@ use Rattle.laws.specs.Choice.{pick}
 use Rattle.site.specs.Record.{faultOf}
 use Rattle.site.specs.Given.{Given}
 use Rattle.site.specs.declared.Site.{Site}
-use Rattle.site.specs.declared.Fault.the-variants.{Fine, Size, Load, Reach}
+use Rattle.site.specs.declared.Fault.the-variants.{Fine, Size, Load, Reach, Blocked}
 use Rattle.site.proofs.Given.{faultFrom}
 use Rattle.site.proofs.PassedOn.{proper-call}
 use Rattle.heaviest.specs.Sets.{heaviestOf}
@@ -27,6 +27,7 @@ heaviest-back (Refused Fine) p = absurd (false≢true p)
 heaviest-back (Refused Size) p = refl
 heaviest-back (Refused (Load k)) p = refl
 heaviest-back (Refused (Reach k)) p = refl
+heaviest-back (Refused (Blocked k)) p = refl
 
 pub heaviest-apart : (a b : HeaviestAnswer) → heaviestProper a ≡ true → heaviestProper b ≡ true → heaviestGiven a ≡ heaviestGiven b → a ≡ b
 heaviest-apart a b p q e = sym (heaviest-back a p) ∙ ap heaviestFrom e ∙ heaviest-back b q
@@ -37,10 +38,11 @@ unfolding heaviestOf
 heaviest-proper s = proper-call heaviestProper Refused (λ g. refl) (faultOf s) _ refl
 
 -- the numbers and the values, in their order, of an answer of each kind
-abbrev answers : (load cells cell row : ℕ) → List HeaviestAnswer
-answers load cells cell row = Done load cells ∷ Refused Size ∷ Refused (Load cell) ∷ Refused (Reach row) ∷ []
+abbrev answers : (load cells cell row position : ℕ) → List HeaviestAnswer
+answers load cells cell row position = Done load cells ∷ Refused Size ∷ Refused (Load cell) ∷ Refused (Reach row) ∷ Refused (Blocked position) ∷ []
 
-pub heaviest-numbers : (load cells cell row : ℕ)
-    → (map (λ (a : HeaviestAnswer). heaviestGiven a .number) (answers load cells cell row) ≡ 0 ∷ 1 ∷ 2 ∷ 3 ∷ [])
-    × (map (λ (a : HeaviestAnswer). heaviestGiven a .values) (answers load cells cell row) ≡ (load ∷ cells ∷ []) ∷ [] ∷ (cell ∷ []) ∷ (row ∷ []) ∷ [])
-heaviest-numbers load cells cell row = (refl, refl)
+pub heaviest-numbers : (load cells cell row position : ℕ)
+    → (map (λ (a : HeaviestAnswer). heaviestGiven a .number) (answers load cells cell row position) ≡ 0 ∷ 1 ∷ 2 ∷ 3 ∷ 20 ∷ [])
+    × (map (λ (a : HeaviestAnswer). heaviestGiven a .values) (answers load cells cell row position)
+    ≡ (load ∷ cells ∷ []) ∷ [] ∷ (cell ∷ []) ∷ (row ∷ []) ∷ (position ∷ []) ∷ [])
+heaviest-numbers load cells cell row position = (refl, refl)

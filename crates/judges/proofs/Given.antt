@@ -13,7 +13,7 @@ use Rattle.site.specs.Record.{faultOf}
 use Rattle.site.specs.Reach.{netOf}
 use Rattle.site.specs.Given.{Given}
 use Rattle.site.specs.declared.Site.{Site}
-use Rattle.site.specs.declared.Fault.the-variants.{Fine, Size, Load, Reach}
+use Rattle.site.specs.declared.Fault.the-variants.{Fine, Size, Load, Reach, Blocked}
 use Rattle.site.proofs.Given.{faultFrom}
 use Rattle.site.proofs.PassedOn.{proper-call}
 use Rattle.judges.specs.Judges.{counted, loadOf, loadAnswer, chainOf, chainAnswer, leastOf, leastAnswer}
@@ -39,6 +39,7 @@ load-back (load.Refused Fine) p = absurd (false≢true p)
 load-back (load.Refused Size) p = refl
 load-back (load.Refused (Load k)) p = refl
 load-back (load.Refused (Reach k)) p = refl
+load-back (load.Refused (Blocked k)) p = refl
 
 pub load-apart : (a b : LoadAnswer) → loadProper a ≡ true → loadProper b ≡ true → loadGiven a ≡ loadGiven b → a ≡ b
 load-apart a b p q e = sym (load-back a p) ∙ ap loadFrom e ∙ load-back b q
@@ -53,13 +54,16 @@ unfolding loadAnswer
 load-proper s = proper-call loadProper load.Refused (λ g. refl) (faultOf s) _ (load-verdict-proper (loadVerdict (netOf s) (counted s)))
 
 -- the numbers and the values, in their order, of an answer of each kind
-abbrev loads : (cell excess row : ℕ) → List LoadAnswer
-loads cell excess row = load.Holds ∷ load.Over cell excess ∷ load.Refused Size ∷ load.Refused (Load cell) ∷ load.Refused (Reach row) ∷ []
+abbrev loads : (cell excess row position : ℕ) → List LoadAnswer
+loads cell excess row position =
+    load.Holds ∷ load.Over cell excess ∷ load.Refused Size ∷ load.Refused (Load cell) ∷ load.Refused (Reach row)
+    ∷ load.Refused (Blocked position) ∷ []
 
-pub load-numbers : (cell excess row : ℕ)
-    → (map (λ (a : LoadAnswer). loadGiven a .number) (loads cell excess row) ≡ 0 ∷ 0 ∷ 1 ∷ 2 ∷ 3 ∷ [])
-    × (map (λ (a : LoadAnswer). loadGiven a .values) (loads cell excess row) ≡ [] ∷ (cell ∷ excess ∷ []) ∷ [] ∷ (cell ∷ []) ∷ (row ∷ []) ∷ [])
-load-numbers cell excess row = (refl, refl)
+pub load-numbers : (cell excess row position : ℕ)
+    → (map (λ (a : LoadAnswer). loadGiven a .number) (loads cell excess row position) ≡ 0 ∷ 0 ∷ 1 ∷ 2 ∷ 3 ∷ 20 ∷ [])
+    × (map (λ (a : LoadAnswer). loadGiven a .values) (loads cell excess row position)
+    ≡ [] ∷ (cell ∷ excess ∷ []) ∷ [] ∷ (cell ∷ []) ∷ (row ∷ []) ∷ (position ∷ []) ∷ [])
+load-numbers cell excess row position = (refl, refl)
 
 -- ---- the judge
 
@@ -75,6 +79,7 @@ chain-back (chain.Refused Fine) p = absurd (false≢true p)
 chain-back (chain.Refused Size) p = refl
 chain-back (chain.Refused (Load k)) p = refl
 chain-back (chain.Refused (Reach k)) p = refl
+chain-back (chain.Refused (Blocked k)) p = refl
 
 pub chain-apart : (a b : ChainAnswer) → chainProper a ≡ true → chainProper b ≡ true → chainGiven a ≡ chainGiven b → a ≡ b
 chain-apart a b p q e = sym (chain-back a p) ∙ ap chainFrom e ∙ chain-back b q
@@ -89,13 +94,16 @@ unfolding chainAnswer
 chain-proper s = proper-call chainProper chain.Refused (λ g. refl) (faultOf s) _ (chain-verdict-proper (chainVerdict (netOf s) (counted s)))
 
 -- the numbers and the values, in their order, of an answer of each kind
-abbrev chains : (a b c cell row : ℕ) → List ChainAnswer
-chains a b c cell row = chain.Chained ∷ chain.Broken a b c ∷ chain.Refused Size ∷ chain.Refused (Load cell) ∷ chain.Refused (Reach row) ∷ []
+abbrev chains : (a b c cell row position : ℕ) → List ChainAnswer
+chains a b c cell row position =
+    chain.Chained ∷ chain.Broken a b c ∷ chain.Refused Size ∷ chain.Refused (Load cell) ∷ chain.Refused (Reach row)
+    ∷ chain.Refused (Blocked position) ∷ []
 
-pub chain-numbers : (a b c cell row : ℕ)
-    → (map (λ (a : ChainAnswer). chainGiven a .number) (chains a b c cell row) ≡ 0 ∷ 0 ∷ 1 ∷ 2 ∷ 3 ∷ [])
-    × (map (λ (a : ChainAnswer). chainGiven a .values) (chains a b c cell row) ≡ [] ∷ (a ∷ b ∷ c ∷ []) ∷ [] ∷ (cell ∷ []) ∷ (row ∷ []) ∷ [])
-chain-numbers a b c cell row = (refl, refl)
+pub chain-numbers : (a b c cell row position : ℕ)
+    → (map (λ (a : ChainAnswer). chainGiven a .number) (chains a b c cell row position) ≡ 0 ∷ 0 ∷ 1 ∷ 2 ∷ 3 ∷ 20 ∷ [])
+    × (map (λ (a : ChainAnswer). chainGiven a .values) (chains a b c cell row position)
+    ≡ [] ∷ (a ∷ b ∷ c ∷ []) ∷ [] ∷ (cell ∷ []) ∷ (row ∷ []) ∷ (position ∷ []) ∷ [])
+chain-numbers a b c cell row position = (refl, refl)
 
 -- ---- the least number of channel-slots
 
@@ -111,6 +119,7 @@ least-back (least.Refused Fine) p = absurd (false≢true p)
 least-back (least.Refused Size) p = refl
 least-back (least.Refused (Load k)) p = refl
 least-back (least.Refused (Reach k)) p = refl
+least-back (least.Refused (Blocked k)) p = refl
 
 pub least-apart : (a b : LeastAnswer) → leastProper a ≡ true → leastProper b ≡ true → leastGiven a ≡ leastGiven b → a ≡ b
 least-apart a b p q e = sym (least-back a p) ∙ ap leastFrom e ∙ least-back b q
@@ -127,10 +136,13 @@ least-proper s =
     (least-verdict-proper (chainVerdict (netOf s) (counted s)) (mostDemand (netOf s) (counted s)))
 
 -- the numbers and the values, in their order, of an answer of each kind
-abbrev leasts : (n cell row : ℕ) → List LeastAnswer
-leasts n cell row = least.Least n ∷ least.Enough n ∷ least.Refused Size ∷ least.Refused (Load cell) ∷ least.Refused (Reach row) ∷ []
+abbrev leasts : (n cell row position : ℕ) → List LeastAnswer
+leasts n cell row position =
+    least.Least n ∷ least.Enough n ∷ least.Refused Size ∷ least.Refused (Load cell) ∷ least.Refused (Reach row)
+    ∷ least.Refused (Blocked position) ∷ []
 
-pub least-numbers : (n cell row : ℕ)
-    → (map (λ (a : LeastAnswer). leastGiven a .number) (leasts n cell row) ≡ 0 ∷ 0 ∷ 1 ∷ 2 ∷ 3 ∷ [])
-    × (map (λ (a : LeastAnswer). leastGiven a .values) (leasts n cell row) ≡ (n ∷ 0 ∷ []) ∷ (n ∷ 1 ∷ []) ∷ [] ∷ (cell ∷ []) ∷ (row ∷ []) ∷ [])
-least-numbers n cell row = (refl, refl)
+pub least-numbers : (n cell row position : ℕ)
+    → (map (λ (a : LeastAnswer). leastGiven a .number) (leasts n cell row position) ≡ 0 ∷ 0 ∷ 1 ∷ 2 ∷ 3 ∷ 20 ∷ [])
+    × (map (λ (a : LeastAnswer). leastGiven a .values) (leasts n cell row position)
+    ≡ (n ∷ 0 ∷ []) ∷ (n ∷ 1 ∷ []) ∷ [] ∷ (cell ∷ []) ∷ (row ∷ []) ∷ (position ∷ []) ∷ [])
+least-numbers n cell row position = (refl, refl)

@@ -1,7 +1,8 @@
 -- What the calls say: Holds and Chained exactly where a record without fault has the property; where a cell or a triple is named, it is the first,
--- by the theory's laws. And Least and Enough exactly on the chain and off it, with the greatest demand.
+-- by the theory's laws. The load test holds where there are open positions enough.
+-- And Least and Enough exactly on the chain and off it, with the greatest demand.
 -- Assumes nothing.
-use Prim.Native.Nat.{ℕ, _+_, _<_}
+use Prim.Native.Nat.{ℕ, _+_, _≤_, _<_}
 use mathlib.Core.Logic.{_↔_}
 use mathlib.Core.Path.{_≡_, refl, sym, ap, _∙_}
 use native.Mathlib.Omega.{arith}
@@ -12,9 +13,10 @@ use Rattle.theory.specs.Net.{Covers, LoadTest, Chained}
 use Rattle.theory.proofs.Exact.{covers-loaded}
 use Rattle.theory.specs.Verdict.{LoadVerdict, holds, over, loadVerdict, mostDemand, ChainVerdict, chained, broken, chainVerdict}
 use Rattle.theory.specs.Named.{FirstOver, FirstBreaks}
-use Rattle.theory.proofs.LoadLaws.{load-holds, load-names}
+use Rattle.theory.proofs.LoadLaws.{load-holds, load-names, most-demand-test}
 use Rattle.theory.proofs.ChainLaws.{chain-holds, chain-names}
-use Rattle.site.specs.Record.{loadAt, isFine, faultOf}
+use Rattle.positions.specs.Blocked.{openIn}
+use Rattle.site.specs.Record.{loadAt, positions, isFine, faultOf}
 use Rattle.site.specs.Reach.{netOf}
 use Rattle.site.specs.declared.Site.{Site}
 use Rattle.site.specs.declared.Fault.{Fault}
@@ -79,7 +81,7 @@ pub chain-accepted : (s : Site) (a : ChainAnswer) → (chain.Refused (faultOf s)
 unfolding chainAnswer
 chain-accepted s a n e = fine-is (faultOf s) (went-first (isFine (faultOf s)) _ _ n e)
 
--- "they refuse only with 1 to 3": a refusal carries the record's own fault, and a record at fault is refused
+-- "they refuse only with 1 to 3", W8: and 20: a refusal carries the record's own fault, and a record at fault is refused
 load-no-refusal : (v : LoadVerdict) (f : Fault) → loadOf v ≡ load.Refused f → ⊥
 load-no-refusal holds f e = let z : _≡_ {A = ℕ} 0 1 = cc in omega arith
 load-no-refusal (over i m) f e = let z : _≡_ {A = ℕ} 0 1 = cc in omega arith
@@ -113,6 +115,13 @@ over-means s cell m e =
     let f = load-accepted s (load.Over cell m) (λ q. let z : _≡_ {A = ℕ} 0 1 = cc in omega arith) e in
     let v = load-is-over (loadVerdict (netOf s) (counted s)) cell m (sym (load-fine s f) ∙ e) in
     (f, (v .0, v .1, load-names (netOf s) (counted s) (v .0) m (v .2)))
+
+-- W8: "N in the load test becomes the count of open positions": it holds exactly where they are at least the greatest demand, which is what `least` answers
+pub holds-open : (s : Site) → faultOf s ≡ Fine → loadAnswer s ≡ load.Holds ↔ mostDemand (netOf s) (counted s) ≤ openIn (s .blocked) (positions s)
+holds-open s fine =
+    let t = most-demand-test (netOf s) (counted s) in
+    let m = holds-means s in
+    (λ e. t .1 (m .0 e .1), λ h. m .1 (fine, t .0 h))
 
 -- "A site is chained when, for every clashing pair a < c, each b strictly between clashes with a, the EARLIER cell."
 -- W2: "about cells with load above 0 only, as a, b and c".

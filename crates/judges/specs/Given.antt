@@ -10,19 +10,19 @@ use Rattle.judges.specs.declared.ChainAnswer.the-variants as chain
 use Rattle.judges.specs.declared.LeastAnswer.{LeastAnswer}
 use Rattle.judges.specs.declared.LeastAnswer.the-variants as least
 
--- the load test holds: nothing; or the cell that is over, and by how much; the record's 1 to 3
+-- the load test holds: nothing; or the cell that is over, and by how much; the record's 1 to 3 and 20
 abbrev pub loadGiven : LoadAnswer → Given
 loadGiven load.Holds = record { number = 0; values = [] }
 loadGiven (load.Over cell excess) = record { number = 0; values = cell ∷ excess ∷ [] }
 loadGiven (load.Refused f) = faultGiven f
 
--- chained: nothing; or the triple a, b, c; the record's 1 to 3
+-- chained: nothing; or the triple a, b, c; the record's 1 to 3 and 20
 abbrev pub chainGiven : ChainAnswer → Given
 chainGiven chain.Chained = record { number = 0; values = [] }
 chainGiven (chain.Broken a b c) = record { number = 0; values = a ∷ b ∷ c ∷ [] }
 chainGiven (chain.Refused f) = faultGiven f
 
--- how many channel-slots do, and then 0 where fewer do not, 1 where fewer may; the record's 1 to 3
+-- how many open channel-slots do, and then 0 where fewer do not, 1 where fewer may; the record's 1 to 3 and 20
 abbrev pub leastGiven : LeastAnswer → Given
 leastGiven (least.Least n) = record { number = 0; values = n ∷ 0 ∷ [] }
 leastGiven (least.Enough n) = record { number = 0; values = n ∷ 1 ∷ [] }

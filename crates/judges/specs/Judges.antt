@@ -1,6 +1,6 @@
--- The load test, the chain judge and the least number of channel-slots, as calls on a site record:
+-- The load test, the chain judge and the least number of open channel-slots, as calls on a site record:
 -- the record's fault, or the theory's verdict on the problem that the record states.
--- "Load test and chain judge are verdicts; they refuse only with 1 to 3." Cells are named by number, from 1.
+-- "Load test and chain judge are verdicts; they refuse only with 1 to 3."; W8: and 20. Cells are named by number, from 1.
 use Prim.Native.Nat.{ℕ, _+_}
 use mathlib.Core.Bool.{Bool}
 use mathlib.Core.List.{List}
@@ -28,6 +28,7 @@ abbrev pub counted : Site → ℕ → Bool
 counted s = countedIn (s .loads)
 
 -- "If not, it names the lowest cell that is over and by how much." W2: a cell with load above 0.
+-- W8: "N in the load test becomes the count of open positions": `room` of the problem.
 abbrev pub loadOf : LoadVerdict → LoadAnswer
 loadOf holds = load.Holds
 loadOf (over i m) = load.Over (i + 1) m
@@ -43,8 +44,8 @@ chainOf (broken a b c) = chain.Broken (a + 1) (b + 1) (c + 1)
 unfoldable pub chainAnswer : Site → ChainAnswer
 chainAnswer s = pick (isFine (faultOf s)) (chainOf (chainVerdict (netOf s) (counted s))) (chain.Refused (faultOf s))
 
--- On a chained site also the least number of channel-slots that would do: the greatest demand of a cell with load above 0.
--- The site's own slots and channels play no part.
+-- On a chained site also the least number of open channel-slots that would do: the greatest demand of a cell with load above 0.
+-- The site's own slots, channels and blocked positions play no part.
 -- Off the chain so many are enough, since the load test then holds; fewer may be enough, too. (Named in proofs/Meaning.antt.)
 abbrev pub leastOf : ChainVerdict → ℕ → LeastAnswer
 leastOf chained n = least.Least n

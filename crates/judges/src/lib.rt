@@ -1,4 +1,4 @@
-// The verdicts on a site: the load test, the judge of the chain, and the least number of channel-slots that do.
+// The verdicts on a site: the load test, the judge of the chain, and the least number of open channel-slots that do.
 // All ask the clash rows and the word of the cells that count, those with load above 0.
 // The chain goes from one cell of a word to the next without a look at those between.
 ghost use mathlib.Core.Path.{_≡_};
@@ -10,6 +10,7 @@ use demands::demand;
 use demands::first_over;
 use demands::most_demand;
 use loads::loaded;
+use positions::open_count;
 use site::Fault;
 use site::Site;
 
@@ -27,14 +28,14 @@ pub enum ChainAnswer {
     Refused(Fault),
 }
 
-// How many channel-slots do: the least number that does, on a chained site; on any other so many are enough, and fewer may be.
+// How many open channel-slots do: the least number that does, on a chained site; on any other so many are enough, and fewer may be.
 pub enum LeastAnswer {
     Least(usize),
     Enough(usize),
     Refused(Fault),
 }
 
-// The load test: the lowest cell with load above 0 that is over, and by how much.
+// The load test: the lowest cell with load above 0 whose demand is above the number of open positions, and by how much.
 pub fn load_test(site: Site) -> LoadAnswer
     ensures { λ r. ⌜ r ≡ loadAnswer site ⌝ }
 {
@@ -43,7 +44,9 @@ pub fn load_test(site: Site) -> LoadAnswer
         return LoadAnswer::Refused(f);
     };
     let cells = site.cells as usize;
-    let room = site.slots as u32 * site.channels as u32;
+    let n = site.slots as usize * site.channels as usize;
+    let blocked = site.blocked;
+    let room = open_count(&blocked, n) as u32;
     let loads = site.loads;
     let clash = site.clash_rows();
     let who = loaded(&loads);
@@ -76,7 +79,7 @@ pub fn chain(site: Site) -> ChainAnswer
     ChainAnswer::Chained
 }
 
-// How many channel-slots do for the site's cells, loads and reach, whatever slots and channels it has now.
+// How many open channel-slots do for the site's cells, loads and reach, whatever slots, channels and blocked positions it has now.
 pub fn least(site: Site) -> LeastAnswer
     ensures { λ r. ⌜ r ≡ leastAnswer site ⌝ }
 {

@@ -26,7 +26,7 @@ use Rattle.site.specs.Reach.{netOf}
 use Rattle.site.proofs.PassedOn.{passed-on}
 use Rattle.site.specs.declared.Site.{Site}
 use Rattle.site.specs.declared.Fault.{Fault}
-use Rattle.site.specs.declared.Fault.the-variants.{Fine, Size, Load, Reach}
+use Rattle.site.specs.declared.Fault.the-variants.{Fine, Size, Load, Reach, Blocked}
 use Rattle.theory.specs.Named.{Fails}
 use Rattle.theory.proofs.Run.{run-fails}
 use Rattle.mending.specs.Mend.{stand, mend, overlay}
@@ -74,6 +74,7 @@ module _ (s : Net) (u l : List ℕ) where
   way-of Size b o = refl
   way-of (Load k) b o = refl
   way-of (Reach k) b o = refl
+  way-of (Blocked k) b o = refl
 
   -- no other answer than done leaves a mark
   list-kept : (q : Bool) (n : ℕ) (t x : List ℕ) → ((m : ℕ) → pick q (ListShort n) (Done n) ≡ Done m → ⊥) → (pick q u t ≡ u) × (pick q l x ≡ l)
@@ -88,6 +89,7 @@ module _ (s : Net) (u l : List ℕ) where
   kept-by Size b o h = (refl, refl)
   kept-by (Load k) b o h = (refl, refl)
   kept-by (Reach k) b o h = (refl, refl)
+  kept-by (Blocked k) b o h = (refl, refl)
 
   no-refusal : (b : Bool) (o : Outcome) (f : Fault) → pick b TableShort (mendAnswerOf s u l o) ≡ Refused f → ⊥
   no-refusal true o f e = let z : _≡_ {A = ℕ} 0 1 = cc in omega arith
@@ -106,7 +108,7 @@ module _ (s : Site) (u l : List ℕ) where
   way a e = subst (Way (netOf s) u l (faultOf s) (ltb (length u) (size s)) (mend (netOf s) u)) e
       (way-of (netOf s) u l (faultOf s) (ltb (length u) (size s)) (mend (netOf s) u))
 
-  -- 1 to 3: a refusal carries the record's own fault, and a record at fault is refused
+  -- 1 to 3 and 20: a refusal carries the record's own fault, and a record at fault is refused
   pub mend-refused : (f : Fault) → mendAnswer s u l ≡ Refused f ↔ ((f ≡ faultOf s) × (isFine f ≡ false))
   unfolding mendAnswer
   mend-refused = passed-on Refused (λ f g e. cc) (faultOf s) _ (no-refusal (netOf s) u l (ltb (length u) (size s)) (mend (netOf s) u))

@@ -18,7 +18,7 @@ use Rattle.site.specs.Record.{positions, size, faultOf, isFine}
 use Rattle.site.specs.Reach.{netOf}
 use Rattle.site.specs.declared.Site.{Site}
 use Rattle.site.specs.declared.Fault.{Fault}
-use Rattle.site.specs.declared.Fault.the-variants.{Fine, Size, Load, Reach}
+use Rattle.site.specs.declared.Fault.the-variants.{Fine, Size, Load, Reach, Blocked}
 use Rattle.site.proofs.Faults.{fine-sized, Sized}
 use Rattle.mending.specs.Mend.{mend, overlay}
 use Rattle.standing.specs.Stand.{numberOf}
@@ -111,6 +111,7 @@ module _ (s : Site) (u : List ℕ) where
   same-by l Size b o h = refl
   same-by l (Load k) b o h = refl
   same-by l (Reach k) b o h = refl
+  same-by l (Blocked k) b o h = refl
 
 module _ {a : MendAnswer} {s : Site} {u words counts : List ℕ} (st : MendStands a s u words counts) (h : OneOf (1 ∷ 2 ∷ 3 ∷ 4 ∷ []) (tagOf the-type a))
     (l : List ℕ) where

@@ -59,8 +59,9 @@ fn stand_site(site: Site, table: &[u8], words: &mut [u32], counts: &mut [usize])
         return MendAnswer::TableShort;
     }
     let loads = site.loads;
+    let blocked = site.blocked;
     let clash = site.clash_rows();
-    let stood = standing::stand_all(words, counts, table, n, cells, &loads, &clash);
+    let stood = standing::stand_all(words, counts, table, n, cells, &loads, &clash, &blocked);
     match stood {
         Stood::Short(cell, short) => MendAnswer::NoRoom(cell, short),
         Stood::All(number) => MendAnswer::Done(number),

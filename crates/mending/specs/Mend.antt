@@ -10,7 +10,7 @@ use Rattle.theory.specs.Greedy.{sends, reserved, marked, fill, unmet, Outcome, 
 
 -- cell i, where t has the rows of the cells below it, and u is the table to be mended
 module _ (s : Net) (u t : List ℕ) (i : ℕ) where
-  -- "its reservations", at positions that may be reserved: on a site today, all of them
+  -- "its reservations", at positions that may be reserved: on a site the open ones
   abbrev pub mayKeep : ℕ → Bool
   mayKeep k = s .usable k && reserved (s .width) u i k
 

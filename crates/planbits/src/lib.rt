@@ -5,7 +5,8 @@ ghost use Prim.Native.Nat.{_+_, _-_, _*_, _^_, _≤_, _<_};
 ghost use lib.ListN.{length, take};
 ghost use lib.Seq.{sets};
 ghost use Rattle.laws.specs.Part.{Below};
-ghost use Rattle.planbits.specs.Bits.{bytesFor, one, bitsFrom, ones, packedFrom};
+ghost use Rattle.records.specs.Bits.{bytesFor};
+ghost use Rattle.planbits.specs.Bits.{one, bitsFrom, ones, packedFrom};
 ghost use Rattle.planbits.specs.Block.{Runs, Joined};
 
 // Stores the eight bits of x from table index k on.

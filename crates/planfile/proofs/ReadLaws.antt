@@ -22,7 +22,8 @@ use Rattle.records.specs.declared.ReadAnswer.the-variants.{Done, Refused}
 use Rattle.records.proofs.Laws as records
 use Rattle.records.proofs.Reasons.{andThen, first-append}
 use Rattle.records.proofs.Head.{head-read, head-sizes}
-use Rattle.planbits.specs.Bits.{bytesFor, bitsFrom, leftOver}
+use Rattle.records.specs.Bits.{bytesFor, leftOver}
+use Rattle.planbits.specs.Bits.{bitsFrom}
 use Rattle.planfile.specs.Read.{planAt, bodyIn, endIn, planReadAnswer, refusedPlan, planReadOf, readPlan, planTableRead}
 use Rattle.planfile.specs.Loop.{HeadRead}
 use Rattle.planbits.proofs.Bits.{length-bits}

@@ -31,7 +31,8 @@ use Rattle.records.proofs.Laws.{Opening, record-open, exact, exact-true}
 use Rattle.records.proofs.Reasons.{andThen, both-done, done-none}
 use Rattle.records.proofs.Head.{HeadGood, head-read, head-done}
 use Rattle.records.proofs.RecordTrip.{record-body, rest-back, record-back, body-length, record-again, head-again}
-use Rattle.planbits.specs.Bits.{bytesFor, one, bitOf, bitsFrom, leftOver, ones, packed, packedFrom}
+use Rattle.records.specs.Bits.{bytesFor, bitOf, leftOver}
+use Rattle.planbits.specs.Bits.{one, bitsFrom, ones, packed, packedFrom}
 use Rattle.planfile.specs.Read.{planAt, bodyIn, endIn, planReadAnswer, planReadOf, readPlan, planTableRead}
 use Rattle.planfile.specs.Write.{planBytes, planFile, planWritten, planOut}
 use Rattle.planfile.specs.declared.PlanWritten.the-variants.{Done as Written, TableShort, OutShort, Refused as Faulty}

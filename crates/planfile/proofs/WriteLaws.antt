@@ -18,7 +18,8 @@ use Rattle.records.specs.Layout.{recordOf}
 use Rattle.records.specs.Head.{headRecord, headSize}
 use Rattle.records.specs.Write.{laidOver}
 use Rattle.records.proofs.Write.{laid-short, record-put}
-use Rattle.planbits.specs.Bits.{bytesFor, packed}
+use Rattle.records.specs.Bits.{bytesFor}
+use Rattle.planbits.specs.Bits.{packed}
 use Rattle.planfile.specs.Write.{planBytes, planFile, planWritten, planOut}
 use Rattle.planfile.specs.declared.PlanWritten.the-variants.{Done, TableShort, OutShort, Refused}
 use Rattle.planbits.proofs.Bits.{length-packed}

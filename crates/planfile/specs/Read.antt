@@ -11,7 +11,8 @@ use Rattle.records.specs.Head.{cellsOfHead, slotsOfHead, channelsOfHead, entrie
 use Rattle.records.specs.declared.Length.the-variants.{Exact}
 use Rattle.records.specs.declared.ReadAnswer.{ReadAnswer}
 use Rattle.records.specs.declared.ReadAnswer.the-variants.{Done, Refused}
-use Rattle.planbits.specs.Bits.{bytesFor, bitsFrom, leftOver}
+use Rattle.records.specs.Bits.{bytesFor, leftOver}
+use Rattle.planbits.specs.Bits.{bitsFrom}
 use Rattle.planfile.specs.declared.PlanRead.{PlanRead}
 
 -- where kind 4 is due, its body, and where it ends

@@ -6,6 +6,7 @@ use records::Length;
 use records::Opened;
 use records::ReadAnswer;
 use records::head_answer;
+use records::left_over;
 use records::open;
 use records::opened_answer;
 use records::put_head;
@@ -16,7 +17,7 @@ use site::Site;
 ghost use mathlib.Core.Path.{_≡_};
 ghost use lib.ListN.{length};
 ghost use Rattle.site.specs.Record.{entries};
-ghost use Rattle.planbits.specs.Bits.{bytesFor, leftOver};
+ghost use Rattle.records.specs.Bits.{bytesFor};
 ghost use Rattle.planfile.specs.Read.{refusedPlan, readPlan, planTableRead};
 ghost use Rattle.planfile.specs.Loop.{HeadRead};
 ghost use Rattle.planfile.specs.Write.{planWritten, planOut};
@@ -42,19 +43,6 @@ fn entries(cells: u16, slots: u16, channels: u16) -> usize
     ensures { λ r. ⌜ r ≡ entries cells slots channels ⌝ }
 {
     cells as usize * (slots as usize * channels as usize)
-}
-
-// Whether a bit of the body past its first n is 1.
-fn left_over(body: &[u8], n: usize) -> bool
-    requires { ⌜ length (now body) ≡ bytesFor n ⌝ }
-    ensures { λ r. ⌜ r ≡ leftOver (now (body .entry)) n ⌝ }
-{
-    let b = n % 8;
-    if b == 0 {
-        return false;
-    }
-    let x = body[n / 8];
-    (x >> b) != 0
 }
 
 // A refused read: the refusal, and no site.

@@ -10,7 +10,7 @@ use native.Mathlib.Omega.{arith}
 use lib.Seq.{length-take-le, take-take}
 use lib.ListN.{length, take, drop, getD, replicate, take-append-drop}
 use Rattle.laws.proofs.Part.{length-put, take-put-end, drop-put-after}
-use Rattle.theory.specs.Net.{Net, unblocked}
+use Rattle.theory.specs.Net.{Net}
 use Rattle.theory.specs.Greedy.{marked, fill, unmet, row, held, Outcome, planned, noRoom, run}
 use Rattle.theory.proofs.Loops.{run-next, run-stop, run-stays}
 use Rattle.theory.proofs.Row.{row-length, row-short}
@@ -22,28 +22,29 @@ use Rattle.planner.proofs.Marked.{marked-take, marked-alike}
 use Rattle.site.specs.Reach.{netIn}
 
 -- cell i, with its load, over the table t
-module _ (cells n : ℕ) (loads : List ℕ) (clash : ℕ → ℕ → Bool) (i : ℕ) (t : List ℕ) (fits : i * n + n ≤ length t) {load : ℕ} (own : load ≡ getD loads i 0) where
+module _ (cells n : ℕ) (loads : List ℕ) (clash : ℕ → ℕ → Bool) (usable : ℕ → Bool) (i : ℕ) (t : List ℕ) (fits : i * n + n ≤ length t)
+    {load : ℕ} (own : load ≡ getD loads i 0) where
   abbrev net : Net
-  net = netIn cells n loads clash unblocked
+  net = netIn cells n loads clash usable
 
   abbrev marks : List ℕ
   marks = marksIn n clash t i
 
   same-marks : marked net (take (i * n) t) i i ≡ marks
-  same-marks = marked-take net i t (omega arith) i (omega arith) ∙ sym (marked-alike cells n loads clash t i i)
+  same-marks = marked-take net i t (omega arith) i (omega arith) ∙ sym (marked-alike cells n loads clash usable t i i)
 
   -- the row of cell i, from the rows that stand in the table
-  same-row : row net (take (i * n) t) i ≡ fill unblocked 0 load marks
-  same-row = (λ x. fill unblocked 0 (sym own x) (same-marks x))
+  same-row : row net (take (i * n) t) i ≡ fill usable 0 load marks
+  same-row = (λ x. fill usable 0 (sym own x) (same-marks x))
 
-  filled-long : length (fill unblocked 0 load marks) ≡ n
+  filled-long : length (fill usable 0 load marks) ≡ n
   filled-long = sym (ap length same-row) ∙ row-length net (take (i * n) t) i
 
   -- what the row filler finds no place for
-  lacks : rowShort n clash i load t ≡ getD loads i 0 - held n (row net (take (i * n) t) i)
-  lacks = (λ x. unmet unblocked 0 (own x) (sym same-marks x)) ∙ row-short net (take (i * n) t) i
+  lacks : rowShort n clash usable i load t ≡ getD loads i 0 - held n (row net (take (i * n) t) i)
+  lacks = (λ x. unmet usable 0 (own x) (sym same-marks x)) ∙ row-short net (take (i * n) t) i
 
-  module _ {u : List ℕ} (is : u ≡ rowPlanned n clash i load t) where
+  module _ {u : List ℕ} (is : u ≡ rowPlanned n clash usable i load t) where
     pub more-long : length u ≡ length t
     more-long = ap length is ∙ length-put (i * n) n _ t filled-long fits
 
@@ -53,12 +54,12 @@ module _ (cells n : ℕ) (loads : List ℕ) (clash : ℕ → ℕ → Bool) (i : 
     more-take : take ((i + 1) * n) u ≡ take (i * n) t ++ row net (take (i * n) t) i
     more-take = rw (add-one, suc-mul, is, take-put-end (i * n) n _ t filled-long fits, same-row) refl
 
-    module _ (so-far : PlannedTo (netIn cells n loads clash unblocked) i t) {short : ℕ}
-        (over : short ≡ rowShort n clash i load t) where
-      pub more-planned : short ≡ 0 → PlannedTo (netIn cells n loads clash unblocked) (i + 1) u
+    module _ (so-far : PlannedTo (netIn cells n loads clash usable) i t) {short : ℕ}
+        (over : short ≡ rowShort n clash usable i load t) where
+      pub more-planned : short ≡ 0 → PlannedTo (netIn cells n loads clash usable) (i + 1) u
       more-planned z = run-next net (row net) i (take (i * n) t) so-far (omega (arith, lacks)) ∙ ap planned (sym more-take)
 
-      pub more-short : 0 < short → (k : ℕ) → i < k → run (netIn cells n loads clash unblocked) (row (netIn cells n loads clash unblocked)) k ≡ noRoom i short
+      pub more-short : 0 < short → (k : ℕ) → i < k → run (netIn cells n loads clash usable) (row (netIn cells n loads clash usable)) k ≡ noRoom i short
       more-short h k below =
           let e : short ≡ getD loads i 0 - held n (row net (take (i * n) t) i) = over ∙ lacks in
           run-stays net (row net) (i + 1) i short

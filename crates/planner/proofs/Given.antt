@@ -15,7 +15,7 @@ use Rattle.site.proofs.Given.{faultFrom}
 use Rattle.site.proofs.PassedOn.{proper-call, proper-either}
 use Rattle.site.specs.declared.Site.{Site}
 use Rattle.site.specs.declared.Fault.{Fault}
-use Rattle.site.specs.declared.Fault.the-variants.{Fine, Size, Load, Reach}
+use Rattle.site.specs.declared.Fault.the-variants.{Fine, Size, Load, Reach, Blocked}
 use Rattle.planner.specs.Plan.{answerOf, planAnswer}
 use Rattle.planner.specs.Given.{planGiven, planProper}
 use Rattle.planner.specs.declared.PlanAnswer.{PlanAnswer}
@@ -33,6 +33,7 @@ read-refusal Fine h = absurd (false≢true h)
 read-refusal Size h = refl
 read-refusal (Load k) h = refl
 read-refusal (Reach k) h = refl
+read-refusal (Blocked k) h = refl
 
 read-back : (a : PlanAnswer) → planProper a ≡ true → readBack (planGiven a) ≡ a
 read-back Done h = refl

@@ -16,7 +16,7 @@ use Rattle.site.specs.Record.{positions, loadAt, isFine, faultOf}
 use Rattle.site.specs.Reach.{netOf}
 use Rattle.site.specs.Given.{Given, faultGiven}
 use Rattle.site.specs.declared.Site.{Site}
-use Rattle.site.specs.declared.Fault.the-variants.{Fine, Size, Load, Reach}
+use Rattle.site.specs.declared.Fault.the-variants.{Fine, Size, Load, Reach, Blocked}
 use Rattle.site.proofs.Faults.{few-positions, fine-sized}
 use Rattle.site.proofs.Means.{no-fine}
 use Rattle.judges.specs.Judges.{loadAnswer}
@@ -119,18 +119,19 @@ empty-counts s fs = empty-allowed (netOf s) (flowsOf s fs)
 -- ---- "Refusals: record faults first, then 18 over 16 flows, 19 site not chained, then per flow 2, 15, 16 with the flow's number." Each exactly where it is
 -- due; 2, 15 and 16 by the flow's cell, by its burst, period and repeats, and by products (crates/admission/specs/Means.antt).
 
--- the record's numbers are 1 to 3
-above-three : (a : AdmitAnswer) → 3 < admitGiven a .number → ofRecord a ≡ false
-above-three (Admitted set) h = refl
-above-three TooMany h = refl
-above-three NotChained h = refl
-above-three (BadCell flow) h = refl
-above-three (BadFlow flow) h = refl
-above-three (BigShare flow) h = refl
-above-three (Refused Fine) h = absurd (omega arith)
-above-three (Refused Size) h = absurd (omega arith)
-above-three (Refused (Load k)) h = absurd (omega arith)
-above-three (Refused (Reach k)) h = absurd (omega arith)
+-- the record's numbers are 1 to 3 and 20
+between : (a : AdmitAnswer) → 3 < admitGiven a .number → admitGiven a .number < 20 → ofRecord a ≡ false
+between (Admitted set) h l = refl
+between TooMany h l = refl
+between NotChained h l = refl
+between (BadCell flow) h l = refl
+between (BadFlow flow) h l = refl
+between (BigShare flow) h l = refl
+between (Refused Fine) h l = absurd (omega arith)
+between (Refused Size) h l = absurd (omega arith)
+between (Refused (Load k)) h l = absurd (omega arith)
+between (Refused (Reach k)) h l = absurd (omega arith)
+between (Refused (Blocked k)) h l = absurd (omega arith)
 
 module _ (s : Site) (fs : List Flow) where
   -- an accepted record is not refused
@@ -154,9 +155,11 @@ module _ (s : Site) (fs : List Flow) where
       → admitGiven (admitAnswer s fs) ≡ admitGiven b → admitAnswer s fs ≡ b
   answer-of b p q o = admit-apart (admitAnswer s fs) b (admit-proper s fs) p (o ∙ sym q)
 
-  -- a number above 3 is not the record's
-  big : (g : Given) → 3 < g .number → admitGiven (admitAnswer s fs) ≡ g → ofRecord (admitAnswer s fs) ≡ false
-  big g l e = above-three (admitAnswer s fs) (omega (arith, ap (λ (x : Given). x .number) e))
+  -- a number above 3 and below 20 is not the record's
+  own : (g : Given) → 3 < g .number → g .number < 20 → admitGiven (admitAnswer s fs) ≡ g → ofRecord (admitAnswer s fs) ≡ false
+  own g l m e =
+      let same = ap (λ (x : Given). x .number) e in
+      between (admitAnswer s fs) (omega (arith, same)) (omega (arith, same))
 
   pub admit-fault : (Accepted s → ⊥) → admitGiven (admitAnswer s fs) ≡ faultGiven (faultOf s)
   admit-fault n = ap admitGiven (fault-means s fs (faultOf s) .1 (refl, no-fine (faultOf s) (λ e. n (accepted-number s .1 e))))
@@ -164,14 +167,14 @@ module _ (s : Site) (fs : List Flow) where
   pub eighteen : admitGiven (admitAnswer s fs) ≡ refused 18 [] ↔ (Accepted s × (16 < length fs))
   eighteen =
       let m = many-means s fs in (
-        λ e. let h = m .0 (answer-of TooMany refl refl (big (refused 18 []) (omega arith) e) e) in (accepted-number s .1 (h .0), h .1),
+        λ e. let h = m .0 (answer-of TooMany refl refl (own (refused 18 []) (omega arith) (omega arith) e) e) in (accepted-number s .1 (h .0), h .1),
         λ h. ap admitGiven (m .1 (accepted-number s .0 (h .0), h .1)),
       )
 
   pub nineteen : admitGiven (admitAnswer s fs) ≡ refused 19 [] ↔ (Accepted s × (length fs ≤ 16) × (Chained (netOf s) everyone → ⊥))
   nineteen =
       let m = broken-means s fs in (
-        λ e. let h = m .0 (answer-of NotChained refl refl (big (refused 19 []) (omega arith) e) e) in (accepted-number s .1 (h .0), h .1, h .2),
+        λ e. let h = m .0 (answer-of NotChained refl refl (own (refused 19 []) (omega arith) (omega arith) e) e) in (accepted-number s .1 (h .0), h .1, h .2),
         λ h. ap admitGiven (m .1 (accepted-number s .0 (h .0), h .1, h .2)),
       )
 
@@ -184,12 +187,12 @@ module _ (s : Site) (fs : List Flow) where
   pub flow-fifteen : (n : ℕ) → admitGiven (admitAnswer s fs) ≡ refused 15 (n ∷ []) ↔ ((k : ℕ) × (n ≡ k + 1) × Stops s fs k fifteen)
   flow-fifteen n =
       let m = flow-means s fs fifteen n in
-      (λ e. m .0 (answer-of (BadFlow n) refl refl (big (refused 15 (n ∷ [])) (omega arith) e) e), λ h. ap admitGiven (m .1 h))
+      (λ e. m .0 (answer-of (BadFlow n) refl refl (own (refused 15 (n ∷ [])) (omega arith) (omega arith) e) e), λ h. ap admitGiven (m .1 h))
 
   pub flow-sixteen : (n : ℕ) → admitGiven (admitAnswer s fs) ≡ refused 16 (n ∷ []) ↔ ((k : ℕ) × (n ≡ k + 1) × Stops s fs k sixteen)
   flow-sixteen n =
       let m = flow-means s fs sixteen n in
-      (λ e. m .0 (answer-of (BigShare n) refl refl (big (refused 16 (n ∷ [])) (omega arith) e) e), λ h. ap admitGiven (m .1 h))
+      (λ e. m .0 (answer-of (BigShare n) refl refl (own (refused 16 (n ∷ [])) (omega arith) (omega arith) e) e), λ h. ap admitGiven (m .1 h))
 
   -- a set is answered wherever nothing is refused, and only there
   pub admitted-answer : (x : ℕ) → admitGiven (admitAnswer s fs) ≡ doneWith (x ∷ []) ↔ (Settled s fs × (x ≡ admitted s fs))

@@ -3,6 +3,7 @@
 use mathlib.Core.Path.{_≡_, refl, ap}
 use mathlib.Core.Bool.{Bool, true, false}
 use mathlib.Core.List.{List, [], _∷_, _++_}
+use mathlib.Core.Logic.{_⊎_, inl, inr}
 use Prim.Native.Nat.{ℕ, _≤_}
 use native.Mathlib.Omega.{arith}
 use lib.Dec.{ltb, leb}
@@ -17,7 +18,7 @@ use Rattle.site.specs.Reach.{netOf}
 use Rattle.site.specs.Given.{Given, faultGiven}
 use Rattle.site.specs.declared.Site.{Site}
 use Rattle.site.specs.declared.Fault.{Fault}
-use Rattle.site.specs.declared.Fault.the-variants.{Fine, Size, Load, Reach}
+use Rattle.site.specs.declared.Fault.the-variants.{Fine, Size, Load, Reach, Blocked}
 use Rattle.planner.specs.Plan.{answerOf, tableOf, planAnswer, planTable}
 use Rattle.planner.specs.Given.{planGiven}
 use Rattle.planner.specs.declared.PlanAnswer.the-variants as planner
@@ -61,6 +62,7 @@ module _ (n : ℕ) (t : List ℕ) (laid : Outcome → List ℕ) (idle : (c m : �
   plan-left Size short o h = plan-untouched n t 1 (λ e. omega arith) (λ e. omega arith)
   plan-left (Load k) short o h = plan-untouched n t 2 (λ e. omega arith) (λ e. omega arith)
   plan-left (Reach k) short o h = plan-untouched n t 3 (λ e. omega arith) (λ e. omega arith)
+  plan-left (Blocked k) short o h = plan-untouched n t 20 (λ e. omega arith) (λ e. omega arith)
 
 pub plan-leaves : (s : Site) (t : List ℕ) → PlannerLeaves (size s) t (planGiven (planAnswer s t) .number) (planTable s t)
 unfolding planAnswer planTable
@@ -101,6 +103,7 @@ module _ (file out : List ℕ) where
   file-left Size fits = out-untouched _ (λ e. omega arith)
   file-left (Load k) fits = out-untouched _ (λ e. omega arith)
   file-left (Reach k) fits = out-untouched _ (λ e. omega arith)
+  file-left (Blocked k) fits = out-untouched _ (λ e. omega arith)
 
   plan-file-left : (f : Fault) (short fits : Bool)
       → WriterLeaves file out
@@ -112,6 +115,7 @@ module _ (file out : List ℕ) where
   plan-file-left Size short fits = out-untouched _ (λ e. omega arith)
   plan-file-left (Load k) short fits = out-untouched _ (λ e. omega arith)
   plan-file-left (Reach k) short fits = out-untouched _ (λ e. omega arith)
+  plan-file-left (Blocked k) short fits = out-untouched _ (λ e. omega arith)
 
 -- what a writer that is done was given
 pub wrote-fine : (f : Fault) (fits : Bool) (n : ℕ)
@@ -120,6 +124,7 @@ wrote-fine Fine fits n e = refl
 wrote-fine Size fits n e = absurd (omega arith)
 wrote-fine (Load k) fits n e = absurd (omega arith)
 wrote-fine (Reach k) fits n e = absurd (omega arith)
+wrote-fine (Blocked k) fits n e = absurd (omega arith)
 
 pub site-write-leaves : (s : Site) (out : List ℕ) → WriterLeaves (siteBytes s) out (writtenGiven (siteWritten s out)) (siteOut s out)
 unfolding siteWritten siteOut written laidOver
@@ -129,7 +134,7 @@ pub plan-write-leaves : (s : Site) (t out : List ℕ) → WriterLeaves (planFile
 unfolding planWritten planOut laidOver
 plan-write-leaves s t out = plan-file-left (planFile s t) out (faultOf s) (ltb (length t) (size s)) (leb (length (planFile s t)) (length out))
 
--- ---- "Load test and chain judge are verdicts; they refuse only with 1 to 3."
+-- ---- "Load test and chain judge are verdicts; they refuse only with 1 to 3."; W8: and with 20, "after 3"
 
 load-refusals : (f : Fault) (v : LoadVerdict) → loadGiven (pick (isFine f) (loadOf v) (load.Refused f)) .number ≡ faultGiven f .number
 load-refusals Fine holds = refl
@@ -137,6 +142,7 @@ load-refusals Fine (over i m) = refl
 load-refusals Size v = refl
 load-refusals (Load k) v = refl
 load-refusals (Reach k) v = refl
+load-refusals (Blocked k) v = refl
 
 chain-refusals : (f : Fault) (v : ChainVerdict) → chainGiven (pick (isFine f) (chainOf v) (chain.Refused f)) .number ≡ faultGiven f .number
 chain-refusals Fine chained = refl
@@ -144,6 +150,7 @@ chain-refusals Fine (broken a b c) = refl
 chain-refusals Size v = refl
 chain-refusals (Load k) v = refl
 chain-refusals (Reach k) v = refl
+chain-refusals (Blocked k) v = refl
 
 -- their number is that of the record's fault
 pub load-refuses : (s : Site) → loadGiven (loadAnswer s) .number ≡ faultGiven (faultOf s) .number
@@ -154,12 +161,17 @@ pub chain-refuses : (s : Site) → chainGiven (chainAnswer s) .number ≡ faultG
 unfolding chainAnswer
 chain-refuses s = chain-refusals (faultOf s) (chainVerdict (netOf s) (counted s))
 
-fault-to-three : (f : Fault) → faultGiven f .number ≤ 3
-fault-to-three Fine = omega arith
-fault-to-three Size = omega arith
-fault-to-three (Load k) = omega arith
-fault-to-three (Reach k) = omega arith
+-- done, or one of the record's: 0 to 3, or 20
+abbrev pub OfRecord : ℕ → Type 0
+OfRecord number = (number ≤ 3) ⊎ (number ≡ 20)
 
--- and so is 0, or 1 to 3
-pub verdicts-to-three : (s : Site) → (loadGiven (loadAnswer s) .number ≤ 3) × (chainGiven (chainAnswer s) .number ≤ 3)
-verdicts-to-three s = (omega (arith, load-refuses s, fault-to-three (faultOf s)), omega (arith, chain-refuses s, fault-to-three (faultOf s)))
+pub fault-number : (f : Fault) → OfRecord (faultGiven f .number)
+fault-number Fine = inl (omega arith)
+fault-number Size = inl (omega arith)
+fault-number (Load k) = inl (omega arith)
+fault-number (Reach k) = inl (omega arith)
+fault-number (Blocked k) = inr refl
+
+-- and so is 0, or 1 to 3, or 20
+pub verdicts-of-record : (s : Site) → OfRecord (loadGiven (loadAnswer s) .number) × OfRecord (chainGiven (chainAnswer s) .number)
+verdicts-of-record s = (rw (load-refuses s) (fault-number (faultOf s)), rw (chain-refuses s) (fault-number (faultOf s)))

@@ -1,6 +1,6 @@
 -- Demand 2, over what the contracts cite, in the document's numbers. Each crate proves its own part; here they stand side by side. Assumes nothing.
-use mathlib.Core.Path.{_≡_, refl, sym, ap, _∙_}
-use mathlib.Core.Bool.{true≢false}
+use mathlib.Core.Path.{_≡_, sym, ap, _∙_}
+use mathlib.Core.Bool.{not, true≢false}
 use mathlib.Core.List.{List, _++_}
 use mathlib.Core.Logic.{_↔_}
 use Prim.Native.Nat.{ℕ, _<_}
@@ -10,6 +10,8 @@ use Rattle.laws.proofs.Sums.{count-most}
 use Rattle.theory.specs.Net.{Valid, LoadTest, Chained}
 use Rattle.theory.specs.Greedy.{reserved}
 use Rattle.theory.specs.Figure.{figureOne}
+use Rattle.positions.specs.Blocked.{blockedAt}
+use Rattle.positions.proofs.Joins.{is-false}
 use Rattle.site.specs.Record.{positions, size, loadAt}
 use Rattle.site.specs.Reach.{clashIn, netOf}
 use Rattle.site.proofs.Reach.{clash-sym, clash-self}
@@ -47,11 +49,12 @@ valid-is-definition-one s t = (
         apart-any (netOf s) (reserved (positions s) t) v (clash-sym (s .reach)) a c k
         (λ e. true≢false (sym h ∙ ap (clashIn (s .reach) a) (sym e) ∙ clash-self (s .reach) a)) la lc w h p q;
     condition-two = v .exact;
+    condition-three = λ i k l w h. is-false (blockedAt (s .blocked) k) (v .allowed i k l w h);
   },
   λ d. record {
     apart = λ a c k l m w h p q. d .condition-one a c k (omega arith) m w h p q;
     exact = d .condition-two;
-    allowed = λ i k l w h. refl;
+    allowed = λ i k l w h. ap not (d .condition-three i k l w h);
   },
 )
 

@@ -25,7 +25,7 @@ use Rattle.judges.proofs.Meaning.{covers-counted, over-means}
 use Rattle.checker.specs.Check.{checkAnswer}
 use Rattle.checker.specs.Given.{checkGiven}
 use Rattle.promises.specs.Numbers.{done, doneWith, refused}
-use Rattle.promises.specs.Demands.{Accepted, LongEnough, Easier}
+use Rattle.promises.specs.Demands.{Accepted, LongEnough, openPositions, Easier}
 use Rattle.promises.proofs.Numbers.{accepted-number, plan-number, over-number}
 use Rattle.promises.proofs.Demand2.{check-is-valid, load-is-C1, judge-is-chained}
 
@@ -90,9 +90,9 @@ chained-full s ch lent long cell short five any ok =
     omega arith
 
 -- Why it is full: the cell that the load test names, with its lower clashing loaded cells, all clash with one another,
--- and their loads come to more than the positions there are.
+-- and their loads come to more than the open positions there are.
 pub chained-why : (s : Site) → chainGiven (chainAnswer s) ≡ done → (cell m : ℕ) → loadGiven (loadAnswer s) ≡ doneWith (cell ∷ m ∷ [])
-    → (i : ℕ) × (cell ≡ i + 1) × (Mutual (netOf s) (around (netOf s) i)) × (positions s < weight (netOf s) (around (netOf s) i))
+    → (i : ℕ) × (cell ≡ i + 1) × (Mutual (netOf s) (around (netOf s) i)) × (openPositions s < weight (netOf s) (around (netOf s) i))
 chained-why s ch cell m e =
     let c = judge-is-chained s .0 ch in
     let o = over-means s cell m (over-number s cell m e) in

@@ -1,14 +1,16 @@
--- P1 to P12, and sites with spare cells, with the words of W6 and the mended tables of W7, in one theorem: both sides are computed. Assumes nothing.
-use mathlib.Core.Path.{_≡_, refl}
-use mathlib.Core.List.{map}
+-- P1 to P12, and sites with spare cells, with the words of W6, the mended tables of W7 and the blocked positions of W8, in one theorem: the
+-- sites' faults first, and then both sides are computed. Assumes nothing.
+use mathlib.Core.Path.{_≡_, refl, sym, ap₂, _∙_}
+use mathlib.Core.List.{List, _++_, map-append}
 use Rattle.laws.specs.Search.{firstOf}
 use Rattle.laws.specs.Sum.{sum, any}
 use Rattle.laws.specs.Most.{most}
 use Rattle.laws.specs.Part.{part, listOf}
 use Rattle.theory.specs.Greedy.{forbid, marked, fill, unmet, run}
 use Rattle.theory.specs.Verdict.{overloaded, lowestOver, loadVerdict, mostDemand, gap, breaks, breakOf, firstBreak, chainVerdict}
-use Rattle.theory.specs.Verdict.{secondAt, clashesAt, firstAt, lowestClash, wrongIn, lowestWrong, tableVerdict}
+use Rattle.theory.specs.Verdict.{holderAt, barredAt, lowestBarred, secondAt, clashesAt, firstAt, lowestClash, wrongIn, lowestWrong, openVerdict, tableVerdict}
 use Rattle.site.specs.Record.{upTo, sizeOk, rowBad, extraLoad, badRow, faultOf}
+use Rattle.site.specs.declared.Fault.the-variants.{Fine, Size, Blocked}
 use Rattle.site.specs.Reach.{reaches, clashIn}
 use Rattle.planner.specs.Plan.{planAnswer, planTable}
 use Rattle.judges.specs.Judges.{loadAnswer, chainAnswer, leastAnswer}
@@ -23,12 +25,97 @@ use Rattle.wordtable.specs.Forms.{formAnswer, toWords, toBytes}
 use Rattle.mending.specs.Mend.{stand, overlay}
 use Rattle.mending.specs.Changes.{cellChanges, changes}
 use Rattle.mender.specs.Mend.{mendAnswer, mendTable, mendList}
-use Rattle.promises.specs.Desk.{withZeros, deskTable}
+use Rattle.promises.specs.Desk.{withZeros, P1, P1spare, P2, P3, P3spare, P4, P6, P7, alone, spareFirst, pair, noChannels}
+use Rattle.promises.specs.Desk.{P1blocked, P1lighter, P1far, aloneBlocked}
+use Rattle.promises.specs.Desk.{DeskLine, deskRules, deskLeast, deskWords, deskMended, deskBlocked, deskHeaviest, deskTable, Answered}
+use Rattle.promises.proofs.Faults.{usedWords, usedTo, pastIn, faultIn, fault-in}
 
-pub desk-holds : map (λ l. l .asked) deskTable ≡ map (λ l. l .said) deskTable
-unfolding withZeros firstOf sum any most part listOf forbid marked fill unmet run overloaded lowestOver loadVerdict mostDemand gap breaks breakOf
-    firstBreak chainVerdict secondAt clashesAt firstAt lowestClash wrongIn lowestWrong tableVerdict upTo sizeOk rowBad extraLoad badRow faultOf
-    reaches clashIn planAnswer planTable loadAnswer chainAnswer leastAnswer bestOf mutualIn heaviestIn heaviestOf verdictOf checkAnswer wordOf bytesOf
-    planWordsAnswer planWords
-    checkWordsAnswer formAnswer toWords toBytes stand overlay cellChanges changes mendAnswer mendTable mendList
-desk-holds = refl
+-- what is wrong with each site: nothing, or what its line says
+faults : (faultOf P1 ≡ Fine)
+    × (faultOf P1spare ≡ Fine)
+    × (faultOf P2 ≡ Fine)
+    × (faultOf P3 ≡ Fine)
+    × (faultOf P3spare ≡ Fine)
+    × (faultOf P4 ≡ Fine)
+    × (faultOf P6 ≡ Fine)
+    × (faultOf P7 ≡ Fine)
+    × (faultOf (alone 0) ≡ Fine)
+    × (faultOf (alone 1) ≡ Fine)
+    × (faultOf (alone 2) ≡ Fine)
+    × (faultOf spareFirst ≡ Fine)
+    × (faultOf pair ≡ Fine)
+    × (faultOf noChannels ≡ Size)
+    × (faultOf (P1blocked 1) ≡ Fine)
+    × (faultOf (P1lighter 1) ≡ Fine)
+    × (faultOf (P1blocked 10) ≡ Fine)
+    × (faultOf (P1blocked 63) ≡ Fine)
+    × (faultOf aloneBlocked ≡ Fine)
+    × (faultOf (P1blocked 193) ≡ Blocked 6)
+    × (faultOf P1far ≡ Blocked 65)
+unfolding withZeros firstOf upTo sizeOk rowBad extraLoad badRow usedWords usedTo pastIn faultIn
+faults = (
+  fault-in P1,
+  fault-in P1spare,
+  fault-in P2,
+  fault-in P3,
+  fault-in P3spare,
+  fault-in P4,
+  fault-in P6,
+  fault-in P7,
+  fault-in (alone 0),
+  fault-in (alone 1),
+  fault-in (alone 2),
+  fault-in spareFirst,
+  fault-in pair,
+  fault-in noChannels,
+  fault-in (P1blocked 1),
+  fault-in (P1lighter 1),
+  fault-in (P1blocked 10),
+  fault-in (P1blocked 63),
+  fault-in aloneBlocked,
+  fault-in (P1blocked 193),
+  fault-in P1far,
+)
+
+rules : Answered deskRules
+unfolding withZeros firstOf sum any part listOf forbid marked fill unmet run reaches clashIn overloaded lowestOver loadVerdict loadAnswer gap breaks
+    breakOf firstBreak chainVerdict chainAnswer holderAt barredAt lowestBarred secondAt clashesAt firstAt lowestClash wrongIn lowestWrong openVerdict
+    tableVerdict verdictOf checkAnswer planAnswer planTable
+rules = rw (faults .0, faults .1, faults .2, faults .3, faults .4, faults .5, faults .6, faults .7, faults .8, faults .9, faults .10) refl
+
+least : Answered deskLeast
+unfolding withZeros firstOf sum most reaches clashIn gap breaks breakOf firstBreak chainVerdict chainAnswer mostDemand leastAnswer
+least = rw (faults .0, faults .1, faults .2, faults .3, faults .6, faults .7, faults .11) refl
+
+words : Answered deskWords
+unfolding withZeros firstOf sum any part listOf forbid marked fill unmet run reaches clashIn holderAt barredAt lowestBarred secondAt clashesAt firstAt
+    lowestClash wrongIn lowestWrong openVerdict tableVerdict verdictOf wordOf bytesOf planWordsAnswer planWords checkWordsAnswer formAnswer toWords
+    toBytes
+words = rw (faults .0, faults .2) refl
+
+mended : Answered deskMended
+unfolding withZeros firstOf sum any part listOf forbid marked fill unmet run reaches clashIn stand overlay cellChanges changes mendAnswer mendTable
+    mendList
+mended = rw (faults .0, faults .12, faults .5) refl
+
+blocked : Answered deskBlocked
+unfolding withZeros firstOf sum any part listOf forbid marked fill unmet run reaches clashIn overloaded lowestOver loadVerdict loadAnswer gap breaks
+    breakOf firstBreak chainVerdict chainAnswer most mostDemand leastAnswer holderAt barredAt lowestBarred secondAt clashesAt firstAt lowestClash
+    wrongIn lowestWrong openVerdict tableVerdict verdictOf checkAnswer planAnswer planTable wordOf planWordsAnswer planWords checkWordsAnswer stand
+    overlay cellChanges changes mendAnswer mendTable mendList
+blocked = rw (faults .14, faults .15, faults .16, faults .17, faults .18, faults .19, faults .20) refl
+
+heaviest : Answered deskHeaviest
+unfolding withZeros firstOf sum any most listOf reaches clashIn wordOf bestOf mutualIn heaviestIn heaviestOf
+heaviest = rw (faults .0, faults .1, faults .2, faults .3, faults .4, faults .5, faults .6, faults .7, faults .8, faults .10, faults .13) refl
+
+joined : (xs ys : List DeskLine) → Answered xs → Answered ys → Answered (xs ++ ys)
+joined xs ys p q = map-append (λ l. l .asked) xs ys ∙ ap₂ _++_ p q ∙ sym (map-append (λ l. l .said) xs ys)
+
+pub desk-holds : Answered deskTable
+desk-holds =
+    joined deskRules (deskLeast ++ (deskWords ++ (deskMended ++ (deskBlocked ++ deskHeaviest)))) rules
+    (joined deskLeast (deskWords ++ (deskMended ++ (deskBlocked ++ deskHeaviest))) least
+    (joined deskWords (deskMended ++ (deskBlocked ++ deskHeaviest)) words
+    (joined deskMended (deskBlocked ++ deskHeaviest) mended
+    (joined deskBlocked deskHeaviest blocked heaviest))))

@@ -1,5 +1,5 @@
--- The heaviest clash, over what the calls say, in numbers: the cells that are named share no position, so a valid table has a position for each of their
--- fragments. It depends on cells, loads and reach alone, so that it is that of every site with the same. Assumes nothing.
+-- The heaviest clash, over what the calls say, in numbers: the cells that are named share no position, so a valid table has an open position for each of
+-- their fragments. It depends on cells, loads and reach alone, so that it is that of every site with the same. Assumes nothing.
 use mathlib.Core.Path.{_≡_, ap, ap₂, _∙_}
 use mathlib.Core.List.{List, [], _∷_}
 use mathlib.Core.Logic.{_↔_}
@@ -24,7 +24,7 @@ use Rattle.heaviest.proofs.Mutual.{heaviest-is, heaviest-only}
 use Rattle.heaviest.proofs.Meaning.{done-fine, done-is-fine, done-means, done-mutual, done-fits, done-enough, done-chain}
 use Rattle.promises.specs.Numbers.{done, doneWith}
 use Rattle.site.specs.Alike.{Alike}
-use Rattle.promises.specs.Demands.{Accepted, DefinitionOne}
+use Rattle.promises.specs.Demands.{Accepted, DefinitionOne, openPositions}
 use Rattle.promises.proofs.Numbers.{accepted-number, chain-number, least-number, enough-number, heaviest-number}
 use Rattle.promises.proofs.Demand2.{valid-is-definition-one, check-is-valid, planned-checks}
 
@@ -51,7 +51,7 @@ module _ (site : Site) (load cells : ℕ) (e : heaviestGiven (heaviestOf site) �
   heaviest-enough n c = done-enough site load cells (heaviest-number site load cells .0 e) n (enough-number site n .0 c)
 
   module _ (other : Site) (ok : Accepted other) (alike : Alike other site) where
-    -- a site with the same cells, loads and reach has the same answer, whatever its slots and channels
+    -- a site with the same cells, loads and reach has the same answer, whatever its slots, channels and blocked positions
     pub heaviest-alike : heaviestGiven (heaviestOf other) ≡ doneWith (load ∷ cells ∷ [])
     heaviest-alike =
         let h = heaviest-exact site load cells .0 e in
@@ -60,18 +60,18 @@ module _ (site : Site) (load cells : ℕ) (e : heaviestGiven (heaviestOf site) �
         let sum : weight (netOf other) (bitAt cells) ≡ weight (netOf site) (bitAt cells) = rw (alike .same-cells, alike .same-loads) in
         heaviest-exact other load cells .1 (ok, rw is at (heaviest-is (netOf other)), sum ∙ h .2)
 
-    -- every table that meets Definition 1 has at least so many positions
-    pub heaviest-fits : (t : List ℕ) → DefinitionOne other t → load ≤ positions other
+    -- a site with a table that meets Definition 1 has at least so many open positions
+    pub heaviest-fits : (t : List ℕ) → DefinitionOne other t → load ≤ openPositions other
     heaviest-fits t d =
         done-fits other load cells (heaviest-number other load cells .0 heaviest-alike) (reserved (positions other) t) (valid-is-definition-one other t .1 d)
 
-    -- and so has every table that the checker calls valid
-    pub heaviest-checked : (t : List ℕ) → checkGiven (checkAnswer other t) ≡ done → load ≤ positions other
+    -- and so has a site with a table that the checker calls valid
+    pub heaviest-checked : (t : List ℕ) → checkGiven (checkAnswer other t) ≡ done → load ≤ openPositions other
     heaviest-checked t v = heaviest-fits t (valid-is-definition-one other t .0 (check-is-valid other t .0 v .2))
 
-    -- with fewer positions no table is valid, and so none is planned
-    pub heaviest-full : positions other < load → (t : List ℕ) → checkGiven (checkAnswer other t) ≡ done → ⊥
+    -- with fewer open positions no table is valid, and so none is planned
+    pub heaviest-full : openPositions other < load → (t : List ℕ) → checkGiven (checkAnswer other t) ≡ done → ⊥
     heaviest-full few t v = omega (arith, heaviest-checked t v)
 
-    pub heaviest-unplanned : positions other < load → (lent : List ℕ) → planGiven (planAnswer other lent) ≡ done → ⊥
+    pub heaviest-unplanned : openPositions other < load → (lent : List ℕ) → planGiven (planAnswer other lent) ≡ done → ⊥
     heaviest-unplanned few lent p = heaviest-full few (planTable other lent) (planned-checks other lent p)

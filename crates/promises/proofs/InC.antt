@@ -10,7 +10,7 @@ use Prim.Native.Nat.{ℕ}
 use native.Mathlib.Omega.{arith}
 use lib.ListN.{getD}
 use Rattle.site.specs.declared.Site.{Site}
-use Rattle.site.specs.declared.Fault.the-variants.{Fine, Size, Load, Reach}
+use Rattle.site.specs.declared.Fault.the-variants.{Fine, Size, Load, Reach, Blocked}
 use Rattle.judges.specs.Judges.{loadAnswer, chainAnswer, leastAnswer}
 use Rattle.judges.specs.Given.{loadGiven, chainGiven, leastGiven, leastProper}
 use Rattle.judges.specs.declared.LoadAnswer.{LoadAnswer}
@@ -47,6 +47,7 @@ least-told (least.Refused Fine) n k p e = absurd (false≢true p)
 least-told (least.Refused Size) n k p e = let z : _≡_ {A = ℕ} 1 0 = ap numberIn e in absurd (omega arith)
 least-told (least.Refused (Load i)) n k p e = let z : _≡_ {A = ℕ} 2 0 = ap numberIn e in absurd (omega arith)
 least-told (least.Refused (Reach i)) n k p e = let z : _≡_ {A = ℕ} 3 0 = ap numberIn e in absurd (omega arith)
+least-told (least.Refused (Blocked i)) n k p e = let z : _≡_ {A = ℕ} 20 0 = ap numberIn e in absurd (omega arith)
 
 heaviest-told : (a : HeaviestAnswer) (load cells : ℕ) → heaviestProper a ≡ true → told (heaviestGiven a) ≡ numbered 0 load cells 0
     → heaviestGiven a ≡ doneWith (load ∷ cells ∷ [])
@@ -56,6 +57,7 @@ heaviest-told (heaviest.Refused Fine) load cells p e = absurd (false≢true p)
 heaviest-told (heaviest.Refused Size) load cells p e = let z : _≡_ {A = ℕ} 1 0 = ap numberIn e in absurd (omega arith)
 heaviest-told (heaviest.Refused (Load i)) load cells p e = let z : _≡_ {A = ℕ} 2 0 = ap numberIn e in absurd (omega arith)
 heaviest-told (heaviest.Refused (Reach i)) load cells p e = let z : _≡_ {A = ℕ} 3 0 = ap numberIn e in absurd (omega arith)
+heaviest-told (heaviest.Refused (Blocked i)) load cells p e = let z : _≡_ {A = ℕ} 20 0 = ap numberIn e in absurd (omega arith)
 
 module _ (s : Site) where
   load-in-c : (a : LoadAnswer) → loadAnswer s ≡ a → told (loadGiven a) ≡ numbered 0 0 0 0 → loadGiven a ≡ done
@@ -66,6 +68,7 @@ module _ (s : Site) where
   load-in-c (load.Refused Size) q e = let z : _≡_ {A = ℕ} 1 0 = ap numberIn e in absurd (omega arith)
   load-in-c (load.Refused (Load k)) q e = let z : _≡_ {A = ℕ} 2 0 = ap numberIn e in absurd (omega arith)
   load-in-c (load.Refused (Reach k)) q e = let z : _≡_ {A = ℕ} 3 0 = ap numberIn e in absurd (omega arith)
+  load-in-c (load.Refused (Blocked k)) q e = let z : _≡_ {A = ℕ} 20 0 = ap numberIn e in absurd (omega arith)
 
   -- `dugg_load_test` gives 0 and 0, 0, 0 exactly where the load test holds
   pub holds-in-c : told (loadGiven (loadAnswer s)) ≡ numbered 0 0 0 0 ↔ loadGiven (loadAnswer s) ≡ done
@@ -80,6 +83,7 @@ module _ (s : Site) where
   chain-in-c (chain.Refused Size) q e = let z : _≡_ {A = ℕ} 1 0 = ap numberIn e in absurd (omega arith)
   chain-in-c (chain.Refused (Load k)) q e = let z : _≡_ {A = ℕ} 2 0 = ap numberIn e in absurd (omega arith)
   chain-in-c (chain.Refused (Reach k)) q e = let z : _≡_ {A = ℕ} 3 0 = ap numberIn e in absurd (omega arith)
+  chain-in-c (chain.Refused (Blocked k)) q e = let z : _≡_ {A = ℕ} 20 0 = ap numberIn e in absurd (omega arith)
 
   -- `dugg_chain` gives 0 and 0, 0, 0 exactly where the site is chained
   pub chained-in-c : told (chainGiven (chainAnswer s)) ≡ numbered 0 0 0 0 ↔ chainGiven (chainAnswer s) ≡ done

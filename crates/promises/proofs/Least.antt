@@ -1,6 +1,6 @@
--- What the desk may sell: the least number of channel-slots that do, over what the calls say, in the document's numbers.
+-- What the desk may sell: the least number of open channel-slots that do, over what the calls say, in the document's numbers.
 -- The greatest demand depends on cells, loads and reach alone, so that it is that of every site with the same; and the load test, exact on the chain,
--- holds where there are so many channel-slots. Assumes nothing.
+-- holds where so many channel-slots are open. Assumes nothing.
 use mathlib.Core.Path.{_≡_, refl, _∙_}
 use mathlib.Core.List.{List, [], _∷_}
 use mathlib.Core.Logic.{_↔_}
@@ -28,7 +28,7 @@ use Rattle.say_why.proofs.Sizes.{fewest-exact}
 use Rattle.checker.specs.Check.{checkAnswer}
 use Rattle.checker.specs.Given.{checkGiven}
 use Rattle.promises.specs.Numbers.{done, doneWith}
-use Rattle.promises.specs.Demands.{Accepted, LongEnough, Easier}
+use Rattle.promises.specs.Demands.{Accepted, LongEnough, openPositions, Easier}
 use Rattle.promises.proofs.Numbers.{accepted-number, least-number, enough-number}
 use Rattle.promises.proofs.Demand2.{load-is-C1, judge-is-chained}
 use Rattle.promises.proofs.Demand3.{demand-three-calls, chained-exact, holds-plans}
@@ -39,8 +39,8 @@ module _ (other site : Site) (alike : Alike other site) where
   same-chain : Chained (netOf site) (counted site) → Chained (netOf other) (counted other)
   same-chain h = rw (alike .same-cells, alike .same-loads, alike .same-reach) h
 
-  -- the load test of the other holds exactly where it has as many channel-slots as the greatest demand
-  room-test : (n : ℕ) → mostDemand (netOf site) (counted site) ≡ n → Accepted other → n ≤ positions other ↔ loadGiven (loadAnswer other) ≡ done
+  -- the load test of the other holds exactly where it has as many open channel-slots as the greatest demand
+  room-test : (n : ℕ) → mostDemand (netOf site) (counted site) ≡ n → Accepted other → n ≤ openPositions other ↔ loadGiven (loadAnswer other) ≡ done
   room-test n e ok =
       let t = most-demand-test (netOf other) (counted other) in
       let is : mostDemand (netOf other) (counted other) ≡ n = same-demand site other alike ∙ e in
@@ -67,33 +67,35 @@ module _ (site : Site) (n : ℕ) (e : leastGiven (leastAnswer site) ≡ doneWith
   chained-too : chainGiven (chainAnswer other) ≡ done
   chained-too = judge-is-chained other .1 (ok, same-chain other site alike (least-means site n .0 (least-number site n .0 e) .1))
 
-  -- on a chained site: a site with the same cells, loads and reach is planned exactly when its channel-slots are at least that many
-  pub least-exact : (lent : List ℕ) → LongEnough other lent → planGiven (planAnswer other lent) ≡ done ↔ n ≤ positions other
+  -- on a chained site: a site with the same cells, loads and reach is planned exactly when its open channel-slots are at least that many
+  pub least-exact : (lent : List ℕ) → LongEnough other lent → planGiven (planAnswer other lent) ≡ done ↔ n ≤ openPositions other
   least-exact lent long =
       let m = least-means site n .0 (least-number site n .0 e) in
       let t = room-test other site alike n (m .2) ok in
       let x = chained-exact other chained-too lent long in
       (λ h. t .1 (x .1 h), λ h. x .0 (t .0 h))
 
-  -- and so the least slots: with its channels, the slots that it takes
-  pub least-slots : (lent : List ℕ) → LongEnough other lent → planGiven (planAnswer other lent) ≡ done ↔ fewest n (other .channels) ≤ other .slots
-  least-slots lent long =
+  -- and so, where nothing is blocked, the least slots: with its channels, the slots that it takes
+  pub least-slots : openPositions other ≡ positions other → (lent : List ℕ) → LongEnough other lent
+      → planGiven (planAnswer other lent) ≡ done ↔ fewest n (other .channels) ≤ other .slots
+  least-slots all lent long =
       let z = fine-sized other (accepted-number other .0 ok) in
       let f = fewest-exact n (other .channels) (other .slots) (z .channels-some) (z .slots-some) in
       let x = least-exact lent long in
-      (λ h. f .0 (x .0 h), λ h. x .1 (f .1 h))
+      (λ h. f .0 (omega (arith, all, x .0 h)), λ h. x .1 (omega (arith, all, f .1 h)))
 
   -- and the least channels: with its slots, the channels that it takes
-  pub least-channels : (lent : List ℕ) → LongEnough other lent → planGiven (planAnswer other lent) ≡ done ↔ fewest n (other .slots) ≤ other .channels
-  least-channels lent long =
+  pub least-channels : openPositions other ≡ positions other → (lent : List ℕ) → LongEnough other lent
+      → planGiven (planAnswer other lent) ≡ done ↔ fewest n (other .slots) ≤ other .channels
+  least-channels all lent long =
       let z = fine-sized other (accepted-number other .0 ok) in
       let f = fewest-exact n (other .slots) (other .channels) (z .slots-some) (z .channels-some) in
       let x = least-exact lent long in
       let turned : positions other ≡ other .channels * other .slots = mul-comm (other .slots) (other .channels) in
-      (λ h. f .0 (rw turned at (x .0 h)), λ h. x .1 (rw turned (f .1 h)))
+      (λ h. f .0 (omega (arith, all, turned, x .0 h)), λ h. x .1 (omega (arith, all, turned, f .1 h)))
 
   -- with fewer no plan exists: no table at all is valid
-  pub least-full : positions other < n → (any : List ℕ) → checkGiven (checkAnswer other any) ≡ done → ⊥
+  pub least-full : openPositions other < n → (any : List ℕ) → checkGiven (checkAnswer other any) ≡ done → ⊥
   least-full few any v =
       let same : Easier other other = record {
         same-cells = refl;
@@ -109,7 +111,7 @@ module _ (site : Site) (n : ℕ) (e : leastGiven (leastAnswer site) ≡ doneWith
 
 -- so many are enough; on the chain `least-exact` says more
 pub enough-plans : (site : Site) (n : ℕ) → leastGiven (leastAnswer site) ≡ doneWith (n ∷ 1 ∷ []) → (other : Site) → Accepted other → Alike other site
-    → n ≤ positions other
+    → n ≤ openPositions other
     → (lent : List ℕ) → LongEnough other lent → planGiven (planAnswer other lent) ≡ done
 enough-plans site n e other ok alike h lent long =
     let m = enough-means site n .0 (enough-number site n .0 e) in

@@ -1,4 +1,5 @@
 -- The laws of crate `promises`, module by module.
+pub mod Faults
 pub mod Desk
 pub mod Numbers
 pub mod Demand1
@@ -15,6 +16,7 @@ pub mod FlowSheets
 pub mod Admission
 pub mod Words
 pub mod Mending
+pub mod Blocked
 pub mod Said
 pub mod Printed
 pub mod InC

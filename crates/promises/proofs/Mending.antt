@@ -13,7 +13,7 @@ use lib.Seq.{sets}
 use Rattle.laws.specs.Choice.{Rising}
 use Rattle.laws.specs.Sum.{bit, count}
 use Rattle.laws.proofs.Any.{any-eq}
-use Rattle.laws.proofs.Choice.{cases}
+use Rattle.laws.proofs.Choice.{cases, both, both-is}
 use Rattle.laws.proofs.Sums.{sum-eq}
 use Rattle.laws.proofs.Stores.{take-sets}
 use Rattle.theory.specs.Net.{taken, free}
@@ -22,7 +22,7 @@ use Rattle.theory.specs.Named.{Fails}
 use Rattle.theory.proofs.Run.{is-planned}
 use Rattle.theory.proofs.Exact.{chained-class, covers-loaded}
 use Rattle.site.specs.Record.{positions, size, loadAt, faultOf, isFine}
-use Rattle.site.specs.Reach.{netOf}
+use Rattle.site.specs.Reach.{isOpen, netOf}
 use Rattle.site.specs.declared.Site.{Site}
 use Rattle.site.specs.declared.Fault.{Fault}
 use Rattle.site.specs.Given.{faultGiven}
@@ -195,18 +195,18 @@ module _ (s : Site) (u l : List ℕ) where
     pub list-said : allSaid u (mendTable s u l) (s .slots) (s .channels) (s .cells) ≡ changesSaid (s .channels) (take (4 * n) (mendList s u l))
     list-said = said-all u (mendTable s u l) (s .slots) (s .channels) (s .cells) ∙ sym (ap (changesSaid (s .channels)) listed-are)
 
-    -- ---- Least harm: a reservation of a cell is dropped only where an earlier clashing cell stands or the load is met
+    -- ---- Least harm: a reservation of a cell on an open position is dropped only where an earlier clashing cell stands or the load is met
 
     taken-same : (i k : ℕ) → i < s .cells → k < positions s → taken (netOf s) (reserved (positions s) (d .stands)) i k ≡ taken (netOf s) is i k
     taken-same i k h w =
         any-eq (λ j. netOf s .clash j i && reserved (positions s) (d .stands) j k) (λ j. netOf s .clash j i && is j k) i
         (λ j m. ap (λ b. netOf s .clash j i && b) (now-is j k (omega arith) w))
 
-    pub dropped-why : (i k : ℕ) → i < s .cells → k < positions s
+    pub dropped-why : (i k : ℕ) → i < s .cells → k < positions s → isOpen (s .blocked) k ≡ true
         → reserved (positions s) u i k ≡ true → reserved (positions s) (mendTable s u l) i k ≡ false
         → (taken (netOf s) (reserved (positions s) (mendTable s u l)) i k ≡ true)
         ⊎ (loadAt s i ≤ count (λ q. reserved (positions s) u i q && reserved (positions s) (mendTable s u l) i q) k)
-    dropped-why i k h w o c =
+    dropped-why i k h w a o c =
         ⊎-elim
         (λ y. inl (sym (taken-same i k h w) ∙ y))
         (λ y.
@@ -216,24 +216,30 @@ module _ (s : Site) (u l : List ℕ) where
           sum-eq (λ q. bit (was i q && reserved (positions s) (d .stands) i q)) (λ q. bit (was i q && is i q)) k
               (λ q m. ap (λ b. bit (was i q && b)) (now-is i q h (omega arith))),
         )))
-        (rule.dropped-why (netOf s) u (d .stands) (d .mends) i k h w refl o (now-is i k h w ∙ c))
+        (rule.dropped-why (netOf s) u (d .stands) (d .mends) i k h w a o (now-is i k h w ∙ c))
 
-    -- ---- "then add the lowest free positions": an added one is free, every lower free one is the cell's too, and nothing that it may keep is dropped
+    -- ---- "then add the lowest free positions": an added one is open and free, every lower one is the cell's too, and nothing that it may keep is dropped
 
-    free-same : (i k : ℕ) → i < s .cells → k < positions s → taken (netOf s) is i k ≡ false → free (netOf s) (reserved (positions s) (d .stands)) i k ≡ true
-    free-same i k h w y = ap not (taken-same i k h w ∙ y)
+    free-same : (i k : ℕ) → i < s .cells → k < positions s → isOpen (s .blocked) k ≡ true → taken (netOf s) is i k ≡ false
+        → free (netOf s) (reserved (positions s) (d .stands)) i k ≡ true
+    free-same i k h w a y =
+        both-is (isOpen (s .blocked) k) (not (taken (netOf s) (reserved (positions s) (d .stands)) i k)) a (ap not (taken-same i k h w ∙ y))
 
     pub added-why : (i k : ℕ) → i < s .cells → k < positions s
         → reserved (positions s) u i k ≡ false → reserved (positions s) (mendTable s u l) i k ≡ true
-        → (taken (netOf s) (reserved (positions s) (mendTable s u l)) i k ≡ false)
-        × ((q : ℕ) → q < k → taken (netOf s) (reserved (positions s) (mendTable s u l)) i q ≡ false → reserved (positions s) (mendTable s u l) i q ≡ true)
-        × ((q : ℕ) → q < positions s → taken (netOf s) (reserved (positions s) (mendTable s u l)) i q ≡ false
+        → (isOpen (s .blocked) k ≡ true)
+        × (taken (netOf s) (reserved (positions s) (mendTable s u l)) i k ≡ false)
+        × ((q : ℕ) → q < k → isOpen (s .blocked) q ≡ true → taken (netOf s) (reserved (positions s) (mendTable s u l)) i q ≡ false
+        → reserved (positions s) (mendTable s u l) i q ≡ true)
+        × ((q : ℕ) → q < positions s → isOpen (s .blocked) q ≡ true → taken (netOf s) (reserved (positions s) (mendTable s u l)) i q ≡ false
         → reserved (positions s) u i q ≡ true → reserved (positions s) (mendTable s u l) i q ≡ true)
     added-why i k h w o c =
-        let r = rule.added-why (netOf s) u (d .stands) (d .mends) i k h w o (now-is i k h w ∙ c) in (
-          sym (taken-same i k h w) ∙ no-more (taken (netOf s) (reserved (positions s) (d .stands)) i k) (r .0),
-          λ q m y. sym (now-is i q h (omega arith)) ∙ r .1 q m (free-same i q h (omega arith) y),
-          λ q m y z. sym (now-is i q h m) ∙ r .2 q m (free-same i q h m y) z,
+        let r = rule.added-why (netOf s) u (d .stands) (d .mends) i k h w o (now-is i k h w ∙ c) in
+        let f = both (isOpen (s .blocked) k) (not (taken (netOf s) (reserved (positions s) (d .stands)) i k)) (r .0) in (
+          f .0,
+          sym (taken-same i k h w) ∙ no-more (taken (netOf s) (reserved (positions s) (d .stands)) i k) (f .1),
+          λ q m a y. sym (now-is i q h (omega arith)) ∙ r .1 q m (free-same i q h (omega arith) a y),
+          λ q m a y z. sym (now-is i q h m) ∙ r .2 q m (free-same i q h m a y) z,
         )
 
   -- no change is said of a valid table alone: what the desk is told as `valid as it is`

@@ -4,7 +4,7 @@ use mathlib.Core.Path.{_≡_}
 use mathlib.Core.List.{List, [], _∷_}
 use Prim.Native.Nat.{ℕ, _+_}
 use Rattle.theory.specs.Greedy.{reserved, row}
-use Rattle.theory.specs.Named.{FirstOver, FirstBreaks, FirstClash, FirstWrong, Fails}
+use Rattle.theory.specs.Named.{FirstOver, FirstBreaks, FirstBarred, FirstClash, FirstWrong, Fails}
 use Rattle.site.specs.Record.{positions}
 use Rattle.site.specs.Reach.{netOf}
 use Rattle.site.specs.declared.Site.{Site}
@@ -16,9 +16,9 @@ use Rattle.judges.specs.Given.{loadGiven, chainGiven}
 use Rattle.judges.proofs.Meaning.{over-means, broken-means}
 use Rattle.checker.specs.Check.{checkAnswer}
 use Rattle.checker.specs.Given.{checkGiven}
-use Rattle.checker.proofs.Meaning.{clash-means, count-means}
+use Rattle.checker.proofs.Meaning.{blocked-means, clash-means, count-means}
 use Rattle.promises.specs.Numbers.{doneWith, refused}
-use Rattle.promises.proofs.Numbers.{no-room-number, over-number, broken-number, clash-number, count-number}
+use Rattle.promises.proofs.Numbers.{no-room-number, over-number, broken-number, blocked-number, clash-number, count-number}
 
 -- "If not, it names the lowest cell that is over and by how much."
 pub over-names : (s : Site) (cell m : ℕ) → loadGiven (loadAnswer s) ≡ doneWith (cell ∷ m ∷ []) → (i : ℕ) × (cell ≡ i + 1) × FirstOver (netOf s) (counted s) i m
@@ -33,6 +33,11 @@ triple-names s a b c e = broken-means s a b c (broken-number s a b c e) .1
 pub five-names : (s : Site) (t : List ℕ) (cell short : ℕ) → planGiven (planAnswer s t) ≡ refused 5 (cell ∷ short ∷ [])
     → (k : ℕ) × (cell ≡ k + 1) × Fails (netOf s) (row (netOf s)) (s .cells) k short
 five-names s t cell short e = short-means s t cell short (no-room-number s t cell short e)
+
+-- W8, 22, "reservation on a blocked position": "lowest position, then cell"
+pub twenty-two-names : (s : Site) (t : List ℕ) (p cell : ℕ) → checkGiven (checkAnswer s t) ≡ refused 22 (p ∷ cell ∷ [])
+    → (i : ℕ) × (cell ≡ i + 1) × FirstBarred (netOf s) (reserved (positions s) t) p i
+twenty-two-names s t p cell e = blocked-means s t p cell (blocked-number s t p cell e)
 
 -- 6, "clash in a table": "lowest position; there the pair with the lowest first cell, then second"
 pub six-names : (s : Site) (t : List ℕ) (p a c : ℕ) → checkGiven (checkAnswer s t) ≡ refused 6 (p ∷ a ∷ c ∷ [])

@@ -48,6 +48,9 @@ run-number (noRoom c m) = refl
 pub check-number : (s : Site) (t : List ℕ) → checkGiven (checkAnswer s t) ≡ done ↔ checkAnswer s t ≡ checker.Valid
 check-number s t = (check-apart (checkAnswer s t) checker.Valid (check-proper s t) refl, ap checkGiven)
 
+pub blocked-number : (s : Site) (t : List ℕ) (p c : ℕ) → checkGiven (checkAnswer s t) ≡ refused 22 (p ∷ c ∷ []) → checkAnswer s t ≡ checker.Blocked p c
+blocked-number s t p c = check-apart (checkAnswer s t) (checker.Blocked p c) (check-proper s t) refl
+
 pub clash-number : (s : Site) (t : List ℕ) (p a c : ℕ) → checkGiven (checkAnswer s t) ≡ refused 6 (p ∷ a ∷ c ∷ []) → checkAnswer s t ≡ checker.Clash p a c
 clash-number s t p a c = check-apart (checkAnswer s t) (checker.Clash p a c) (check-proper s t) refl
 

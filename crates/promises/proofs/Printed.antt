@@ -21,7 +21,7 @@ use Rattle.site.specs.Record.{positions}
 use Rattle.site.specs.Reach.{netOf}
 use Rattle.site.specs.declared.Site.{Site}
 use Rattle.site.specs.declared.Fault.{Fault}
-use Rattle.site.specs.declared.Fault.the-variants.{Fine, Size, Load, Reach}
+use Rattle.site.specs.declared.Fault.the-variants.{Fine, Size, Load, Reach, Blocked}
 use Rattle.checker.specs.Check.{checkAnswer}
 use Rattle.checker.specs.Given.{checkGiven}
 use Rattle.checker.specs.declared.CheckAnswer.{CheckAnswer}
@@ -42,8 +42,8 @@ use Rattle.say_refusals.specs.declared.Place.the-variants as place
 use Rattle.say_refusals.specs.Sentences.{sentence}
 use Rattle.say_refusals.specs.declared.Sentence.{Sentence}
 use Rattle.say_refusals.specs.declared.Sentence.the-variants.{Refusal}
-use Rattle.say_verdicts.specs.Lines.{verdictLines, unchangedRow, mendedRow}
-use Rattle.say_verdicts.specs.Said.{line, reachNamed, waySentence, clashSentence, changesSentence, faultSaid, checkSaid, planSaid, mendSaid}
+use Rattle.say_verdicts.specs.Lines.{verdictLines, unchangedRow, mendedRow, blockedRow}
+use Rattle.say_verdicts.specs.Said.{line, reachNamed, waySentence, blockedSentence, clashSentence, changesSentence, faultSaid, checkSaid, planSaid, mendSaid}
 use Rattle.say_verdicts.specs.Said.{validLine, plannedLine, unchangedLine, mendedLine}
 use Rattle.promises.specs.Numbers.{done}
 use Rattle.promises.specs.Demands.{Accepted, LongEnough}
@@ -72,12 +72,14 @@ refused-r n (place.PlanByte k) = refl
 refused-r n (place.Line k) = refl
 refused-r n (place.Cell k) = refl
 refused-r n (place.Flow k) = refl
+refused-r n (place.Position k) = refl
 
 fault-r : (f : Fault) → refusing (faultSaid f) ≡ true
 fault-r Fine = refl
 fault-r Size = refused-r 1 place.Nowhere
 fault-r (Load k) = refused-r 2 (place.Cell k)
 fault-r (Reach k) = refused-r 3 (place.Cell k)
+fault-r (Blocked k) = refused-r 20 (place.Position k)
 
 chosen-r : (t : Bool) (x y : Sentence) → refusing (sentence verdictLines x) ≡ true → refusing (sentence verdictLines y) ≡ true
     → refusing (sentence verdictLines (pick t x y)) ≡ true
@@ -99,12 +101,19 @@ clash-r s p a c =
     chosen-r (ltb 0 (s .channels) && ltb p 65536) (waySentence (reachNamed s a c) (reachNamed s c a) a c slot channel) (Refusal 6 place.Nowhere)
     (way-r (reachNamed s a c) (reachNamed s c a) a c slot channel) (refused-r 6 place.Nowhere)
 
+blocked-r : (s : Site) (p c : ℕ) → refusing (checkSaid s (check.Blocked p c)) ≡ true
+unfolding blockedSentence verdictLines spoken
+blocked-r s p c =
+    chosen-r (ltb 0 (s .channels) && ltb p 65536) (line blockedRow c (p / s .channels + 1) (p % s .channels + 1) 0) (Refusal 22 place.Nowhere)
+    refl (refused-r 22 place.Nowhere)
+
 -- ---- from the words back to the answer
 
 valid-only : (s : Site) (a : CheckAnswer) → checkSaid s a ≡ validLine → a ≡ check.Valid
 unfolding verdictLines spoken
 valid-only s check.Valid e = refl
 valid-only s check.TableShort e = absurd (apart _ _ e (refused-r 4 place.Nowhere) refl)
+valid-only s (check.Blocked p c) e = absurd (apart _ _ e (blocked-r s p c) refl)
 valid-only s (check.Clash p a c) e = absurd (apart _ _ e (clash-r s p a c) refl)
 valid-only s (check.Count i n) e = absurd (apart _ _ e refl refl)
 valid-only s (check.Refused f) e = absurd (apart _ _ e (fault-r f) refl)

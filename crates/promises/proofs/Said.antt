@@ -13,7 +13,7 @@ use Rattle.site.specs.Record.{positions, isFine, faultOf}
 use Rattle.site.specs.Means.{UpTo}
 use Rattle.site.specs.declared.Site.{Site}
 use Rattle.site.specs.declared.Fault.{Fault}
-use Rattle.site.specs.declared.Fault.the-variants.{Fine, Size, Load, Reach}
+use Rattle.site.specs.declared.Fault.the-variants.{Fine, Size, Load, Reach, Blocked}
 use Rattle.site.proofs.Faults.{fine-sized}
 use Rattle.checker.specs.Check.{checkAnswer}
 use Rattle.checker.specs.declared.CheckAnswer.{CheckAnswer}
@@ -27,6 +27,7 @@ accepted Fine o i n e = refl
 accepted Size o i n e = let z : _≡_ {A = ℕ} 0 1 = cc in absurd (omega arith)
 accepted (Load k) o i n e = let z : _≡_ {A = ℕ} 0 1 = cc in absurd (omega arith)
 accepted (Reach k) o i n e = let z : _≡_ {A = ℕ} 0 1 = cc in absurd (omega arith)
+accepted (Blocked k) o i n e = let z : _≡_ {A = ℕ} 0 1 = cc in absurd (omega arith)
 
 -- `cell i sends n times in a superframe, and its load is l`: a cell of the site, its own count and its own load, which differ
 pub record CountSaid (s : Site) (t : List ℕ) (i n l : ℕ) : Type 0 where

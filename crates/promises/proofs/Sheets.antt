@@ -20,20 +20,20 @@ use Rattle.site.specs.Means.{UpTo}
 use Rattle.site.specs.Given.{Given, faultGiven}
 use Rattle.site.specs.declared.Site.{Site}
 use Rattle.site.specs.declared.Fault.{Fault}
-use Rattle.site.specs.declared.Fault.the-variants.{Fine, Size, Load, Reach}
+use Rattle.site.specs.declared.Fault.the-variants.{Fine, Size, Load, Reach, Blocked}
 use Rattle.site.proofs.Given.{fault-apart}
 use Rattle.site.specs.Held.{Held}
 use Rattle.sheet.specs.Sheet.{sheetBytes}
 use Rattle.sheet.specs.Read.{judged, readSheet}
 use Rattle.sheet.specs.Write.{sheetWritten, sheetOut}
-use Rattle.sheet.specs.Means.{FirstBadOfSheet, SheetOf, sheetFault, MarksItself, markPlace}
+use Rattle.sheet.specs.Means.{BlockedHeld, FirstBadOfSheet, SheetOf, sheetFault, MarksItself, BlockedPast, markPlace}
 use Rattle.sheet.specs.Given.{sheetGiven}
 use Rattle.sheet.specs.declared.SheetRead.{SheetRead}
 use Rattle.sheet.specs.declared.SheetAnswer.the-variants as read
 use Rattle.sheet.proofs.Given.{sheet-apart, sheet-proper}
 use Rattle.sheet.proofs.Trip.{fine-fits, written-then-read}
 use Rattle.sheet.proofs.Answers.{bad-first, first-told, no-bad-line, sheet-read, refused-zeros, accepted-is, sheet-accepted}
-use Rattle.sheet.proofs.Answers.{fault-is, fault-one, fault-three, marks-reach}
+use Rattle.sheet.proofs.Answers.{fault-is, fault-one, fault-three, fault-twenty, marks-reach}
 use Rattle.promises.specs.Numbers.{done, doneWith, refused}
 use Rattle.promises.specs.Demands.{Accepted}
 use Rattle.promises.specs.Leaves.{WriterLeaves}
@@ -53,8 +53,9 @@ module _ (s : Site) (out : List ℕ) where
   fault-first Size q n = rw q
   fault-first (Load k) q n = rw q
   fault-first (Reach k) q n = rw q
+  fault-first (Blocked k) q n = rw q
 
-  -- a record that is not accepted is refused with its fault, 1, 2 or 3
+  -- a record that is not accepted is refused with its fault, 1, 2, 3 or 20
   pub sheet-written-fault : (Accepted s → ⊥) → writtenGiven (sheetWritten s out) ≡ faultGiven (faultOf s)
   sheet-written-fault n = fault-first (faultOf s) refl (λ e. n (accepted-number s .1 e))
 
@@ -74,31 +75,31 @@ written-fine s out e = wrote-fine (faultOf s) (leb (length (sheetBytes s)) (leng
 
 -- ---- the round trips
 
--- "Reading a written sheet gives the site": `read_sheet` of what `write_sheet` wrote, with the site's slots and channels
+-- "Reading a written sheet gives the site": `read_sheet` of what `write_sheet` wrote, with the site's slots, channels and blocked positions
 pub sheet-written-read : (s : Site) → Held s → (out : List ℕ) (n : ℕ) → writtenGiven (sheetWritten s out) ≡ doneWith (n ∷ [])
-    → let back = readSheet (take n (sheetOut s out)) (s .slots) (s .channels) in (sheetGiven (back .answer) ≡ done) × (back .site ≡ s)
+    → let back = readSheet (take n (sheetOut s out)) (s .slots) (s .channels) (s .blocked) in (sheetGiven (back .answer) ≡ done) × (back .site ≡ s)
 sheet-written-read s held out n e =
     let zero : writtenGiven (sheetWritten s out) .number ≡ 0 = ap (λ (g : Given). g .number) e in
     let w = sheet-write-leaves s out .if-done zero in
     let m : length (sheetBytes s) ∷ [] ≡ n ∷ [] = sym (w .0) ∙ ap (λ (g : Given). g .values) e in
     let count : length (sheetBytes s) ≡ n = cc in
     let file : take n (sheetOut s out) ≡ sheetBytes s = rw (w .1) (take-at (sheetBytes s) (drop (length (sheetBytes s)) out) n count) in
-    let is : readSheet (take n (sheetOut s out)) (s .slots) (s .channels) ≡ record { site = s; answer = read.Done } =
-    ap (λ (b : List ℕ). readSheet b (s .slots) (s .channels)) file
+    let is : readSheet (take n (sheetOut s out)) (s .slots) (s .channels) (s .blocked) ≡ record { site = s; answer = read.Done } =
+    ap (λ (b : List ℕ). readSheet b (s .slots) (s .channels) (s .blocked)) file
     ∙ written-then-read s (fine-fits s held (written-fine s out zero)) (written-fine s out zero) in
     (ap (λ (r : SheetRead). sheetGiven (r .answer)) is, ap (λ (r : SheetRead). r .site) is)
 
-module _ (b : List ℕ) (slots channels : ℕ) where
-  was-done : sheetGiven (readSheet b slots channels .answer) ≡ done → readSheet b slots channels .answer ≡ read.Done
-  was-done e = sheet-apart (readSheet b slots channels .answer) read.Done (sheet-proper b slots channels) refl e
+module _ (b : List ℕ) (slots channels : ℕ) (blocked : List ℕ) (words : BlockedHeld blocked) where
+  was-done : sheetGiven (readSheet b slots channels blocked .answer) ≡ done → readSheet b slots channels blocked .answer ≡ read.Done
+  was-done e = sheet-apart (readSheet b slots channels blocked .answer) read.Done (sheet-proper b slots channels blocked) refl e
 
   -- "an accepted sheet written again is the same bytes": `write_sheet` of what `read_sheet` read
-  pub sheet-read-written : sheetGiven (readSheet b slots channels .answer) ≡ done → (out : List ℕ) → length b ≤ length out
-      → (writtenGiven (sheetWritten (readSheet b slots channels .site) out) ≡ doneWith (length b ∷ []))
-      × (sheetOut (readSheet b slots channels .site) out ≡ b ++ drop (length b) out)
+  pub sheet-read-written : sheetGiven (readSheet b slots channels blocked .answer) ≡ done → (out : List ℕ) → length b ≤ length out
+      → (writtenGiven (sheetWritten (readSheet b slots channels blocked .site) out) ≡ doneWith (length b ∷ []))
+      × (sheetOut (readSheet b slots channels blocked .site) out ≡ b ++ drop (length b) out)
   unfolding sheetWritten sheetOut written laidOver
   sheet-read-written ok out fits =
-      let w = accepted-is b slots channels (was-done ok) in
+      let w = accepted-is b slots channels blocked words (was-done ok) in
       let room = le-leb (length b) (length out) fits in
       (rw (w .1, w .0 .bytes, room), rw (w .1, w .0 .bytes, room))
 
@@ -106,26 +107,29 @@ module _ (b : List ℕ) (slots channels : ℕ) where
 
   -- exactly the sheets of the format are accepted, each as the site whose sheet it is
   pub sheet-exactly : (s : Site)
-      → ((sheetGiven (readSheet b slots channels .answer) ≡ done) × (readSheet b slots channels .site ≡ s)) ↔ (SheetOf b slots channels s × Accepted s)
+      → ((sheetGiven (readSheet b slots channels blocked .answer) ≡ done) × (readSheet b slots channels blocked .site ≡ s))
+      ↔ (SheetOf b slots channels blocked s × Accepted s)
   sheet-exactly s = (
     λ w.
-        let a = accepted-is b slots channels (was-done (w .0)) in
+        let a = accepted-is b slots channels blocked words (was-done (w .0)) in
         rw (← w .1) (a .0, accepted-number _ .1 (a .1)),
     λ w.
-        let is = sheet-accepted b slots channels s (w .0) (accepted-number s .0 (w .1)) in
+        let is = sheet-accepted b slots channels blocked words s (w .0) (accepted-number s .0 (w .1)) in
         (ap (λ (r : SheetRead). sheetGiven (r .answer)) is, ap (λ (r : SheetRead). r .site) is),
   )
 
   -- "17, sheet malformed, with its first bad line (from 1; missing and extra lines count)"
-  pub seventeen : (l : ℕ) → sheetGiven (readSheet b slots channels .answer) ≡ refused 17 (l ∷ []) ↔ FirstBadOfSheet b l
+  pub seventeen : (l : ℕ) → sheetGiven (readSheet b slots channels blocked .answer) ≡ refused 17 (l ∷ []) ↔ FirstBadOfSheet b l
   seventeen l = (
-    λ e. bad-first b slots channels l (sheet-apart (readSheet b slots channels .answer) (read.BadLine l) (sheet-proper b slots channels) refl e),
-    λ f. ap sheetGiven (first-told b slots channels l f),
+    λ e.
+        let is = sheet-apart (readSheet b slots channels blocked .answer) (read.BadLine l) (sheet-proper b slots channels blocked) refl e in
+        bad-first b slots channels blocked words l is,
+    λ f. ap sheetGiven (first-told b slots channels blocked words l f),
   )
 
   -- bytes with no bad line are the sheet of a record
-  pub sheet-or-bad : ((l : ℕ) → FirstBadOfSheet b l → ⊥) → (s : Site) × SheetOf b slots channels s
-  sheet-or-bad none = no-bad-line b slots channels none
+  pub sheet-or-bad : ((l : ℕ) → FirstBadOfSheet b l → ⊥) → (s : Site) × SheetOf b slots channels blocked s
+  sheet-or-bad none = no-bad-line b slots channels blocked words none
 
   judged-number : (s : Site) (f : Fault) → faultOf s ≡ f → sheetGiven (judged s .answer) ≡ faultGiven f
   unfolding judged
@@ -133,36 +137,44 @@ module _ (b : List ℕ) (slots channels : ℕ) where
   judged-number s Size q = rw q
   judged-number s (Load k) q = rw q
   judged-number s (Reach k) q = rw q
+  judged-number s (Blocked k) q = rw q
 
-  module _ (s : Site) (w : SheetOf b slots channels s) where
+  module _ (s : Site) (w : SheetOf b slots channels blocked s) where
     -- and reading the sheet of a record, fine or not, is judging the record
-    pub sheet-judges : sheetGiven (readSheet b slots channels .answer) ≡ faultGiven (faultOf s)
-    sheet-judges = ap (λ (r : SheetRead). sheetGiven (r .answer)) (sheet-read b slots channels s w) ∙ judged-number s (faultOf s) refl
+    pub sheet-judges : sheetGiven (readSheet b slots channels blocked .answer) ≡ faultGiven (faultOf s)
+    sheet-judges = ap (λ (r : SheetRead). sheetGiven (r .answer)) (sheet-read b slots channels blocked words s w) ∙ judged-number s (faultOf s) refl
 
-    fault-told : (f : Fault) → sheetGiven (readSheet b slots channels .answer) ≡ faultGiven f ↔ faultOf s ≡ f
+    fault-told : (f : Fault) → sheetGiven (readSheet b slots channels blocked .answer) ≡ faultGiven f ↔ faultOf s ≡ f
     fault-told f = (λ e. fault-apart (faultOf s) f (sym sheet-judges ∙ e), λ q. sheet-judges ∙ ap faultGiven q)
 
     -- "after it 1, then 3 for a mark on oneself": in one line
-    pub after-seventeen : sheetGiven (readSheet b slots channels .answer) ≡ faultGiven (sheetFault s)
+    pub after-seventeen : sheetGiven (readSheet b slots channels blocked .answer) ≡ faultGiven (sheetFault s)
     after-seventeen = sheet-judges ∙ ap faultGiven (fault-is s (w .fits))
 
     -- 1 exactly where the slots or the channels given are out of range
-    pub sheet-one : sheetGiven (readSheet b slots channels .answer) ≡ refused 1 [] ↔ ((UpTo 128 slots × UpTo 16 channels) → ⊥)
+    pub sheet-one : sheetGiven (readSheet b slots channels blocked .answer) ≡ refused 1 [] ↔ ((UpTo 128 slots × UpTo 16 channels) → ⊥)
     sheet-one =
         let f = fault-told Size in
         let m = fault-one s (w .fits) in
         (λ e u. m .0 (f .0 e) (rw (w .slots-are, w .channels-are) u), λ n. f .1 (m .1 (λ u. n (rw (← w .slots-are, ← w .channels-are) u))))
 
     -- and else 3 exactly where a cell marks itself, with the lowest one
-    pub sheet-three : (k : ℕ) → sheetGiven (readSheet b slots channels .answer) ≡ refused 3 ((k + 1) ∷ []) ↔ MarksItself s k
+    pub sheet-three : (k : ℕ) → sheetGiven (readSheet b slots channels blocked .answer) ≡ refused 3 ((k + 1) ∷ []) ↔ MarksItself s k
     sheet-three k =
         let f = fault-told (Reach (k + 1)) in
         let m = fault-three s (w .fits) k in
         (λ e. m .0 (f .0 e), λ n. f .1 (m .1 n))
 
+    -- W8, and else 20 exactly where a position past the site's is blocked, with the lowest one
+    pub sheet-twenty : (k : ℕ) → sheetGiven (readSheet b slots channels blocked .answer) ≡ refused 20 (k ∷ []) ↔ BlockedPast s k
+    sheet-twenty k =
+        let f = fault-told (Blocked k) in
+        let m = fault-twenty s (w .fits) k in
+        (λ e. m .0 (f .0 e), λ n. f .1 (m .1 n))
+
   -- "each gives a site of zeros"
-  pub sheet-refused-zeros : (sheetGiven (readSheet b slots channels .answer) ≡ done → ⊥) → readSheet b slots channels .site ≡ zeroSite
-  sheet-refused-zeros n = refused-zeros b slots channels (λ e. n (ap sheetGiven e))
+  pub sheet-refused-zeros : (sheetGiven (readSheet b slots channels blocked .answer) ≡ done → ⊥) → readSheet b slots channels blocked .site ≡ zeroSite
+  sheet-refused-zeros n = refused-zeros b slots channels blocked words (λ e. n (ap sheetGiven e))
 
 -- `1` where it reaches and `0` where not: the byte of the written sheet at the mark of b in the line of a is the digit 1 exactly where a reaches b
 pub mark-means : (s : Site) (a b : ℕ) → a < s .cells → b < s .cells → getD (sheetBytes s) (markPlace s a b) 0 ≡ 49 ↔ reaches (s .reach) a b ≡ true

@@ -64,7 +64,7 @@ module _ (p : ℕ) (s t : Site) (put : SpareIn p s t) where
   put-in = record {
     place = put .place;
     one-more = put .one-more;
-    same-room = net-open t ∙ rw (put .same-slots, put .same-channels) (sym (net-open s));
+    same-room = net-open t ∙ rw (put .same-slots, put .same-channels, put .same-blocked) (sym (net-open s));
     no-load = put .no-load;
     same-load = loads;
     same-clash = clash;

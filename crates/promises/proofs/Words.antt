@@ -21,7 +21,7 @@ use Rattle.site.specs.Reach.{netOf}
 use Rattle.site.specs.Given.{faultGiven}
 use Rattle.site.specs.declared.Site.{Site}
 use Rattle.site.specs.declared.Fault.{Fault}
-use Rattle.site.specs.declared.Fault.the-variants.{Fine, Size, Load, Reach}
+use Rattle.site.specs.declared.Fault.the-variants.{Fine, Size, Load, Reach, Blocked}
 use Rattle.words.specs.Words.{wordAt, wordsOf, outWords}
 use Rattle.planner.specs.Plan.{planAnswer, planTable}
 use Rattle.planner.specs.Given.{planGiven}
@@ -112,7 +112,7 @@ above-silent s one other e same = (ap checkGiven (check-above s one other e same
 
 -- ---- refusals
 
--- a record that is not accepted is refused with its fault, 1, 2 or 3, by all four, whatever is lent, and nothing is written
+-- a record that is not accepted is refused with its fault, 1, 2, 3 or 20, by all four, whatever is lent, and nothing is written
 pub words-fault : (s : Site) (words table : List ℕ) (f : Fault) → faultOf s ≡ f → (f ≡ Fine → ⊥)
     → (planGiven (planWordsAnswer s words) ≡ faultGiven f) × (checkGiven (checkWordsAnswer s words) ≡ faultGiven f)
     × (formGiven (formAnswer s table words) ≡ faultGiven f)
@@ -122,6 +122,7 @@ words-fault s words table Fine e at-fault = absurd (at-fault refl)
 words-fault s words table Size e at-fault = (rw e, rw e, rw e, rw e, rw e, rw e)
 words-fault s words table (Load k) e at-fault = (rw e, rw e, rw e, rw e, rw e, rw e)
 words-fault s words table (Reach k) e at-fault = (rw e, rw e, rw e, rw e, rw e, rw e)
+words-fault s words table (Blocked k) e at-fault = (rw e, rw e, rw e, rw e, rw e, rw e)
 
 -- "Refusal 4 is given when fewer than N words are lent", by all four, and nothing is written
 pub words-four : (s : Site) (words table : List ℕ) → Accepted s → length words < positions s
@@ -157,6 +158,7 @@ past Fine false front lent n e = drop-at front (drop n lent) n e
 past Size short front lent n e = refl
 past (Load k) short front lent n e = refl
 past (Reach k) short front lent n e = refl
+past (Blocked k) short front lent n e = refl
 
 -- "words past N are never written", and bytes past IN neither: for every record, and whatever is lent
 pub past-untouched : (s : Site) (words table : List ℕ)
@@ -190,6 +192,7 @@ form-left n Fine false front lent e = record { if-done = λ _. drop-at front (dr
 form-left n Size short front lent e = record { if-done = λ _. refl; if-refused = λ _. refl }
 form-left n (Load k) short front lent e = record { if-done = λ _. refl; if-refused = λ _. refl }
 form-left n (Reach k) short front lent e = record { if-done = λ _. refl; if-refused = λ _. refl }
+form-left n (Blocked k) short front lent e = record { if-done = λ _. refl; if-refused = λ _. refl }
 
 -- the changes of form: no refusal writes
 pub forms-leave : (s : Site) (words table : List ℕ)
@@ -212,15 +215,16 @@ was-enough Fine false o e = refl
 was-enough Size short o e = let z : _≡_ {A = ℕ} 0 1 = cc in absurd (omega arith)
 was-enough (Load k) short o e = let z : _≡_ {A = ℕ} 0 1 = cc in absurd (omega arith)
 was-enough (Reach k) short o e = let z : _≡_ {A = ℕ} 0 1 = cc in absurd (omega arith)
+was-enough (Blocked k) short o e = let z : _≡_ {A = ℕ} 0 1 = cc in absurd (omega arith)
 
-valid-enough : (s : Site) (words : List ℕ) → checkGiven (checkWordsAnswer s words) ≡ done → WordsEnough s words
+pub valid-enough : (s : Site) (words : List ℕ) → checkGiven (checkWordsAnswer s words) ≡ done → WordsEnough s words
 unfolding checkWordsAnswer
 valid-enough s words ok =
     ltb-false (length words) (positions s) (was-enough (faultOf s) (ltb (length words) (positions s)) _
     (check-apart (checkWordsAnswer s words) check.Valid (check-words-proper s words) refl ok))
 
 -- a table of bytes that is long enough
-room-for : (s : Site) → LongEnough s (replicate (size s) 0)
+pub room-for : (s : Site) → LongEnough s (replicate (size s) 0)
 room-for s = le-of-eq (sym (length-replicate (size s) 0))
 
 -- "Demand 3 is then inherited": the word checker says "valid" of some words for the first site, and the word planner is done for the second

@@ -1,7 +1,8 @@
--- The words of demands 2 and 3, over site records and tables. A site is accepted when its record has none of the faults 1, 2 and 3, and a table is valid by the
--- paper's Definition 1, whatever the checker says of it; that the checker says the same is a theorem. Cells and positions are counted from 0.
+-- The words of demands 2 and 3, over site records and tables. A site is accepted when its record has none of the faults 1, 2, 3 and 20,
+-- and a table is valid by the paper's Definition 1, whatever the checker says of it; that the checker says the same is a theorem.
+-- Cells and positions are counted from 0.
 use mathlib.Core.Path.{_≡_}
-use mathlib.Core.Bool.{true}
+use mathlib.Core.Bool.{true, false}
 use mathlib.Core.List.{List}
 use Prim.Native.Nat.{ℕ, _+_, _≤_, _<_}
 use lib.ListN.{length}
@@ -9,13 +10,14 @@ use Rattle.laws.specs.Choice.{pick}
 use Rattle.laws.specs.Sum.{count, sum}
 use Rattle.theory.specs.Greedy.{Outcome, reserved}
 use Rattle.theory.specs.Figure.{figureOne}
+use Rattle.positions.specs.Blocked.{blockedAt, openIn}
 use Rattle.site.specs.Record.{positions, loadAt, faultOf, size}
 use Rattle.site.specs.Reach.{clashOf, netOf}
 use Rattle.site.specs.Given.{faultGiven}
 use Rattle.site.specs.declared.Site.{Site}
 use Rattle.promises.specs.Numbers.{done}
 
--- "accepted": the record's fault is number 0, none; any other is 1, 2 or 3, and every call that takes the record refuses it with that
+-- "accepted": the record's fault is number 0, none; any other is 1, 2, 3 or 20, and every call that takes the record refuses it with that
 abbrev pub Accepted : Site → Type 0
 Accepted s = faultGiven (faultOf s) ≡ done
 
@@ -28,16 +30,21 @@ abbrev pub WordsEnough : Site → List ℕ → Type 0
 WordsEnough s words = positions s ≤ length words
 
 -- Definition 1 (Valid Schedule) of 000, word for word over a site and its table. Condition 1: where a cell transmits, no cell that it clashes with does,
--- whichever is the lower. Condition 2: each cell transmits as often as its load says.
+-- whichever is the lower. Condition 2: each cell transmits as often as its load says. W8: "a valid table reserves none of them", the blocked positions.
 pub record DefinitionOne (s : Site) (t : List ℕ) : Type 0 where
   pub condition-one : (a c k : ℕ) → a < s .cells → c < s .cells → k < positions s → clashOf s a c ≡ true
       → reserved (positions s) t a k ≡ true → reserved (positions s) t c k ≡ true → ⊥
   pub condition-two : (i : ℕ) → i < s .cells → count (reserved (positions s) t i) (positions s) ≡ loadAt s i
+  pub condition-three : (i k : ℕ) → i < s .cells → k < positions s → reserved (positions s) t i k ≡ true → blockedAt (s .blocked) k ≡ false
+
+-- W8: "N in the load test becomes the count of open positions; so does `channel-slots in all` in demand 3"
+abbrev pub openPositions : Site → ℕ
+openPositions s = openIn (s .blocked) (positions s)
 
 -- two accepted sites with the same cells, the second with at least as many channel-slots in all, no greater load in any cell, no clash the first lacks
 pub record Easier (second first : Site) : Type 0 where
   pub same-cells : second .cells ≡ first .cells
-  pub as-many-channel-slots : positions first ≤ positions second
+  pub as-many-channel-slots : openPositions first ≤ openPositions second
   pub no-greater-load : (i : ℕ) → i < second .cells → loadAt second i ≤ loadAt first i
   pub no-new-clash : (a c : ℕ) → a < second .cells → c < second .cells → clashOf second a c ≡ true → clashOf first a c ≡ true
 
@@ -49,7 +56,7 @@ ChainedSite s =
 
 -- "for each cell, its load plus the loads of its lower-numbered clashing cells is at most N (000, claim C1)." W2: "the load test skips cells with load 0".
 abbrev pub ClaimOne : Site → Type 0
-ClaimOne s = (i : ℕ) → i < s .cells → 0 < loadAt s i → loadAt s i + sum (λ j. pick (clashOf s j i) (loadAt s j) 0) i ≤ positions s
+ClaimOne s = (i : ℕ) → i < s .cells → 0 < loadAt s i → loadAt s i + sum (λ j. pick (clashOf s j i) (loadAt s j) 0) i ≤ openPositions s
 
 -- the paper's greedy schedule (000, Figure 1) of a site: a table, or the cell that finds no room. Its lines stand in theory/specs/Figure.antt.
 abbrev pub greedySchedule : Site → Outcome

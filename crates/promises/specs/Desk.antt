@@ -1,7 +1,8 @@
 -- The desk examples P1 to P12 of document 01, and sites with a spare cell for W2, as site records, and what each is said to come to, in numbers; for W6 words,
--- for W7 mended tables. "Loads are listed by cell. .. where no file gives the reach, the lower cell reaches the higher. Where only N is given, T=N and F=1."
--- Proved in proofs/Desk.antt, in one theorem.
-use mathlib.Core.List.{List, [], _∷_, _++_}
+-- for W7 mended tables, for W8 sites with blocked positions. "Loads are listed by cell. .. where no file gives the reach, the lower cell reaches the higher.
+-- Where only N is given, T=N and F=1." Proved in proofs/Desk.antt, in one theorem.
+use mathlib.Core.List.{List, [], _∷_, _++_, map}
+use mathlib.Core.Path.{_≡_}
 use Prim.Native.Nat.{ℕ, zero, suc, _+_}
 use lib.ListN.{length, replicate}
 use Rattle.site.specs.Record.{siteOf, positions, size}
@@ -29,9 +30,14 @@ withZeros n [] = replicate n 0
 withZeros zero (x ∷ xs) = x ∷ xs
 withZeros (suc n) (x ∷ xs) = x ∷ withZeros n xs
 
--- slots, channels, the loads, and the reach rows as numbers: bit b-1 of row a-1 where a reaches b
+-- slots, channels, the loads, the reach rows as numbers, bit b-1 of row a-1 where a reaches b, and the words of the blocked positions
+abbrev pub siteBlocked : ℕ → ℕ → List ℕ → List ℕ → List ℕ → Site
+siteBlocked slots channels loads reach blocked =
+    siteOf (length loads) slots channels (withZeros 32 loads) (withZeros 32 reach) (withZeros 32 blocked)
+
+-- the same with nothing blocked
 abbrev pub siteWith : ℕ → ℕ → List ℕ → List ℕ → Site
-siteWith slots channels loads reach = siteOf (length loads) slots channels (withZeros 32 loads) (withZeros 32 reach)
+siteWith slots channels loads reach = siteBlocked slots channels loads reach []
 
 abbrev pub P1 : Site
 P1 = siteWith 3 2 (5 ∷ 1 ∷ 4 ∷ []) (0 ∷ 5 ∷ [])
@@ -67,9 +73,28 @@ P7 = siteWith 2 1 (1 ∷ 0 ∷ 1 ∷ 1 ∷ 1 ∷ []) (8 ∷ 4 ∷ 16 ∷ 16 ∷ 
 abbrev pub alone : ℕ → Site
 alone load = siteWith 1 1 (load ∷ []) []
 
+-- no site: one cell, and no channel
+abbrev pub noChannels : Site
+noChannels = siteWith 1 0 (2 ∷ []) []
+
 -- two cells that clash, N = 2, a fragment each
 abbrev pub pair : Site
 pair = siteWith 2 1 (1 ∷ 1 ∷ []) (2 ∷ [])
+
+-- W8: P1 with these positions blocked, the first word of the set; and the same with one fragment less in cell 1
+abbrev pub P1blocked : ℕ → Site
+P1blocked word = siteBlocked 3 2 (5 ∷ 1 ∷ 4 ∷ []) (0 ∷ 5 ∷ []) (word ∷ [])
+
+abbrev pub P1lighter : ℕ → Site
+P1lighter word = siteBlocked 3 2 (4 ∷ 1 ∷ 4 ∷ []) (0 ∷ 5 ∷ []) (word ∷ [])
+
+-- P1 with position 65 blocked, bit 1 of the second word
+abbrev pub P1far : Site
+P1far = siteBlocked 3 2 (5 ∷ 1 ∷ 4 ∷ []) (0 ∷ 5 ∷ []) (0 ∷ 2 ∷ [])
+
+-- one cell without load, and its one position blocked
+abbrev pub aloneBlocked : Site
+aloneBlocked = siteBlocked 1 1 (0 ∷ []) [] (1 ∷ [])
 
 -- what a call gives back, and what it leaves in the table or the words; for the mender also in the list
 pub data Reply : Type 0 where
@@ -132,8 +157,9 @@ infix 70 _⇒_
 abbrev pub _⇒_ : Reply → Reply → DeskLine
 a ⇒ b = record { asked = a; said = b }
 
-abbrev pub deskTable : List DeskLine
-deskTable =
+-- P1 to P12, and W2's sites with a spare cell
+abbrev pub deskRules : List DeskLine
+deskRules =
     -- P1: rows 111110, 222221, 111102; chain yes, load holds
     planCall P1 ⇒ leaves done (1 ∷ 1 ∷ 1 ∷ 1 ∷ 1 ∷ 0 ∷ 2 ∷ 2 ∷ 2 ∷ 2 ∷ 2 ∷ 1 ∷ 1 ∷ 1 ∷ 1 ∷ 1 ∷ 0 ∷ 2 ∷ 9 ∷ [])
     ∷ chainCall P1 ⇒ gives done
@@ -177,9 +203,14 @@ deskTable =
     ∷ planCall (alone 0) ⇒ leaves done (0 ∷ 9 ∷ [])
     ∷ planCall (alone 1) ⇒ leaves done (1 ∷ 9 ∷ [])
     ∷ planCall (alone 2) ⇒ leaves (refused 5 (1 ∷ 1 ∷ [])) (allIdle (alone 2))
+    ∷ []
+
+-- how many channel-slots do, and a spare cell once more
+abbrev pub deskLeast : List DeskLine
+deskLeast =
     -- how many channel-slots do: P1 has 6 and needs them all, its spare cell asks nothing; P2 needs 7;
     -- 3 are enough for P3, which is not chained, and it is planned with 2
-    ∷ leastCall P1 ⇒ gives (doneWith (6 ∷ 0 ∷ []))
+    leastCall P1 ⇒ gives (doneWith (6 ∷ 0 ∷ []))
     ∷ leastCall P1spare ⇒ gives (doneWith (6 ∷ 0 ∷ []))
     ∷ leastCall P2 ⇒ gives (doneWith (7 ∷ 0 ∷ []))
     ∷ leastCall P3 ⇒ gives (doneWith (3 ∷ 1 ∷ []))
@@ -188,8 +219,13 @@ deskTable =
     ∷ leastCall P7 ⇒ gives (doneWith (3 ∷ 1 ∷ []))
     -- W2, a spare as a: cells 1 and 3 clash and 2 clashes with neither, but cell 1 has load 0: chained.
     ∷ chainCall spareFirst ⇒ gives done
+    ∷ []
+
+-- W6: the second table form
+abbrev pub deskWords : List DeskLine
+deskWords =
     -- W6, P1 as words: cells 1 and 3 at positions 0 to 3, cell 1 alone at 4, cell 2 at 5
-    ∷ planWordsCall P1 ⇒ leaves done (5 ∷ 5 ∷ 5 ∷ 5 ∷ 1 ∷ 2 ∷ 9 ∷ [])
+    planWordsCall P1 ⇒ leaves done (5 ∷ 5 ∷ 5 ∷ 5 ∷ 1 ∷ 2 ∷ 9 ∷ [])
     ∷ checkWordsCall P1 (5 ∷ 5 ∷ 5 ∷ 5 ∷ 1 ∷ 2 ∷ []) ⇒ gives done
     -- P8 and P9 as words: the checker's refusals, 7 with cell 3 and count 5, 6 with position 5, cells 2 and 3; bits above the third cell change nothing
     ∷ checkWordsCall P1 (5 ∷ 5 ∷ 5 ∷ 5 ∷ 5 ∷ 2 ∷ []) ⇒ gives (refused 7 (3 ∷ 5 ∷ []))
@@ -199,8 +235,13 @@ deskTable =
     ∷ toBytesCall P1 (5 ∷ 5 ∷ 13 ∷ 5 ∷ 1 ∷ 2 ∷ []) ⇒ leaves done (1 ∷ 1 ∷ 1 ∷ 1 ∷ 1 ∷ 0 ∷ 0 ∷ 0 ∷ 0 ∷ 0 ∷ 0 ∷ 1 ∷ 1 ∷ 1 ∷ 1 ∷ 1 ∷ 0 ∷ 0 ∷ 9 ∷ [])
     -- P2 as words: refusal 5, cell 2, short 1, and N words of 0
     ∷ planWordsCall P2 ⇒ leaves (refused 5 (2 ∷ 1 ∷ [])) (0 ∷ 0 ∷ 0 ∷ 0 ∷ 0 ∷ 0 ∷ 9 ∷ [])
+    ∷ []
+
+-- W7: mended tables
+abbrev pub deskMended : List DeskLine
+deskMended =
     -- W7, P9's table: cell 3 gives position 5 up and takes 0; a list with room for one change only is refused with the number of both
-    ∷ mendCall P1 (1 ∷ 1 ∷ 1 ∷ 1 ∷ 1 ∷ 0 ∷ 0 ∷ 0 ∷ 0 ∷ 0 ∷ 0 ∷ 1 ∷ 0 ∷ 0 ∷ 1 ∷ 1 ∷ 1 ∷ 1 ∷ []) 9
+    mendCall P1 (1 ∷ 1 ∷ 1 ∷ 1 ∷ 1 ∷ 0 ∷ 0 ∷ 0 ∷ 0 ∷ 0 ∷ 0 ∷ 1 ∷ 0 ∷ 0 ∷ 1 ∷ 1 ∷ 1 ∷ 1 ∷ []) 9
     ⇒ mends (doneWith (2 ∷ [])) (1 ∷ 1 ∷ 1 ∷ 1 ∷ 1 ∷ 0 ∷ 0 ∷ 0 ∷ 0 ∷ 0 ∷ 0 ∷ 1 ∷ 1 ∷ 0 ∷ 1 ∷ 1 ∷ 1 ∷ 0 ∷ []) (3 ∷ 0 ∷ 0 ∷ 1 ∷ 3 ∷ 5 ∷ 1 ∷ 0 ∷ 9 ∷ [])
     ∷ mendCall P1 (1 ∷ 1 ∷ 1 ∷ 1 ∷ 1 ∷ 0 ∷ 0 ∷ 0 ∷ 0 ∷ 0 ∷ 0 ∷ 1 ∷ 0 ∷ 0 ∷ 1 ∷ 1 ∷ 1 ∷ 1 ∷ []) 7
     ⇒ mends (refused 13 (2 ∷ [])) (1 ∷ 1 ∷ 1 ∷ 1 ∷ 1 ∷ 0 ∷ 0 ∷ 0 ∷ 0 ∷ 0 ∷ 0 ∷ 1 ∷ 0 ∷ 0 ∷ 1 ∷ 1 ∷ 1 ∷ 1 ∷ []) (9 ∷ 9 ∷ 9 ∷ 9 ∷ 9 ∷ 9 ∷ 9 ∷ [])
@@ -208,8 +249,48 @@ deskTable =
     ∷ mendCall pair (0 ∷ 0 ∷ 1 ∷ 0 ∷ []) 12 ⇒ mends (doneWith (3 ∷ [])) (1 ∷ 0 ∷ 0 ∷ 1 ∷ []) (1 ∷ 0 ∷ 0 ∷ 1 ∷ 2 ∷ 0 ∷ 1 ∷ 0 ∷ 2 ∷ 1 ∷ 0 ∷ 1 ∷ [])
     -- P4's idle table: refusal 5, cell 4, short 1, and nothing is written
     ∷ mendCall P4 (0 ∷ 0 ∷ 0 ∷ 0 ∷ 0 ∷ 0 ∷ 0 ∷ 0 ∷ []) 4 ⇒ mends (refused 5 (4 ∷ 1 ∷ [])) (0 ∷ 0 ∷ 0 ∷ 0 ∷ 0 ∷ 0 ∷ 0 ∷ 0 ∷ []) (9 ∷ 9 ∷ 9 ∷ 9 ∷ [])
+    ∷ []
+
+-- W8: blocked positions
+abbrev pub deskBlocked : List DeskLine
+deskBlocked =
+    -- W8, P1 with position 0 blocked: positions 1 to 5 are open, and cell 1 takes them all, 011111. Cell 2 clashes with it: 1 to 5 are forbidden and 0 is
+    -- blocked, so refusal 5, cell 2, short 1. The load test: 5 for cell 1, 1 + 5 for cell 2, which is over the 5 open positions by 1, 4 + 1 for cell 3. Still
+    -- chained, and still in need of 6 open positions
+    planCall (P1blocked 1) ⇒ leaves (refused 5 (2 ∷ 1 ∷ [])) (allIdle P1)
+    ∷ loadCall (P1blocked 1) ⇒ gives (doneWith (2 ∷ 1 ∷ []))
+    ∷ chainCall (P1blocked 1) ⇒ gives done
+    ∷ leastCall (P1blocked 1) ⇒ gives (doneWith (6 ∷ 0 ∷ []))
+    -- P1's own plan there: cells 1 and 3 stand on position 0, and cell 1 is the lower; nor can it be mended: cell 1 gives 0 up and takes 5 from cell 2
+    ∷ checkCall (P1blocked 1) (1 ∷ 1 ∷ 1 ∷ 1 ∷ 1 ∷ 0 ∷ 2 ∷ 2 ∷ 2 ∷ 2 ∷ 2 ∷ 1 ∷ 1 ∷ 1 ∷ 1 ∷ 1 ∷ 0 ∷ 2 ∷ []) ⇒ gives (refused 22 (0 ∷ 1 ∷ []))
+    ∷ mendCall (P1blocked 1) (1 ∷ 1 ∷ 1 ∷ 1 ∷ 1 ∷ 0 ∷ 0 ∷ 0 ∷ 0 ∷ 0 ∷ 0 ∷ 1 ∷ 1 ∷ 1 ∷ 1 ∷ 1 ∷ 0 ∷ 0 ∷ []) 3
+    ⇒ mends (refused 5 (2 ∷ 1 ∷ [])) (1 ∷ 1 ∷ 1 ∷ 1 ∷ 1 ∷ 0 ∷ 0 ∷ 0 ∷ 0 ∷ 0 ∷ 0 ∷ 1 ∷ 1 ∷ 1 ∷ 1 ∷ 1 ∷ 0 ∷ 0 ∷ []) (9 ∷ 9 ∷ 9 ∷ [])
+    -- and with load 4 in cell 1: planned 011110, 022221, 011112; a blocked position is 0 and never 2. 4, 1 + 4 and 4 + 1 are within the 5 open positions
+    ∷ planCall (P1lighter 1) ⇒ leaves done (0 ∷ 1 ∷ 1 ∷ 1 ∷ 1 ∷ 0 ∷ 0 ∷ 2 ∷ 2 ∷ 2 ∷ 2 ∷ 1 ∷ 0 ∷ 1 ∷ 1 ∷ 1 ∷ 1 ∷ 2 ∷ 9 ∷ [])
+    ∷ loadCall (P1lighter 1) ⇒ gives done
+    ∷ checkCall (P1lighter 1) (0 ∷ 1 ∷ 1 ∷ 1 ∷ 1 ∷ 0 ∷ 0 ∷ 2 ∷ 2 ∷ 2 ∷ 2 ∷ 1 ∷ 0 ∷ 1 ∷ 1 ∷ 1 ∷ 1 ∷ 2 ∷ []) ⇒ gives done
+    ∷ planWordsCall (P1lighter 1) ⇒ leaves done (0 ∷ 5 ∷ 5 ∷ 5 ∷ 5 ∷ 2 ∷ 9 ∷ [])
+    -- a table for P1lighter with nothing blocked, 111100, 000001, 111100: cells 1 and 3 give position 0 up and take 4
+    ∷ mendCall (P1lighter 1) (1 ∷ 1 ∷ 1 ∷ 1 ∷ 0 ∷ 0 ∷ 0 ∷ 0 ∷ 0 ∷ 0 ∷ 0 ∷ 1 ∷ 1 ∷ 1 ∷ 1 ∷ 1 ∷ 0 ∷ 0 ∷ []) 17
+    ⇒ mends (doneWith (4 ∷ [])) (0 ∷ 1 ∷ 1 ∷ 1 ∷ 1 ∷ 0 ∷ 0 ∷ 0 ∷ 0 ∷ 0 ∷ 0 ∷ 1 ∷ 0 ∷ 1 ∷ 1 ∷ 1 ∷ 1 ∷ 0 ∷ [])
+    (1 ∷ 0 ∷ 1 ∷ 0 ∷ 1 ∷ 4 ∷ 0 ∷ 1 ∷ 3 ∷ 0 ∷ 1 ∷ 0 ∷ 3 ∷ 4 ∷ 0 ∷ 1 ∷ 9 ∷ [])
+    -- positions 1 and 3 blocked, 10 as a word: cells 1 and 2 clash at 0, cell 1 stands on 3 and cell 3 on 1. 22 comes before 6, and by position before cell
+    ∷ checkCall (P1blocked 10) (1 ∷ 0 ∷ 0 ∷ 1 ∷ 0 ∷ 0 ∷ 1 ∷ 0 ∷ 0 ∷ 0 ∷ 0 ∷ 0 ∷ 0 ∷ 1 ∷ 0 ∷ 0 ∷ 0 ∷ 0 ∷ []) ⇒ gives (refused 22 (1 ∷ 3 ∷ []))
+    ∷ checkWordsCall (P1blocked 10) (3 ∷ 4 ∷ 0 ∷ 1 ∷ 0 ∷ 0 ∷ []) ⇒ gives (refused 22 (1 ∷ 3 ∷ []))
+    -- all six positions blocked, 63 as a word: accepted, and cell 1 finds no room for any of its 5 fragments; with load 0 nothing is asked
+    ∷ planCall (P1blocked 63) ⇒ leaves (refused 5 (1 ∷ 5 ∷ [])) (allIdle P1)
+    ∷ loadCall (P1blocked 63) ⇒ gives (doneWith (1 ∷ 5 ∷ []))
+    ∷ planCall aloneBlocked ⇒ leaves done (0 ∷ 9 ∷ [])
+    -- position 6, which P1 does not have, blocked: refusal 20 with the lowest such, whatever is blocked besides, and nothing is written
+    ∷ planCall (P1blocked 193) ⇒ leaves (refused 20 (6 ∷ [])) (nines P1)
+    ∷ planCall P1far ⇒ leaves (refused 20 (65 ∷ [])) (nines P1)
+    ∷ []
+
+-- the heaviest clash
+abbrev pub deskHeaviest : List DeskLine
+deskHeaviest =
     -- the heaviest clash. P1: cells 1 and 2, 5 + 1, and not 2 and 3, 1 + 4; the spare fourth cell changes nothing. P2: 5 + 2, more than its 6 positions
-    ∷ heaviestCall P1 ⇒ gives (doneWith (6 ∷ 3 ∷ []))
+    heaviestCall P1 ⇒ gives (doneWith (6 ∷ 3 ∷ []))
     ∷ heaviestCall P1spare ⇒ gives (doneWith (6 ∷ 3 ∷ []))
     ∷ heaviestCall P2 ⇒ gives (doneWith (7 ∷ 3 ∷ []))
     -- P3: cells 1 and 3, 5 as a word, and not 2 and 3, 6; with loads 2, 1, 0 cell 1 alone, and not with the spare cell 3, which clashes with it
@@ -222,5 +303,13 @@ deskTable =
     -- nothing is loaded; one cell; a site without channels is refused
     ∷ heaviestCall (alone 0) ⇒ gives (doneWith (0 ∷ 0 ∷ []))
     ∷ heaviestCall (alone 2) ⇒ gives (doneWith (2 ∷ 1 ∷ []))
-    ∷ heaviestCall (siteWith 1 0 (2 ∷ []) []) ⇒ gives (refused 1 [])
+    ∷ heaviestCall noChannels ⇒ gives (refused 1 [])
     ∷ []
+
+-- all of them: one table
+abbrev pub deskTable : List DeskLine
+deskTable = deskRules ++ (deskLeast ++ (deskWords ++ (deskMended ++ (deskBlocked ++ deskHeaviest))))
+
+-- what is asked is answered as the table says, line by line
+abbrev pub Answered : List DeskLine → Type 0
+Answered lines = map (λ l. l .asked) lines ≡ map (λ l. l .said) lines

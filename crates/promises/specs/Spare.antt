@@ -24,6 +24,7 @@ pub record SpareIn (p : ℕ) (s t : Site) : Type 0 where
   pub one-more : t .cells ≡ s .cells + 1
   pub same-slots : t .slots ≡ s .slots
   pub same-channels : t .channels ≡ s .channels
+  pub same-blocked : t .blocked ≡ s .blocked
   pub no-load : loadAt t p ≡ 0
   pub same-load : (cell : ℕ) → UpTo (s .cells) cell → loadAt t (moved p cell - 1) ≡ loadAt s (cell - 1)
   pub same-reach : (from to : ℕ) → UpTo (s .cells) from → UpTo (s .cells) to → Reaches t (moved p from) (moved p to) ↔ Reaches s from to

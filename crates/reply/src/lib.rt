@@ -55,6 +55,12 @@ pub fn no(text: &[u8], end: usize) {
     put(STATUS, b"1", 1);
 }
 
+// Used wrongly, and the text that says how.
+pub fn wrong(text: &[u8], end: usize) {
+    message(text, end);
+    put(STATUS, b"2", 1);
+}
+
 // A result that could not be written whole is none.
 pub fn unwritten() {
     no(b"duggfrask: the result could not be written\n", 43);

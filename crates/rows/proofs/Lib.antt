@@ -1,3 +1,4 @@
 -- The laws of crate `rows`, module by module.
 pub mod Fill
 pub mod Forbid
+pub mod Bars

@@ -2,7 +2,7 @@
 ghost use mathlib.Core.Path.{_≡_};
 ghost use mathlib.Core.Bool.{_&&_};
 ghost use mathlib.Core.List.{_++_};
-ghost use Prim.Native.Nat.{_+_, _*_, _≤_, _<_};
+ghost use Prim.Native.Nat.{_+_, _*_, _%_, _≤_, _<_};
 ghost use lib.Dec.{eqb};
 ghost use lib.ListN.{length, getD, take, drop, replicate};
 ghost use Rattle.laws.specs.Choice.{pick};
@@ -10,6 +10,7 @@ ghost use Rattle.laws.specs.Sum.{bit, count};
 ghost use Rattle.laws.specs.Part.{part, put};
 ghost use Rattle.theory.specs.Net.{unblocked};
 ghost use Rattle.theory.specs.Greedy.{sends, forbid, fill, unmet};
+ghost use Rattle.rows.specs.Bars.{lifted};
 
 // 1 for an idle byte, and 0 for any other: whether a fragment may be placed there.
 fn idle(byte: u8) -> u8
@@ -137,5 +138,31 @@ pub fn clear(bytes: &mut [u8])
 {
     for p in 0..bytes.len() {
         bytes[p] = 0;
+    }
+}
+
+// Lays a mask over a row: it becomes the mask's first bytes.
+pub fn lay_mask(row: &mut [u8], mask: &[u8])
+    requires { ⌜ length (now row) ≤ length (now mask) ⌝ }
+    ensures { λ _. ⌜ now (row .exit) ≡ take (length (now (row .entry))) (now (mask .entry)) ⌝ }
+{
+    for p in 0..row.len() {
+        row[p] = mask[p];
+    }
+}
+
+// A byte without its bar.
+fn lower(byte: u8) -> u8
+    ensures { λ r. ⌜ r ≡ byte % 4 ⌝ }
+{
+    byte % 4
+}
+
+// Makes the barred positions of a row idle again.
+pub fn lift(row: &mut [u8])
+    ensures { λ _. ⌜ now (row .exit) ≡ lifted (now (row .entry)) ⌝ }
+{
+    for p in 0..row.len() {
+        row[p] = lower(row[p]);
     }
 }

@@ -5,30 +5,33 @@ use Rattle.text.specs.Decimal.{digitsOf, decimal}
 use Rattle.speech.specs.Speech.{bytes, spoken}
 use Rattle.say_refusals.specs.Lines.{refusalMeanings, refusalHeads}
 use Rattle.say_refusals.specs.Said.{meaning, refusedLine}
-use Rattle.say_refusals.specs.declared.Place.the-variants.{Nowhere, Byte, PlanByte, Line, Cell, Flow}
+use Rattle.say_refusals.specs.declared.Place.the-variants.{Nowhere, Byte, PlanByte, Line, Cell, Flow, Position}
 
 -- of a record, a flow's cell and a table
 records-said :
-    refusedLine 1 Nowhere ∷ refusedLine 2 (Cell 5) ∷ refusedLine 2 (Flow 7) ∷ refusedLine 3 (Cell 4) ∷ refusedLine 4 Nowhere ∷ []
+    refusedLine 1 Nowhere ∷ refusedLine 2 (Cell 5) ∷ refusedLine 2 (Flow 7) ∷ refusedLine 3 (Cell 4) ∷ refusedLine 4 Nowhere
+    ∷ refusedLine 20 (Position 6) ∷ []
     ≡ bytes "refused 1: the size is out of range: a site has 1 to 32 cells, 1 to 128 slots and 1 to 16 channels\n"
     ∷ bytes "refused 2, cell 5: a load or a flow is for a cell that the site does not have\n"
     ∷ bytes "refused 2, flow 7: a load or a flow is for a cell that the site does not have\n"
     ∷ bytes "refused 3, cell 4: the reach has a cell that reaches itself, or a cell that the site does not have\n"
-    ∷ bytes "refused 4: the table is too short\n" ∷ []
+    ∷ bytes "refused 4: the table is too short\n"
+    ∷ bytes "refused 20, position 6: a blocked position is one that the site does not have: its slots and channels end before it\n" ∷ []
 unfolding refusalMeanings refusalHeads meaning refusedLine spoken decimal digitsOf
 records-said = refl
 
 -- of a site file and of a plan file
 files-said :
     refusedLine 8 (Byte 20) ∷ refusedLine 9 (PlanByte 10) ∷ refusedLine 10 (Byte 0) ∷ refusedLine 11 (Byte 18) ∷ refusedLine 12 (PlanByte 28)
-    ∷ refusedLine 13 Nowhere ∷ refusedLine 14 (PlanByte 10) ∷ []
+    ∷ refusedLine 13 Nowhere ∷ refusedLine 14 (PlanByte 10) ∷ refusedLine 21 (Byte 28) ∷ []
     ≡ bytes "refused 8, byte 20 of the site file: the file ends too early: inside a record, or before one that has to be there\n"
     ∷ bytes "refused 9, byte 10 of the plan file: a record of another kind has to stand there\n"
     ∷ bytes "refused 10, byte 0 of the site file: the length of a record is not the one that belongs to it\n"
     ∷ bytes "refused 11, byte 18 of the site file: the reach pairs are out of order, or one stands twice\n"
     ∷ bytes "refused 12, byte 28 of the plan file: the file goes on after its last record\n"
     ∷ bytes "refused 13: the lent output is too short\n"
-    ∷ bytes "refused 14, byte 10 of the plan file: a bit past the last position of the last cell is set\n" ∷ []
+    ∷ bytes "refused 14, byte 10 of the plan file: a bit past the last position is set\n"
+    ∷ bytes "refused 21, byte 28 of the site file: the record of blocked positions blocks none\n" ∷ []
 unfolding refusalMeanings refusalHeads meaning refusedLine spoken decimal digitsOf
 files-said = refl
 

@@ -3,8 +3,8 @@ use Prim.Native.Nat.{ℕ}
 use Prim.Native.String.{String}
 use mathlib.Core.List.{List, [], _∷_}
 
--- what it means, in the words of docs/NUMBERS.md: the row is the number. Row 0 is said of any number that has no row; 5, 6 and 7 come with more than a place,
--- and crate `say_verdicts` has their text
+-- what it means, in the words of docs/NUMBERS.md: the row is the number. Row 0 is said of any number that has no row; 5, 6,
+-- 7 and 22 come with more than a place, and crate `say_verdicts` has their text
 unfoldable pub refusalMeanings : List String
 refusalMeanings =
     "the call was refused\n"
@@ -21,12 +21,15 @@ refusalMeanings =
     ∷ "the reach pairs are out of order, or one stands twice\n"
     ∷ "the file goes on after its last record\n"
     ∷ "the lent output is too short\n"
-    ∷ "a bit past the last position of the last cell is set\n"
+    ∷ "a bit past the last position is set\n"
     ∷ "the burst or the period of a flow is not 1 to 65,535, or its repeats are not 1 to 4\n"
     ∷ "the flow needs a share above 65,535 fragments in a superframe, its repeats counted\n"
     ∷ "the sheet is malformed: a line is not as the format asks, or is missing, or is one too many\n"
     ∷ "more than 16 flows ask to be admitted\n"
     ∷ "the site is not chained when all its cells count, the spare ones too\n"
+    ∷ "a blocked position is one that the site does not have: its slots and channels end before it\n"
+    ∷ "the record of blocked positions blocks none\n"
+    ∷ "the call was refused\n"
     ∷ []
 
 -- the number, and the place
@@ -38,6 +41,7 @@ refusalHeads =
     ∷ "refused @1, line @2: "
     ∷ "refused @1, cell @2: "
     ∷ "refused @1, flow @2: "
+    ∷ "refused @1, position @2: "
     ∷ []
 
 -- ---- the rows of the places by name
@@ -59,3 +63,6 @@ atCellRow = 4
 
 abbrev pub flowRow : ℕ
 flowRow = 5
+
+abbrev pub positionRow : ℕ
+positionRow = 6

@@ -7,9 +7,9 @@ use Rattle.laws.specs.Choice.{pick}
 use Rattle.phrases.specs.Phrases.{phrase}
 use Rattle.phrases.specs.declared.Phrase.{Phrase}
 use Rattle.phrases.specs.declared.Phrase.the-variants.{Row}
-use Rattle.say_refusals.specs.Lines.{refusalMeanings, refusalHeads, aloneRow, byteRow, planByteRow, lineRow, atCellRow, flowRow}
+use Rattle.say_refusals.specs.Lines.{refusalMeanings, refusalHeads, aloneRow, byteRow, planByteRow, lineRow, atCellRow, flowRow, positionRow}
 use Rattle.say_refusals.specs.declared.Place.{Place}
-use Rattle.say_refusals.specs.declared.Place.the-variants.{Nowhere, Byte, PlanByte, Line, Cell, Flow}
+use Rattle.say_refusals.specs.declared.Place.the-variants.{Nowhere, Byte, PlanByte, Line, Cell, Flow, Position}
 
 -- what a number means: its row, or row 0 where there is none
 abbrev pub meaningPhrase : ℕ → Phrase
@@ -26,6 +26,7 @@ headPhrase number (PlanByte offset) = Row planByteRow number offset 0 0
 headPhrase number (Line line) = Row lineRow number line 0 0
 headPhrase number (Cell cell) = Row atCellRow number cell 0 0
 headPhrase number (Flow flow) = Row flowRow number flow 0 0
+headPhrase number (Position position) = Row positionRow number position 0 0
 
 abbrev pub head : ℕ → Place → List ℕ
 head number place = phrase refusalHeads (headPhrase number place)

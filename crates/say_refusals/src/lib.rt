@@ -10,7 +10,7 @@ ghost use Rattle.say_refusals.specs.Said.{meaningPhrase, meaning, headPh
 ghost use Rattle.say_refusals.specs.Sentences.{sentenceIn, sentenceRoom};
 
 // The number of rows of meanings.
-const MEANINGS: usize = 20;
+const MEANINGS: usize = 23;
 
 const ALONE: usize = 0;
 
@@ -24,7 +24,10 @@ const CELL: usize = 4;
 
 const FLOW: usize = 5;
 
-// Where something is wrong: at a byte of the site file or of the plan file, counted from 0; in a line of a sheet, at a cell or at a flow, counted from 1.
+const POSITION: usize = 6;
+
+// Where something is wrong: at a byte of the site file or of the plan file, counted from 0; in a line of a sheet, at a cell or at a flow, counted from 1; at a
+// position, counted from 0.
 pub enum Place {
     Nowhere,
     Byte(usize),
@@ -32,6 +35,7 @@ pub enum Place {
     Line(usize),
     Cell(usize),
     Flow(usize),
+    Position(usize),
 }
 
 // What an answer says: a phrase of a table, or a refusal by its number and place.
@@ -72,12 +76,15 @@ fn put_meaning(out: &mut [u8], at: usize, number: usize) -> usize
           the reach pairs are out of order, or one stands twice\n|\
           the file goes on after its last record\n|\
           the lent output is too short\n|\
-          a bit past the last position of the last cell is set\n|\
+          a bit past the last position is set\n|\
           the burst or the period of a flow is not 1 to 65,535, or its repeats are not 1 to 4\n|\
           the flow needs a share above 65,535 fragments in a superframe, its repeats counted\n|\
           the sheet is malformed: a line is not as the format asks, or is missing, or is one too many\n|\
           more than 16 flows ask to be admitted\n|\
-          the site is not chained when all its cells count, the spare ones too\n|",
+          the site is not chained when all its cells count, the spare ones too\n|\
+          a blocked position is one that the site does not have: its slots and channels end before it\n|\
+          the record of blocked positions blocks none\n|\
+          the call was refused\n|",
         meaning_phrase(number),
     )
 }
@@ -93,6 +100,7 @@ fn head_phrase(number: usize, place: Place) -> Phrase
         Place::Line(line) => Phrase::Row(LINE, number, line, 0, 0),
         Place::Cell(cell) => Phrase::Row(CELL, number, cell, 0, 0),
         Place::Flow(flow) => Phrase::Row(FLOW, number, flow, 0, 0),
+        Place::Position(position) => Phrase::Row(POSITION, number, position, 0, 0),
     }
 }
 
@@ -109,7 +117,8 @@ fn put_head(out: &mut [u8], at: usize, number: usize, place: Place) -> usize
           refused @1, byte @2 of the plan file: |\
           refused @1, line @2: |\
           refused @1, cell @2: |\
-          refused @1, flow @2: |",
+          refused @1, flow @2: |\
+          refused @1, position @2: |",
         head_phrase(number, place),
     )
 }

@@ -1,42 +1,54 @@
 -- Where the checker answers a clash, its sentence is true: one of the three ways fits, since of cells that clash one at least reaches the other by the record,
--- and both cells send in the slot and channel that are named.
+-- and both cells send in the slot and channel that are named. Where it answers a blocked position, the cell that is named sends there.
 --     clash-said        who reaches whom, by the record, is what the sentence says
 --     clash-sends       both cells send there
+--     blocked-said      the sentence names cell, slot and channel
+--     blocked-sends     the cell sends there, and it is blocked
 -- Assumes nothing.
 use Prim.Native.Nat.{ℕ, _+_, _-_, _*_, _/_, _%_, _≤_, _<_}
-use mathlib.Core.Bool.{Bool, true, false, not, _||_, false≢true}
+use mathlib.Core.Bool.{Bool, true, false, not, _||_, _&&_, false≢true}
 use mathlib.Core.List.{List}
 use mathlib.Core.Logic.{inl, inr}
 use mathlib.Core.Path.{_≡_, refl, sym, ap, _∙_}
 use native.Mathlib.Nat.{mod-lt, div-add-mod', div-lt-iff-lt-mul}
 use native.Mathlib.Omega.{arith}
 use borrow.Author.Tests.{eqb-true, eqb-false, lt-ltb}
-use lib.Dec.{eqb}
+use lib.Dec.{ltb, eqb}
 use Rattle.laws.specs.Choice.{pick}
 use Rattle.laws.proofs.Choice.{both}
 use Rattle.theory.specs.Greedy.{reserved}
-use Rattle.theory.specs.Named.{Clashes}
+use Rattle.theory.specs.Named.{Barred, Clashes}
 use Rattle.site.specs.Record.{upTo, positions, isFine, faultOf}
 use Rattle.site.specs.Reach.{reaches, clashIn, netOf}
 use Rattle.site.specs.declared.Site.{Site}
 use Rattle.site.specs.declared.Fault.{Fault}
-use Rattle.site.specs.declared.Fault.the-variants.{Fine, Size, Load, Reach}
+use Rattle.site.specs.declared.Fault.the-variants.{Fine, Size, Load, Reach, Blocked}
 use Rattle.site.proofs.Faults.{fine-sized, few-positions, up-to-is}
 use Rattle.checker.specs.Check.{checkAnswer}
 use Rattle.checker.specs.declared.CheckAnswer.{CheckAnswer}
-use Rattle.checker.specs.declared.CheckAnswer.the-variants.{Clash, Refused}
-use Rattle.checker.proofs.Meaning.{clash-means}
+use Rattle.checker.specs.declared.CheckAnswer.the-variants as check
+use Rattle.checker.proofs.Meaning.{clash-means, blocked-means}
 use Rattle.say_refusals.specs.Sentences.{sentence}
 use Rattle.say_verdicts.specs.Lines.{verdictLines}
-use Rattle.say_verdicts.specs.Said.{waySentence, reachNamed, clashSentence, checkSaid}
-use Rattle.say_verdicts.specs.Means.{WaySaid, BothSend}
+use Rattle.say_verdicts.specs.Said.{waySentence, reachNamed, clashSentence, blockedSentence, checkSaid, blockedSends}
+use Rattle.say_verdicts.specs.Means.{WaySaid, SlotAt, BothSend, SendsBlocked}
 
--- a clash is answered of a record without a fault
-accepted : (f : Fault) (o : CheckAnswer) (p a c : ℕ) → pick (isFine f) o (Refused f) ≡ Clash p a c → f ≡ Fine
-accepted Fine o p a c e = refl
-accepted Size o p a c e = let z : _≡_ {A = ℕ} 0 1 = cc in absurd (omega arith)
-accepted (Load k) o p a c e = let z : _≡_ {A = ℕ} 0 1 = cc in absurd (omega arith)
-accepted (Reach k) o p a c e = let z : _≡_ {A = ℕ} 0 1 = cc in absurd (omega arith)
+-- an answer that names a position
+abbrev names : CheckAnswer → Bool
+names check.Valid = false
+names check.TableShort = false
+names (check.Blocked p cell) = true
+names (check.Clash p a c) = true
+names (check.Count cell n) = false
+names (check.Refused f) = false
+
+-- it is given of a record without a fault
+accepted : (f : Fault) (o answer : CheckAnswer) → names answer ≡ true → pick (isFine f) o (check.Refused f) ≡ answer → f ≡ Fine
+accepted Fine o answer h e = refl
+accepted Size o answer h e = absurd (false≢true (ap names e ∙ h))
+accepted (Load k) o answer h e = absurd (false≢true (ap names e ∙ h))
+accepted (Reach k) o answer h e = absurd (false≢true (ap names e ∙ h))
+accepted (Blocked k) o answer h e = absurd (false≢true (ap names e ∙ h))
 
 -- the sentence for the ways that the record has
 way : (s : Site) (a c slot channel : ℕ) (forth back : Bool) → reaches (s .reach) (a - 1) (c - 1) ≡ forth → reaches (s .reach) (c - 1) (a - 1) ≡ back
@@ -55,10 +67,31 @@ either rows x z e = both (not (eqb x z)) (reaches rows x z || reaches rows z x) 
 back : (a x : ℕ) → a ≡ x + 1 → a - 1 ≡ x
 back a x e = omega arith
 
-module _ (s : Site) (t : List ℕ) (p a c : ℕ) (e : checkAnswer s t ≡ Clash p a c) where
+fine-named : (s : Site) (t : List ℕ) (answer : CheckAnswer) → names answer ≡ true → checkAnswer s t ≡ answer → faultOf s ≡ Fine
+unfolding checkAnswer
+fine-named s t answer h e = accepted (faultOf s) _ answer h e
+
+-- the slot and channel of a position
+module _ (s : Site) (fine : faultOf s ≡ Fine) (p : ℕ) (width : p < s .slots * s .channels) where
+  placed : SlotAt s p (p / s .channels + 1) (p % s .channels + 1)
+  placed =
+      let some = fine-sized s fine .channels-some in
+      let low : p / s .channels < s .slots = div-lt-iff-lt-mul some .1 width in
+      let near : p % s .channels < s .channels = mod-lt p some in
+      let q : p / s .channels + 1 - 1 ≡ p / s .channels = omega arith in
+      let r : p % s .channels + 1 - 1 ≡ p % s .channels = omega arith in record {
+        slot-in = (omega arith, omega arith);
+        channel-in = (omega arith, omega arith);
+        place = rw (q, r) (sym (div-add-mod' p (s .channels)));
+      }
+
+  -- a site has a channel and fewer positions than the sentence can name
+  named : (ltb 0 (s .channels) && ltb p 65536) ≡ true
+  named = let z = fine-sized s fine in rw (lt-ltb 0 (s .channels) (z .channels-some), lt-ltb p 65536 (omega (arith, width, few-positions z)))
+
+module _ (s : Site) (t : List ℕ) (p a c : ℕ) (e : checkAnswer s t ≡ check.Clash p a c) where
   fine : faultOf s ≡ Fine
-  unfolding checkAnswer
-  fine = accepted (faultOf s) _ p a c e
+  fine = fine-named s t (check.Clash p a c) refl e
 
   -- the two cells, by index
   shown : (x z : ℕ) × (a ≡ x + 1) × (c ≡ z + 1) × Clashes (netOf s) (reserved (positions s) t) p x z
@@ -75,7 +108,7 @@ module _ (s : Site) (t : List ℕ) (p a c : ℕ) (e : checkAnswer s t ≡ Clash 
   width : p < s .slots * s .channels
   width = shown .4 .within
 
-  pub clash-said : WaySaid s a c (p / s .channels + 1) (p % s .channels + 1) (checkSaid s (Clash p a c))
+  pub clash-said : WaySaid s a c (p / s .channels + 1) (p % s .channels + 1) (checkSaid s (check.Clash p a c))
   unfolding clashSentence reachNamed
   clash-said =
       let z = fine-sized s fine in
@@ -85,24 +118,39 @@ module _ (s : Site) (t : List ℕ) (p a c : ℕ) (e : checkAnswer s t ≡ Clash 
       let at-c = up-to-is 32 c (omega (arith, i .0, i .1), omega (arith, i .2, z .cells-most)) in
       let one : (reaches (s .reach) (a - 1) (c - 1) || reaches (s .reach) (c - 1) (a - 1)) ≡ true =
       rw (back a (m .0) (m .2), back c (m .1) (m .3)) (either (s .reach) (m .0) (m .1) (m .4 .far)) in
-      rw (lt-ltb 0 (s .channels) (z .channels-some), lt-ltb p 65536 (omega (arith, width, few-positions z)), at-a, at-c)
+      rw (named s fine p width, at-a, at-c)
       (way s a c (p / s .channels + 1) (p % s .channels + 1) _ _ refl refl one)
 
   pub clash-sends : BothSend s t p a c (p / s .channels + 1) (p % s .channels + 1)
   clash-sends =
-      let z = fine-sized s fine in
       let i = inside in
-      let m = shown in
-      let low : p / s .channels < s .slots = div-lt-iff-lt-mul (z .channels-some) .1 width in
-      let near : p % s .channels < s .channels = mod-lt p (z .channels-some) in
-      let q : p / s .channels + 1 - 1 ≡ p / s .channels = omega arith in
-      let r : p % s .channels + 1 - 1 ≡ p % s .channels = omega arith in record {
+      let m = shown in record {
         rising = i .1;
         first-in = (i .0, omega (arith, i .1, i .2));
         second-in = (omega (arith, i .0, i .1), i .2);
-        slot-in = (omega arith, omega arith);
-        channel-in = (omega arith, omega arith);
-        place = rw (q, r) (sym (div-add-mod' p (s .channels)));
+        at = placed s fine p width;
         one = rw (back a (m .0) (m .2)) (m .4 .one);
         other = rw (back c (m .1) (m .3)) (m .4 .other);
+      }
+
+module _ (s : Site) (t : List ℕ) (p cell : ℕ) (e : checkAnswer s t ≡ check.Blocked p cell) where
+  sound : faultOf s ≡ Fine
+  sound = fine-named s t (check.Blocked p cell) refl e
+
+  -- the cell, by index
+  barred : (i : ℕ) × (cell ≡ i + 1) × Barred (netOf s) (reserved (positions s) t) p i
+  barred = let m = blocked-means s t p cell e in (m .0, m .1, m .2 .shows)
+
+  pub blocked-said : checkSaid s (check.Blocked p cell) ≡ blockedSends cell (p / s .channels + 1) (p % s .channels + 1)
+  unfolding blockedSentence
+  blocked-said = rw (named s sound p (barred .2 .within))
+
+  pub blocked-sends : SendsBlocked s t p cell (p / s .channels + 1) (p % s .channels + 1)
+  blocked-sends =
+      let m = barred in
+      let most : m .0 < s .cells = m .2 .inside in record {
+        cell-in = (omega (arith, m .1), omega (arith, m .1));
+        at = placed s sound p (m .2 .within);
+        sends = rw (back cell (m .0) (m .1)) (m .2 .held);
+        blocked = m .2 .closed;
       }

@@ -9,8 +9,8 @@ use Rattle.laws.specs.Search.{firstOf}
 use Rattle.laws.specs.Sum.{sum, any}
 use Rattle.laws.specs.Part.{part}
 use Rattle.theory.specs.Greedy.{forbid, marked, fill, unmet, run}
-use Rattle.theory.specs.Verdict.{secondAt, clashesAt, firstAt, lowestClash, wrongIn, lowestWrong, tableVerdict}
-use Rattle.site.specs.Record.{siteOf, upTo, sizeOk, rowBad, extraLoad, badRow, faultOf}
+use Rattle.theory.specs.Verdict.{holderAt, barredAt, lowestBarred, secondAt, clashesAt, firstAt, lowestClash, wrongIn, lowestWrong, openVerdict, tableVerdict}
+use Rattle.site.specs.Record.{siteOf, upTo, sizeOk, rowBad, extraLoad, badRow, extraBlocked, faultOf}
 use Rattle.site.specs.Reach.{reaches, clashIn}
 use Rattle.site.specs.declared.Site.{Site}
 use Rattle.site.specs.declared.Fault.the-variants as fault
@@ -26,24 +26,31 @@ use Rattle.speech.specs.Speech.{bytes, spoken}
 use Rattle.say_refusals.specs.Lines.{refusalMeanings, refusalHeads}
 use Rattle.say_refusals.specs.Said.{meaning, refusedLine}
 use Rattle.say_verdicts.specs.Lines.{verdictLines}
-use Rattle.say_verdicts.specs.Said.{loadNamed, reachNamed, clashSentence, changesSentence, badFlowRow}
-use Rattle.say_verdicts.specs.Said.{checkSaid, planSaid, mendSaid, shareSaid, faultSaid, readSaid, sheetSaid, otherPlanLine}
+use Rattle.say_verdicts.specs.Said.{loadNamed, reachNamed, clashSentence, blockedSentence, changesSentence, badFlowRow}
+use Rattle.say_verdicts.specs.Said.{checkSaid, planSaid, mendSaid, shareSaid, faultSaid, readSaid, sheetSaid, otherPlanLine, badListLine}
 use Rattle.say_verdicts.specs.declared.File.the-variants.{SiteFile, PlanFile}
 
 -- P1 and P2: cell 2 reaches cells 1 and 3
 abbrev P1 : Site
-P1 = siteOf 3 3 2 (5 ∷ 1 ∷ 4 ∷ []) (0 ∷ 5 ∷ [])
+P1 = siteOf 3 3 2 (5 ∷ 1 ∷ 4 ∷ []) (0 ∷ 5 ∷ []) []
 
 abbrev P2 : Site
-P2 = siteOf 3 3 2 (5 ∷ 2 ∷ 4 ∷ []) (0 ∷ 5 ∷ [])
+P2 = siteOf 3 3 2 (5 ∷ 2 ∷ 4 ∷ []) (0 ∷ 5 ∷ []) []
+
+-- P1 with position 5 blocked, which is slot 3, channel 2; and with position 6 blocked, which is past its last
+abbrev P1blocked : Site
+P1blocked = siteOf 3 3 2 (5 ∷ 1 ∷ 4 ∷ []) (0 ∷ 5 ∷ []) (32 ∷ [])
+
+abbrev P1past : Site
+P1past = siteOf 3 3 2 (5 ∷ 1 ∷ 4 ∷ []) (0 ∷ 5 ∷ []) (64 ∷ [])
 
 -- P3: cells 1 and 2 reach cell 3
 abbrev P3 : Site
-P3 = siteOf 3 2 1 (1 ∷ 1 ∷ 1 ∷ []) (4 ∷ 4 ∷ [])
+P3 = siteOf 3 2 1 (1 ∷ 1 ∷ 1 ∷ []) (4 ∷ 4 ∷ []) []
 
 -- two cells that reach each other
 abbrev twoWay : Site
-twoWay = siteOf 2 1 2 (1 ∷ 1 ∷ []) (2 ∷ 1 ∷ [])
+twoWay = siteOf 2 1 2 (1 ∷ 1 ∷ []) (2 ∷ 1 ∷ []) []
 
 -- P1's own table, P8's (cell 3 holds one too many), P9's (cells 2 and 3 meet at the last position), and one where cells 1 and 2 meet
 abbrev T1 : List ℕ
@@ -58,21 +65,25 @@ T9 = 1 ∷ 1 ∷ 1 ∷ 1 ∷ 1 ∷ 0 ∷ 0 ∷ 0 ∷ 0 ∷ 0 ∷ 0 ∷ 1 ∷ 0 �
 abbrev T12 : List ℕ
 T12 = 1 ∷ 1 ∷ 1 ∷ 1 ∷ 1 ∷ 0 ∷ 0 ∷ 0 ∷ 1 ∷ 0 ∷ 0 ∷ 0 ∷ 1 ∷ 1 ∷ 0 ∷ 1 ∷ 1 ∷ 0 ∷ []
 
--- ---- check: valid; who reaches whom, three ways; a count; a table that is too short; a record's fault
+-- ---- check: valid; who reaches whom, three ways; a count; a table that is too short; a record's fault; a blocked position, before a clash there; and one
+-- that the site does not have
 checked :
     checkSaid P1 (checkAnswer P1 T1) ∷ checkSaid twoWay (checkAnswer twoWay (0 ∷ 1 ∷ 0 ∷ 1 ∷ []))
     ∷ checkSaid P1 (checkAnswer P1 T9) ∷ checkSaid P1 (checkAnswer P1 T12)
     ∷ checkSaid P1 (checkAnswer P1 T8) ∷ checkSaid P1 (checkAnswer P1 (1 ∷ []))
-    ∷ checkSaid (siteOf 0 3 2 [] []) (checkAnswer (siteOf 0 3 2 [] []) T1) ∷ []
+    ∷ checkSaid (siteOf 0 3 2 [] [] []) (checkAnswer (siteOf 0 3 2 [] [] []) T1)
+    ∷ checkSaid P1blocked (checkAnswer P1blocked T9) ∷ checkSaid P1past (checkAnswer P1past T9) ∷ []
     ≡ bytes "valid\n"
     ∷ bytes "refused 6: cells 1 and 2 clash (each reaches the other), and both send in slot 1, channel 2\n"
     ∷ bytes "refused 6: cells 2 and 3 clash (2 reaches 3), and both send in slot 3, channel 2\n"
     ∷ bytes "refused 6: cells 1 and 2 clash (2 reaches 1), and both send in slot 2, channel 1\n"
     ∷ bytes "refused 7: cell 3 sends 5 times in a superframe, and its load is 4\n"
     ∷ bytes "refused 4: the table is too short\n"
-    ∷ bytes "refused 1: the size is out of range: a site has 1 to 32 cells, 1 to 128 slots and 1 to 16 channels\n" ∷ []
-unfolding firstOf sum any secondAt clashesAt firstAt lowestClash wrongIn lowestWrong tableVerdict
-    upTo sizeOk rowBad extraLoad badRow faultOf reaches clashIn verdictOf checkAnswer loadNamed reachNamed clashSentence
+    ∷ bytes "refused 1: the size is out of range: a site has 1 to 32 cells, 1 to 128 slots and 1 to 16 channels\n"
+    ∷ bytes "refused 22: cell 2 sends in slot 3, channel 2, which is blocked\n"
+    ∷ bytes "refused 20, position 6: a blocked position is one that the site does not have: its slots and channels end before it\n" ∷ []
+unfolding firstOf sum any holderAt barredAt lowestBarred secondAt clashesAt firstAt lowestClash wrongIn lowestWrong openVerdict tableVerdict
+    upTo sizeOk rowBad extraLoad badRow extraBlocked faultOf reaches clashIn verdictOf checkAnswer loadNamed reachNamed clashSentence blockedSentence
     verdictLines refusalMeanings refusalHeads meaning refusedLine spoken decimal digitsOf
 checked = refl
 
@@ -81,7 +92,7 @@ planned :
     planSaid P1 (planAnswer P1 (replicate 18 0)) ∷ planSaid P2 (planAnswer P2 (replicate 18 0)) ∷ []
     ≡ bytes "planned: 3 cells, 3 slots, 2 channels\n"
     ∷ bytes "refused 5, cell 2: no room for 1 of its fragments; duggfrask why says what that means\n" ∷ []
-unfolding firstOf sum any part forbid marked fill unmet run upTo sizeOk rowBad extraLoad badRow faultOf reaches clashIn planAnswer verdictLines
+unfolding firstOf sum any part forbid marked fill unmet run upTo sizeOk rowBad extraLoad badRow extraBlocked faultOf reaches clashIn planAnswer verdictLines
     spoken decimal digitsOf
 planned = refl
 
@@ -97,7 +108,7 @@ mended :
     ∷ bytes "planned: 3 cells, 2 slots, 1 channel\n"
     ∷ bytes "refused 5, cell 2: keeping these reservations leaves no room for 1 of its fragments; a fresh plan may do\n"
     ∷ bytes "refused 13: the lent output is too short\n" ∷ []
-unfolding firstOf sum any part forbid marked fill unmet run upTo sizeOk rowBad extraLoad badRow faultOf reaches clashIn
+unfolding firstOf sum any part forbid marked fill unmet run upTo sizeOk rowBad extraLoad badRow extraBlocked faultOf reaches clashIn
     stand mendAnswer planAnswer changesSentence verdictLines refusalMeanings refusalHeads meaning refusedLine spoken decimal digitsOf
 mended = refl
 
@@ -117,17 +128,18 @@ shared :
 unfolding roundedUp upTo shareOf badFlowRow verdictLines refusalMeanings refusalHeads meaning refusedLine spoken decimal digitsOf
 shared = refl
 
--- ---- files and sheets: the site file and the plan file are told apart, a line and a cell too; and a plan of another size
+-- ---- files and sheets: the site file and the plan file are told apart, a line and a cell too; a plan of another size; and a bad list
 read-said :
     readSaid SiteFile (read.Refused 8 20) ∷ readSaid PlanFile (read.Refused 14 10)
     ∷ sheetSaid (sheet.BadLine 2) ∷ sheetSaid (sheet.Refused (fault.Reach 2)) ∷ faultSaid (fault.Load 5)
-    ∷ readSaid SiteFile read.Done ∷ readSaid PlanFile read.Done ∷ sheetSaid sheet.Done ∷ otherPlanLine 5 8 1 ∷ []
+    ∷ readSaid SiteFile read.Done ∷ readSaid PlanFile read.Done ∷ sheetSaid sheet.Done ∷ otherPlanLine 5 8 1 ∷ badListLine 5 ∷ []
     ≡ bytes "refused 8, byte 20 of the site file: the file ends too early: inside a record, or before one that has to be there\n"
-    ∷ bytes "refused 14, byte 10 of the plan file: a bit past the last position of the last cell is set\n"
+    ∷ bytes "refused 14, byte 10 of the plan file: a bit past the last position is set\n"
     ∷ bytes "refused 17, line 2: the sheet is malformed: a line is not as the format asks, or is missing, or is one too many\n"
     ∷ bytes "refused 3, cell 2: the reach has a cell that reaches itself, or a cell that the site does not have\n"
     ∷ bytes "refused 2, cell 5: a load or a flow is for a cell that the site does not have\n"
     ∷ [] ∷ [] ∷ []
-    ∷ bytes "refused: the plan is for 5 cells, 8 slots and 1 channel, and the site is of another size\n" ∷ []
+    ∷ bytes "refused: the plan is for 5 cells, 8 slots and 1 channel, and the site is of another size\n"
+    ∷ bytes "--blocked: at character 5 stands no slot.channel of this site\n" ∷ []
 unfolding verdictLines refusalMeanings refusalHeads meaning refusedLine spoken decimal digitsOf
 read-said = refl

@@ -21,6 +21,8 @@ verdictLines =
     ∷ "refused 15: the period is not 1 to 65,535\n"
     ∷ "refused 15: the repeats are not 1 to 4\n"
     ∷ "refused: the plan is for @1 cell@a, @2 slot@b and @3 channel@c, and the site is of another size\n"
+    ∷ "refused 22: cell @1 sends in slot @2, channel @3, which is blocked\n"
+    ∷ "--blocked: at character @1 stands no slot.channel of this site\n"
     ∷ []
 
 -- ---- the rows by name
@@ -74,3 +76,9 @@ badRepeatsRow = 14
 
 abbrev pub otherPlanRow : ℕ
 otherPlanRow = 15
+
+abbrev pub blockedRow : ℕ
+blockedRow = 16
+
+abbrev pub badListRow : ℕ
+badListRow = 17

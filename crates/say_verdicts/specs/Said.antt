@@ -10,7 +10,7 @@ use Rattle.site.specs.Record.{upTo}
 use Rattle.site.specs.Reach.{reaches}
 use Rattle.site.specs.declared.Site.{Site}
 use Rattle.site.specs.declared.Fault.{Fault}
-use Rattle.site.specs.declared.Fault.the-variants.{Fine, Size, Load, Reach}
+use Rattle.site.specs.declared.Fault.the-variants.{Fine, Size, Load, Reach, Blocked}
 use Rattle.checker.specs.declared.CheckAnswer.{CheckAnswer}
 use Rattle.checker.specs.declared.CheckAnswer.the-variants as check
 use Rattle.mender.specs.declared.MendAnswer.{MendAnswer}
@@ -27,11 +27,12 @@ use Rattle.phrases.specs.Phrases.{phrase}
 use Rattle.phrases.specs.declared.Phrase.the-variants.{Silent, Row}
 use Rattle.say_refusals.specs.Sentences.{sentence}
 use Rattle.say_refusals.specs.declared.Place.{Place}
-use Rattle.say_refusals.specs.declared.Place.the-variants.{Nowhere, Byte, PlanByte, Line, Cell}
+use Rattle.say_refusals.specs.declared.Place.the-variants.{Nowhere, Byte, PlanByte, Line, Cell, Position}
 use Rattle.say_refusals.specs.declared.Sentence.{Sentence}
 use Rattle.say_refusals.specs.declared.Sentence.the-variants.{Plain, Refusal}
 use Rattle.say_verdicts.specs.Lines.{verdictLines, validRow, clashForthRow, clashBackRow, clashBothRow, countRow, plannedRow, noRoomRow, keptNoRoomRow}
-use Rattle.say_verdicts.specs.Lines.{unchangedRow, mendedRow, shareRow, badSlotsRow, badBurstRow, badPeriodRow, badRepeatsRow, otherPlanRow}
+use Rattle.say_verdicts.specs.Lines.{unchangedRow, mendedRow, shareRow, blockedRow, badSlotsRow, badBurstRow, badPeriodRow, badRepeatsRow, otherPlanRow}
+use Rattle.say_verdicts.specs.Lines.{badListRow}
 use Rattle.say_verdicts.specs.declared.File.{File}
 use Rattle.say_verdicts.specs.declared.File.the-variants.{SiteFile, PlanFile}
 
@@ -41,12 +42,13 @@ line row a b c d = Plain (Row row a b c d)
 
 -- ---- a record, a file, a sheet
 
--- what is wrong with a record: 1; 2 and 3 with the cell
+-- what is wrong with a record: 1; 2 and 3 with the cell; 20 with the position
 abbrev pub faultSentence : Fault → Sentence
 faultSentence Fine = Plain Silent
 faultSentence Size = Refusal 1 Nowhere
 faultSentence (Load cell) = Refusal 2 (Cell cell)
 faultSentence (Reach cell) = Refusal 3 (Cell cell)
+faultSentence (Blocked position) = Refusal 20 (Position position)
 
 -- a byte of the site file, or of the plan file
 abbrev pub byteOf : File → ℕ → Place
@@ -87,10 +89,19 @@ clashSentence s p a c =
     (waySentence (reachNamed s a c) (reachNamed s c a) a c (p / s .channels + 1) (p % s .channels + 1))
     (Refusal 6 Nowhere)
 
--- "valid", or the first thing wrong, in English: which two cells, slot and channel; or which cell, how often it sends and how often it should
+-- a reservation on a blocked position, by slot and channel
+unfoldable pub blockedSentence : Site → (p cell : ℕ) → Sentence
+blockedSentence s p cell =
+    pick (ltb 0 (s .channels) && ltb p 65536)
+    (line blockedRow cell (p / s .channels + 1) (p % s .channels + 1) 0)
+    (Refusal 22 Nowhere)
+
+-- "valid", or the first thing wrong, in English: which cell sends where it is blocked; which two cells, slot and channel;
+-- or which cell, how often it sends and how often it should
 abbrev pub checkSentence : Site → CheckAnswer → Sentence
 checkSentence s check.Valid = line validRow 0 0 0 0
 checkSentence s check.TableShort = Refusal 4 Nowhere
+checkSentence s (check.Blocked p cell) = blockedSentence s p cell
 checkSentence s (check.Clash p a c) = clashSentence s p a c
 checkSentence s (check.Count cell n) = line countRow cell n (loadNamed s cell) 0
 checkSentence s (check.Refused f) = faultSentence f
@@ -164,6 +175,9 @@ clashBackLine a c slot channel = phrase verdictLines (Row clashBackRow a c slot 
 abbrev pub clashBothLine : (a c slot channel : ℕ) → List ℕ
 clashBothLine a c slot channel = phrase verdictLines (Row clashBothRow a c slot channel)
 
+abbrev pub blockedSends : (cell slot channel : ℕ) → List ℕ
+blockedSends cell slot channel = phrase verdictLines (Row blockedRow cell slot channel 0)
+
 abbrev pub countLine : (cell times load : ℕ) → List ℕ
 countLine cell times load = phrase verdictLines (Row countRow cell times load 0)
 
@@ -188,3 +202,7 @@ badRepeatsLine = phrase verdictLines (Row badRepeatsRow 0 0 0 0)
 -- a plan that is of another size than the site
 abbrev pub otherPlanLine : (cells slots channels : ℕ) → List ℕ
 otherPlanLine cells slots channels = phrase verdictLines (Row otherPlanRow cells slots channels 0)
+
+-- a list of blocked positions that is none: where its first item begins that is no item, counted from 1
+abbrev pub badListLine : (character : ℕ) → List ℕ
+badListLine character = phrase verdictLines (Row badListRow character 0 0 0)

@@ -21,8 +21,9 @@ ghost use Rattle.phrases.specs.Put.{Put};
 ghost use Rattle.say_refusals.specs.Sentences.{sentence};
 ghost use Rattle.say_verdicts.specs.Lines.{verdictLines};
 ghost use Rattle.say_verdicts.specs.Said.{faultSentence, byteOf, readSentence, sheetSentence, loadNamed, reachNamed, waySentence, clashSentence};
+ghost use Rattle.say_verdicts.specs.Said.{blockedSentence};
 ghost use Rattle.say_verdicts.specs.Said.{checkSentence, planSentence, badFlowRow, shareSentence, changesSentence, mendSentence};
-ghost use Rattle.say_verdicts.specs.Said.{faultSaid, readSaid, sheetSaid, checkSaid, planSaid, shareSaid, mendSaid, otherPlanLine};
+ghost use Rattle.say_verdicts.specs.Said.{faultSaid, readSaid, sheetSaid, checkSaid, planSaid, shareSaid, mendSaid, otherPlanLine, badListLine};
 
 const VALID: usize = 0;
 
@@ -56,6 +57,10 @@ const BAD_REPEATS: usize = 14;
 
 const OTHER_PLAN: usize = 15;
 
+const BLOCKED: usize = 16;
+
+const BAD_LIST: usize = 17;
+
 // The files that an offset can be in.
 pub enum File {
     SiteFile,
@@ -85,7 +90,9 @@ fn put(out: &mut [u8], at: usize, what: Sentence) -> usize
           refused 15: the burst is not 1 to 65,535\n|\
           refused 15: the period is not 1 to 65,535\n|\
           refused 15: the repeats are not 1 to 4\n|\
-          refused: the plan is for @1 cell@a, @2 slot@b and @3 channel@c, and the site is of another size\n|",
+          refused: the plan is for @1 cell@a, @2 slot@b and @3 channel@c, and the site is of another size\n|\
+          refused 22: cell @1 sends in slot @2, channel @3, which is blocked\n|\
+          --blocked: at character @1 stands no slot.channel of this site\n|",
         what,
     )
 }
@@ -99,6 +106,7 @@ fn fault_sentence(reply: Fault) -> Sentence
         Fault::Size => Sentence::Refusal(1, Place::Nowhere),
         Fault::Load(cell) => Sentence::Refusal(2, Place::Cell(cell)),
         Fault::Reach(cell) => Sentence::Refusal(3, Place::Cell(cell)),
+        Fault::Blocked(position) => Sentence::Refusal(20, Place::Position(position)),
     }
 }
 
@@ -210,6 +218,20 @@ fn clash_sentence(site: Site, p: usize, a: usize, c: usize) -> Sentence
     way_sentence(forth, back, a, c, p / channels + 1, p % channels + 1)
 }
 
+// A cell that sends at a blocked position, by slot and channel.
+fn blocked_sentence(site: Site, p: usize, cell: usize) -> Sentence
+    ensures { λ r. ⌜ r ≡ blockedSentence site p cell ⌝ }
+{
+    let channels = site.channels as usize;
+    if channels < 1 {
+        return Sentence::Refusal(22, Place::Nowhere);
+    }
+    if 65535 < p {
+        return Sentence::Refusal(22, Place::Nowhere);
+    }
+    Sentence::Plain(Phrase::Row(BLOCKED, cell, p / channels + 1, p % channels + 1, 0))
+}
+
 // A table that is valid, or the first thing wrong with it.
 fn check_sentence(site: Site, reply: CheckAnswer) -> Sentence
     ensures { λ r. ⌜ r ≡ checkSentence site reply ⌝ }
@@ -217,6 +239,7 @@ fn check_sentence(site: Site, reply: CheckAnswer) -> Sentence
     match reply {
         CheckAnswer::Valid => Sentence::Plain(Phrase::Row(VALID, 0, 0, 0, 0)),
         CheckAnswer::TableShort => Sentence::Refusal(4, Place::Nowhere),
+        CheckAnswer::Blocked(p, cell) => blocked_sentence(site, p, cell),
         CheckAnswer::Clash(p, a, c) => clash_sentence(site, p, a, c),
         CheckAnswer::Count(cell, times) => Sentence::Plain(Phrase::Row(
             COUNT,
@@ -368,6 +391,18 @@ pub fn put_other_plan(
         out,
         at,
         Sentence::Plain(Phrase::Row(OTHER_PLAN, cells, slots, channels, 0)),
+    )
+}
+
+// A list of blocked positions that is none: the character, counted from 1, at which its first item begins that is no item.
+pub fn put_bad_list(out: &mut [u8], at: usize, character: usize) -> usize
+    requires { ⌜ at + 2000 ≤ length (now out) ⌝ }
+    ensures { λ r. ⌜ Put (now (out .entry)) at (badListLine character) 2000 (now (out .exit)) r ⌝ }
+{
+    put(
+        out,
+        at,
+        Sentence::Plain(Phrase::Row(BAD_LIST, character, 0, 0, 0)),
     )
 }
 

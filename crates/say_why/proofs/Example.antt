@@ -9,6 +9,7 @@ use Prim.Native.String.{String}
 use native.Mathlib.Omega.{arith}
 use lib.Dec.{eqb}
 use lib.ListN.{length, take, replicate}
+use Rattle.laws.specs.Bits.{wordOf}
 use Rattle.laws.specs.Most.{most}
 use Rattle.laws.specs.Part.{part}
 use Rattle.laws.specs.Search.{firstOf}
@@ -16,16 +17,18 @@ use Rattle.laws.specs.Sum.{bit, sum, any}
 use Rattle.theory.specs.Net.{Reserved, Valid}
 use Rattle.theory.specs.Greedy.{forbid, marked, fill, run}
 use Rattle.theory.specs.Verdict.{overloaded, lowestOver, loadVerdict, mostDemand, gap, breaks, breakOf, firstBreak, chainVerdict, secondAt}
-use Rattle.theory.specs.Verdict.{clashesAt, firstAt, lowestClash, wrongIn, lowestWrong, tableVerdict}
+use Rattle.theory.specs.Verdict.{holderAt, barredAt, lowestBarred, openVerdict, clashesAt, firstAt, lowestClash, wrongIn, lowestWrong, tableVerdict}
 use Rattle.theory.proofs.TableLaws.{check-valid}
 use Rattle.admitting.specs.Best.{bestOf}
-use Rattle.site.specs.Record.{siteOf, size, upTo, sizeOk, rowBad, extraLoad, badRow, faultOf}
+use Rattle.site.specs.Record.{siteOf, size, upTo, sizeOk, rowBad, extraLoad, badRow, extraBlocked, faultOf}
 use Rattle.site.specs.Reach.{reaches, clashIn, netOf}
 use Rattle.site.specs.declared.Site.{Site}
 use Rattle.planner.specs.Plan.{planAnswer}
 use Rattle.judges.specs.Judges.{loadAnswer, chainAnswer, leastAnswer}
 use Rattle.heaviest.specs.Sets.{mutualIn, heaviestIn, heaviestOf}
 use Rattle.text.specs.Decimal.{digitsOf, decimal}
+use Rattle.blocklist.specs.Format.{listText}
+use Rattle.putblocks.specs.Canon.{slotWord, runStart, runEnd, runsFrom, slotsEnd, slotsFrom}
 use Rattle.speech.specs.Speech.{bytes, spoken}
 use Rattle.say_why.specs.Lines.{whyLines}
 use Rattle.say_why.specs.Said.{takesPhrase, setPhrase, cellPhrase, cellPhrases, fewest, sizePhrase, whyPhrases, whySaid}
@@ -39,7 +42,7 @@ filled xs = take 32 (xs ++ replicate 32 0)
 
 -- slots, channels, the loads, and the reach rows as numbers: bit b-1 of row a-1 where a reaches b
 abbrev pub siteWith : ℕ → ℕ → List ℕ → List ℕ → Site
-siteWith slots channels loads reach = siteOf (length loads) slots channels (filled loads) (filled reach)
+siteWith slots channels loads reach = siteOf (length loads) slots channels (filled loads) (filled reach) []
 
 -- P1: chained, with just as many channel-slots as it takes
 abbrev pub p1 : Site
@@ -84,6 +87,18 @@ sixteen = siteWith 16 1 (256 ∷ []) []
 -- P10: nothing is loaded
 abbrev pub idle : Site
 idle = siteWith 1 1 (0 ∷ []) []
+
+-- the same site with these positions blocked
+abbrev pub barred : List ℕ → Site → Site
+barred words s = siteOf (s .cells) (s .slots) (s .channels) (s .loads) (s .reach) words
+
+-- P1 with position 0 blocked: cell 1 takes the 5 that are open, and cell 2 finds none
+abbrev pub p1-barred : Site
+p1-barred = barred (1 ∷ []) p1
+
+-- the star with a slot more, and the first one blocked: it is planned with the 3 that are open
+abbrev pub star-barred : Site
+star-barred = barred (1 ∷ []) (siteWith 4 1 (1 ∷ 1 ∷ 1 ∷ 1 ∷ []) (8 ∷ 8 ∷ 8 ∷ []))
 
 -- a site without channels is refused, and has no text
 abbrev pub refused : Site
@@ -248,6 +263,32 @@ told =
           [];
     }
     ∷ record {
+      site = p1-barred;
+      text =
+          "chained\n" ∷
+          "the load test fails: cell 2 is over by 1 fragment\n" ∷
+          "not planned: cell 2 is 1 fragment short. The site is full: no plan exists\n" ∷
+          "it takes 6 channel-slots, and no fewer; the site has 5 open\n" ∷
+          "of all cells that clash with one another these need the most, 6:\n" ∷
+          "  cell 1, load 5\n" ∷
+          "  cell 2, load 1\n" ∷
+          "blocked: 1.1\n" ∷
+          [];
+    }
+    ∷ record {
+      site = star-barred;
+      text =
+          "not chained: cells 1 and 4 clash, and cell 2 between them does not clash with cell 1\n" ∷
+          "the load test fails: cell 4 is over by 1 fragment; off the chain that alone decides nothing\n" ∷
+          "planned\n" ∷
+          "it takes at least 2 channel-slots, and 3 will do; the site has 3 open\n" ∷
+          "of all cells that clash with one another these need the most, 2:\n" ∷
+          "  cell 1, load 1\n" ∷
+          "  cell 4, load 1\n" ∷
+          "blocked: 1.*\n" ∷
+          [];
+    }
+    ∷ record {
       site = refused;
       text =
           [];
@@ -263,9 +304,10 @@ abbrev pub wordsOf : Site → List ℕ
 wordsOf s = whySaid s (replicate (size s) 0)
 
 pub letter-by-letter : map (λ e. wordsOf (e .site)) told ≡ map (λ e. letters (e .text)) told
-unfolding firstOf sum any most part forbid marked fill run overloaded lowestOver loadVerdict mostDemand gap breaks breakOf firstBreak
-    chainVerdict bestOf upTo sizeOk rowBad extraLoad badRow faultOf reaches clashIn planAnswer loadAnswer chainAnswer leastAnswer mutualIn heaviestIn
-    heaviestOf digitsOf decimal spoken whyLines takesPhrase setPhrase cellPhrase cellPhrases fewest sizePhrase whyPhrases whySaid
+unfolding firstOf sum any most part forbid marked fill run overloaded lowestOver loadVerdict mostDemand gap breaks breakOf firstBreak chainVerdict
+    bestOf wordOf upTo sizeOk rowBad extraLoad badRow extraBlocked faultOf reaches clashIn planAnswer loadAnswer chainAnswer leastAnswer mutualIn
+    heaviestIn heaviestOf digitsOf decimal spoken listText slotWord runStart runEnd runsFrom slotsEnd slotsFrom whyLines takesPhrase setPhrase
+    cellPhrase cellPhrases fewest sizePhrase whyPhrases whySaid
 letter-by-letter = refl
 
 -- ---- `there may be another`: of P4 there is a plan; of the ring there is none
@@ -275,8 +317,8 @@ abbrev pub otherPlan : Reserved
 otherPlan i k = eqb k 0 && (eqb i 0 || eqb i 3) || (eqb k 1 && (eqb i 1 || eqb i 2))
 
 pub p4-has-plan : Valid (netOf p4) otherPlan
-unfolding firstOf sum reaches clashIn secondAt clashesAt firstAt lowestClash wrongIn lowestWrong tableVerdict
-p4-has-plan = check-valid (netOf p4) otherPlan (λ i k l w h. refl) refl
+unfolding firstOf sum reaches clashIn holderAt barredAt lowestBarred openVerdict secondAt clashesAt firstAt lowestClash wrongIn lowestWrong tableVerdict
+p4-has-plan = check-valid (netOf p4) otherPlan refl
 
 -- of two cells that clash at most one is reserved
 one-of : (p q : Bool) → (p ≡ true → q ≡ true → ⊥) → bit p + bit q ≤ 1

@@ -1,30 +1,26 @@
 -- What the two numbers of `put_why` are worth, on every accepted site with the same cells, loads and reach.
---     at-least     with fewer channel-slots than the heaviest clash needs no plan exists: a valid table has room for it
+--     at-least     with fewer open channel-slots than the heaviest clash needs no plan exists: a valid table has room for it
 --     same-demand  the greatest demand is the same on all of them
 --     demand-does  as many as the greatest demand will do: the load test holds
---     own-does     what the site itself is planned with will do, and so will more: the planner takes the same positions
+--     own-does     what the site itself is planned with will do, and so will more, wherever they are: proofs/Open.antt
 --     fewer-slots, slots-do, fewer-channels, channels-do   the same of slots and of channels
 -- Assumes nothing.
-use mathlib.Core.Path.{_≡_, refl, sym, ap, _∙_}
-use mathlib.Core.List.{List}
+use mathlib.Core.Path.{_≡_, refl}
 use mathlib.Core.Logic.{⊎-elim}
 use Prim.Native.Nat.{ℕ, _*_, _≤_, _<_}
 use native.Mathlib.Omega.{arith}
 use native.Mathlib.Nat.{mul-comm}
 use lib.Dec.{ltb}
-use lib.ListN.{length}
 use borrow.Author.Tests.{ltb-true, ltb-false}
 use Rattle.laws.specs.Bits.{bitAt}
 use Rattle.laws.proofs.Choice.{cases}
-use Rattle.theory.specs.Net.{Net}
 use Rattle.theory.specs.Full.{Mutual, weight}
 use Rattle.theory.specs.Greedy.{Plans}
 use Rattle.theory.specs.Verdict.{mostDemand}
 use Rattle.theory.proofs.Full.{mutual-fits}
 use Rattle.theory.proofs.LoadLaws.{most-demand-test}
 use Rattle.theory.proofs.Exact.{test-plans}
-use Rattle.theory.proofs.Wider.{resized, plans-wider}
-use Rattle.site.specs.Record.{positions, size, faultOf}
+use Rattle.site.specs.Record.{positions, faultOf}
 use Rattle.site.specs.Reach.{netOf}
 use Rattle.site.specs.declared.Site.{Site}
 use Rattle.site.specs.declared.Fault.the-variants.{Fine}
@@ -34,9 +30,11 @@ use Rattle.planner.proofs.Meaning.{done-means, done-valid}
 use Rattle.judges.specs.Judges.{counted}
 use Rattle.judges.proofs.Meaning.{covers-counted}
 use Rattle.heaviest.proofs.Mutual.{heaviest-is}
-use Rattle.say_why.specs.Said.{fewest}
+use Rattle.positions.proofs.Counts.{count-open}
+use Rattle.say_why.specs.Said.{openOf, fewest}
 use Rattle.site.specs.Alike.{Alike}
-use Rattle.say_why.specs.Means.{NoPlan, Planned, AtLeast, WillDo, AtLeastSlots, AtLeastChannels, SlotsDo, ChannelsDo, set}
+use Rattle.say_why.specs.Means.{Planned, AtLeast, WillDo, AtLeastSlots, AtLeastChannels, SlotsDo, ChannelsDo, set}
+use Rattle.say_why.proofs.Open.{plans-roomier}
 use Rattle.say_why.proofs.Sizes.{fewest-exact}
 
 -- every site is like itself
@@ -63,10 +61,13 @@ demand-does s o alike fine h =
     (test-plans (netOf o) (counted o) (covers-counted o)
     (most-demand-test (netOf o) (counted o) .0 (omega (arith, net-open o, same-demand s o alike))))
 
-pub own-does : (s : Site) → Plans (netOf s) → WillDo s (positions s)
+pub own-does : (s : Site) → Plans (netOf s) → WillDo s (openOf s)
 own-does s p o alike fine h =
-    let is : netOf o ≡ resized (netOf s) (positions o) = rw (alike .same-cells, alike .same-loads, alike .same-reach) in
-    run-planned o fine (rw is (plans-wider (netOf s) (positions o) p h))
+    run-planned o fine (plans-roomier (netOf s) (netOf o) (alike .same-cells) (rw (alike .same-loads)) (rw (alike .same-reach)) h p)
+
+-- no more positions are open than there are
+pub open-most : (s : Site) → openOf s ≤ positions s
+open-most s = omega (arith, count-open (s .blocked) (positions s))
 
 -- ---- slots of so many channels, and channels of so many slots
 
@@ -90,20 +91,22 @@ fewer n m a b h l = ⊎-elim (ltb-true m n) (λ e. let k = h (ltb-false m n e) i
 
 module _ (s : Site) (n : ℕ) where
   pub fewer-slots : AtLeast s n → AtLeastSlots s (fewest n (s .channels))
-  fewer-slots h o alike fine e l = h o alike fine (fewer n (positions o) _ _ (slots-exact o fine n (s .channels) e .0) l)
+  fewer-slots h o alike fine e l =
+      h o alike fine (omega (arith, open-most o, fewer n (positions o) _ _ (slots-exact o fine n (s .channels) e .0) l))
 
   pub fewer-channels : AtLeast s n → AtLeastChannels s (fewest n (s .slots))
-  fewer-channels h o alike fine e l = h o alike fine (fewer n (positions o) _ _ (channels-exact o fine n (s .slots) e .0) l)
+  fewer-channels h o alike fine e l =
+      h o alike fine (omega (arith, open-most o, fewer n (positions o) _ _ (channels-exact o fine n (s .slots) e .0) l))
 
-  module _ (fine : faultOf s ≡ Fine) (own : Planned s → n ≤ positions s) where
+  module _ (fine : faultOf s ≡ Fine) (own : Planned s → n ≤ openOf s) where
     pub slots-do : WillDo s n → SlotsDo s (fewest n (s .channels))
     slots-do h = record {
-      plans = λ o alike ok e l. h o alike ok (slots-exact o ok n (s .channels) e .1 l);
-      own = λ p. slots-exact s fine n (s .channels) refl .0 (own p);
+      plans = λ o alike ok free e l. h o alike ok (omega (arith, free, slots-exact o ok n (s .channels) e .1 l));
+      own = λ p. slots-exact s fine n (s .channels) refl .0 (omega (arith, open-most s, own p));
     }
 
     pub channels-do : WillDo s n → ChannelsDo s (fewest n (s .slots))
     channels-do h = record {
-      plans = λ o alike ok e l. h o alike ok (channels-exact o ok n (s .slots) e .1 l);
-      own = λ p. channels-exact s fine n (s .slots) refl .0 (own p);
+      plans = λ o alike ok free e l. h o alike ok (omega (arith, free, channels-exact o ok n (s .slots) e .1 l));
+      own = λ p. channels-exact s fine n (s .slots) refl .0 (omega (arith, open-most s, own p));
     }

@@ -10,18 +10,16 @@ use native.Mathlib.Omega.{arith}
 use native.Mathlib.Nat.{le-refl, eq-or-lt-of-le, le-of-suc-le-suc}
 use lib.Dec.{ltb, eqb}
 use lib.ListN.{length, getD}
-use borrow.Author.Tests.{ltb-true, ltb-false, lt-ltb, eqb-true}
+use borrow.Author.Tests.{ltb-true, ltb-false, eqb-true}
 use Rattle.laws.specs.Bits.{bitAt}
 use Rattle.laws.specs.Choice.{pick}
 use Rattle.laws.proofs.Choice.{cases}
 use Rattle.theory.specs.Full.{weight, around}
-use Rattle.theory.specs.Verdict.{mostDemand}
 use Rattle.theory.proofs.Full.{full, over-full}
 use Rattle.theory.proofs.Exact.{chained-class}
 use Rattle.site.specs.Record.{loadAt, positions, size, faultOf, isFine}
 use Rattle.site.specs.Reach.{netOf}
 use Rattle.site.specs.declared.Site.{Site}
-use Rattle.site.specs.declared.Fault.{Fault}
 use Rattle.site.specs.declared.Fault.the-variants.{Fine}
 use Rattle.planner.specs.Plan.{planAnswer}
 use Rattle.planner.specs.declared.PlanAnswer.{PlanAnswer}
@@ -39,12 +37,13 @@ use Rattle.judges.proofs.Meaning.{chained-means, broken-means, holds-means, ove
 use Rattle.heaviest.proofs.Mutual.{heaviest-is}
 use Rattle.heaviest.proofs.Meaning.{done-fine, done-chain}
 use Rattle.phrases.specs.declared.Phrase.{Phrase}
-use Rattle.phrases.specs.declared.Phrase.the-variants.{Silent, Row}
+use Rattle.phrases.specs.declared.Phrase.the-variants.{Row}
 use Rattle.say_why.specs.Lines.{cellRow}
 use Rattle.say_why.specs.Said.{chainPhrase, overPhrase, loadPhrase, planPhrase, leastNumber, willDo, takesPhrase, setPhrase, cellPhrase}
-use Rattle.say_why.specs.Said.{cellPhrases, sizeRow, sizePhrase, slotsPhrase, channelsPhrase, whyPhrases}
-use Rattle.say_why.specs.Means.{NoPlan, Planned, Short, ChainHolds, AtLeast, WillDo, AtLeastSlots, AtLeastChannels, set, Means}
-use Rattle.say_why.proofs.Numbers.{itself, run-planned, at-least, demand-does, own-does, fewer-slots, fewer-channels, slots-do, channels-do}
+use Rattle.say_why.specs.Said.{openOf, cellPhrases, sizeRow, sizePhrase, slotsPhrase, channelsPhrase, someBlocked, sizesPhrases, whyPhrases}
+use Rattle.say_why.specs.Means.{Planned, ChainHolds, WillDo, AllOpen, set, Means}
+use Rattle.say_why.proofs.Numbers.{itself, run-planned, at-least, demand-does, own-does, open-most, fewer-slots, fewer-channels, slots-do}
+use Rattle.say_why.proofs.Numbers.{channels-do}
 
 -- ---- of every phrase of a list
 
@@ -115,21 +114,21 @@ module _ (s : Site) (fine : faultOf s ≡ Fine) where
     same-answer : (a : PlanAnswer) → planAnswer s t ≡ a → (table : List ℕ) → size s ≤ length table → planAnswer s table ≡ a
     same-answer a e table h = run-answer s table fine h ∙ sym (run-answer s t fine long) ∙ e
 
-    no-true : (cell short : ℕ) → planAnswer s t ≡ plan.NoRoom cell short → (b : Bool) → ltb (positions s) heavy ≡ b → Means s (Row (pick b 6 7) cell short 0 0)
-    no-true cell short e true h = (same-answer (plan.NoRoom cell short) e, at-least s s (itself s) fine (ltb-true (positions s) heavy h))
-    no-true cell short e false h = (same-answer (plan.NoRoom cell short) e, off, ltb-false (positions s) heavy h)
+    no-true : (cell short : ℕ) → planAnswer s t ≡ plan.NoRoom cell short → (b : Bool) → ltb (openOf s) heavy ≡ b → Means s (Row (pick b 6 7) cell short 0 0)
+    no-true cell short e true h = (same-answer (plan.NoRoom cell short) e, at-least s s (itself s) fine (ltb-true (openOf s) heavy h))
+    no-true cell short e false h = (same-answer (plan.NoRoom cell short) e, off, ltb-false (openOf s) heavy h)
       where
         off : ChainHolds s → ⊥
         off ch =
             let d = done-chain s heavy (set s) (done-fine s fine) (chained-means s .1 (fine, ch)) in
-            let p = least-does (least.Least heavy) d s (itself s) fine (ltb-false (positions s) heavy h) t long .0 in
+            let p = least-does (least.Least heavy) d s (itself s) fine (ltb-false (openOf s) heavy h) t long .0 in
             let z : _≡_ {A = ℕ} 0 1 = cc in
             omega arith
 
-    plan-true : (a : PlanAnswer) → planAnswer s t ≡ a → Means s (planPhrase heavy (positions s) a)
+    plan-true : (a : PlanAnswer) → planAnswer s t ≡ a → Means s (planPhrase heavy (openOf s) a)
     plan-true plan.Done e = run-planned s fine (done-means s t .0 e .2)
     plan-true plan.TableShort e = tt
-    plan-true (plan.NoRoom cell short) e = no-true cell short e (ltb (positions s) heavy) refl
+    plan-true (plan.NoRoom cell short) e = no-true cell short e (ltb (openOf s) heavy) refl
     plan-true (plan.Refused f) e = tt
 
     -- the smaller of two numbers that will do, and it is no more than the first
@@ -138,18 +137,31 @@ module _ (s : Site) (fine : faultOf s ≡ Fine) where
         ⊎-elim (λ e. rw e (h, le-refl n)) (λ e. rw e (k, ltb-false n m e)) (cases (ltb n m))
 
     upper : (a : PlanAnswer) → planAnswer s t ≡ a → (m : ℕ) → WillDo s m
-        → WillDo s (willDo a (positions s) m) × (Planned s → willDo a (positions s) m ≤ positions s)
-    upper plan.Done e m h = let r = smaller-does (positions s) m (own-does s (done-means s t .0 e .2)) h in (r .0, λ p. r .1)
+        → WillDo s (willDo a (openOf s) m) × (Planned s → willDo a (openOf s) m ≤ openOf s)
+    upper plan.Done e m h = let r = smaller-does (openOf s) m (own-does s (done-means s t .0 e .2)) h in (r .0, λ p. r .1)
     upper plan.TableShort e m h = (h, λ p. let q = p t long .0 in let z : _≡_ {A = ℕ} 0 1 = cc in absurd (omega arith))
     upper (plan.NoRoom c l) e m h = (h, λ p. let q = p t long .0 in let z : _≡_ {A = ℕ} 0 1 = cc in absurd (omega arith))
     upper (plan.Refused f) e m h = (h, λ p. let q = p t long .0 in let z : _≡_ {A = ℕ} 0 1 = cc in absurd (omega arith))
 
   -- ---- the lines of the numbers
 
-  takes-true : (u : ℕ) → WillDo s u → Means s (takesPhrase heavy u (positions s))
+  -- where nothing is blocked all are open
+  all-so : someBlocked s ≡ false → AllOpen s
+  all-so e = let h : positions s ≤ openOf s = ltb-false _ _ e in omega (arith, open-most s)
+
+  exact-true : (b : Bool) → ltb (openOf s) (positions s) ≡ b → WillDo s heavy → Means s (Row (pick b 9 8) heavy (openOf s) 0 0)
+  exact-true true e h = (at-least s, h, (refl, ltb-true (openOf s) (positions s) e))
+  exact-true false e h = (at-least s, h, (all-so e, all-so e))
+
+  range-true : (b : Bool) → ltb (openOf s) (positions s) ≡ b → (u : ℕ) → WillDo s u → Means s (Row (pick b 11 10) heavy u (openOf s) 0)
+  range-true true e u h = (at-least s, h, (refl, ltb-true (openOf s) (positions s) e))
+  range-true false e u h = (at-least s, h, (all-so e, all-so e))
+
+  takes-true : (u : ℕ) → WillDo s u → Means s (takesPhrase heavy u (openOf s) (positions s))
   unfolding takesPhrase
   takes-true u h =
-      ⊎-elim (λ e. rw e (at-least s, rw (← (eqb-true heavy u e)) at h, refl)) (λ e. rw e (at-least s, h, refl)) (cases (eqb heavy u))
+      let b = ltb (openOf s) (positions s) in
+      ⊎-elim (λ e. rw e (exact-true b refl (rw (← (eqb-true heavy u e)) at h))) (λ e. rw e (range-true b refl u h)) (cases (eqb heavy u))
 
   set-true : Means s (setPhrase heavy)
   unfolding setPhrase
@@ -164,28 +176,33 @@ module _ (s : Site) (fine : faultOf s ≡ Fine) where
   cells-true zero h = tt
   cells-true (suc n) h = each-both (Means s) (cellPhrases (s .loads) (set s) n) _ (cells-true n (omega arith)) (cell-true n (omega arith), tt)
 
-  module _ (u : ℕ) (does : WillDo s u) (own : Planned s → u ≤ positions s) where
-    slots-true : Means s (slotsPhrase s heavy u)
+  module _ (u : ℕ) (does : WillDo s u) (own : Planned s → u ≤ openOf s) where
+    slots-true : AllOpen s → Means s (slotsPhrase s heavy u)
     unfolding sizePhrase
-    slots-true =
+    slots-true free =
         let few = fewer-slots s heavy (at-least s) in
         let does-do = slots-do s u fine own does in
-        size-cases (Means s) 12 128 (s .channels) _ _
-        (λ h. (refl, λ o alike ok e l. few o alike ok e (omega arith)))
-        (refl, few)
-        (λ e. (refl, few, rw (← e) at does-do))
-        (refl, few, does-do)
+        size-cases (Means s) 14 128 (s .channels) _ _
+        (λ h. ((refl, free), λ o alike ok e l. few o alike ok e (omega arith)))
+        ((refl, free), few)
+        (λ e. ((refl, free), few, rw (← e) at does-do))
+        ((refl, free), few, does-do)
 
-    channels-true : Means s (channelsPhrase s heavy u)
+    channels-true : AllOpen s → Means s (channelsPhrase s heavy u)
     unfolding sizePhrase
-    channels-true =
+    channels-true free =
         let few = fewer-channels s heavy (at-least s) in
         let does-do = channels-do s u fine own does in
-        size-cases (Means s) 16 16 (s .slots) _ _
-        (λ h. (refl, λ o alike ok e l. few o alike ok e (omega arith)))
-        (refl, few)
-        (λ e. (refl, few, rw (← e) at does-do))
-        (refl, few, does-do)
+        size-cases (Means s) 18 16 (s .slots) _ _
+        (λ h. ((refl, free), λ o alike ok e l. few o alike ok e (omega arith)))
+        ((refl, free), few)
+        (λ e. ((refl, free), few, rw (← e) at does-do))
+        ((refl, free), few, does-do)
+
+    -- sizes are said where nothing is blocked
+    sizes-true : (b : Bool) → someBlocked s ≡ b → Each (Means s) (pick b [] (sizesPhrases s heavy u))
+    sizes-true true e = tt
+    sizes-true false e = (slots-true (all-so e), (channels-true (all-so e), tt))
 
 -- a theorem for each sentence of `put_why`, over the text as the program prints it from the answers of the calls: every phrase that is said of an
 -- accepted site means what is so
@@ -205,7 +222,7 @@ why-true s fine t long p m =
             (
               set-true s fine,
               each-both (Means s) (cellPhrases (s .loads) (set s) (s .cells)) _ (cells-true s fine (s .cells) (le-refl (s .cells)))
-                  (slots-true s fine _ (up .0) (up .1), (channels-true s fine _ (up .0) (up .1), tt)),
+                  (sizes-true s fine _ (up .0) (up .1) (someBlocked s) refl),
             ),
           ),
         ),

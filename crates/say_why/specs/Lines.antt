@@ -15,7 +15,9 @@ whyLines =
     ∷ "not planned: cell @1 is @2 fragment@b short. The site is full: no plan exists\n"
     ∷ "not planned: cell @1 is @2 fragment@b short. This order found no room, and there may be another\n"
     ∷ "it takes @1 channel-slot@a, and no fewer; the site has @2\n"
+    ∷ "it takes @1 channel-slot@a, and no fewer; the site has @2 open\n"
     ∷ "it takes at least @1 channel-slot@a, and @2 will do; the site has @3\n"
+    ∷ "it takes at least @1 channel-slot@a, and @2 will do; the site has @3 open\n"
     ∷ "of all cells that clash with one another these need the most, @1:\n"
     ∷ "  cell @1, load @2\n"
     ∷ "with @1 channel@a: @2 slot@b, and no fewer\n"
@@ -54,21 +56,22 @@ fullRow = 6
 abbrev pub gaveUpRow : ℕ
 gaveUpRow = 7
 
+-- the first of two: the second says `open`
 abbrev pub exactRow : ℕ
 exactRow = 8
 
 abbrev pub rangeRow : ℕ
-rangeRow = 9
+rangeRow = 10
 
 abbrev pub setRow : ℕ
-setRow = 10
+setRow = 12
 
 abbrev pub cellRow : ℕ
-cellRow = 11
+cellRow = 13
 
 -- the first of four: so many, and no fewer; at least so many, and so many will do; at least so many; more than any site has
 abbrev pub slotsRow : ℕ
-slotsRow = 12
+slotsRow = 14
 
 abbrev pub channelsRow : ℕ
-channelsRow = 16
+channelsRow = 18

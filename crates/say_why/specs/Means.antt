@@ -1,5 +1,6 @@
 -- What each sentence of `duggfrask why` means, row by row: over valid tables, whoever made them, and over what the planner answers. That every
--- sentence that is said of a site is true of it is the theorem `why-true`, proofs/Truth.antt.
+-- sentence that is said of a site is true of it is the theorem `why-true`, proofs/Truth.antt; of the line of what is blocked it is `blocked-true`,
+-- proofs/Listed.antt.
 use Prim.Native.Nat.{ℕ, zero, suc, _+_, _≤_, _<_}
 use mathlib.Core.Path.{_≡_}
 use mathlib.Core.Bool.{true}
@@ -19,8 +20,10 @@ use Rattle.planner.specs.Plan.{planAnswer, planTable}
 use Rattle.planner.specs.declared.PlanAnswer.the-variants.{Done, NoRoom}
 use Rattle.judges.specs.Judges.{counted}
 use Rattle.heaviest.specs.Sets.{heaviestSet, Heaviest}
+use Rattle.blocklist.specs.Read.{fineList, readList}
 use Rattle.phrases.specs.declared.Phrase.{Phrase}
 use Rattle.phrases.specs.declared.Phrase.the-variants.{Silent, Row}
+use Rattle.say_why.specs.Said.{openOf}
 
 -- `no plan exists`: no table at all is valid, whoever made it
 abbrev pub NoPlan : Site → Type 0
@@ -45,7 +48,7 @@ Over s cell excess = (i : ℕ) × (cell ≡ i + 1) × FirstOver (netOf s) (count
 abbrev pub Broken : Site → (a b c : ℕ) → Type 0
 Broken s a b c = (x y z : ℕ) × (a ≡ x + 1) × (b ≡ y + 1) × (c ≡ z + 1) × FirstBreaks (netOf s) (counted s) x y z
 
--- ---- numbers of channel-slots, on sites that differ in slots and channels alone
+-- ---- numbers of channel-slots, on sites that differ in slots, channels and blocked positions alone. What counts are the open ones
 
 -- what is said of every accepted site with the same cells, loads and reach
 abbrev pub Every : Site → (Site → Type 0) → Type 0
@@ -53,22 +56,30 @@ Every s P = (other : Site) → Alike other s → faultOf other ≡ Fine → P ot
 
 -- `at least n`: with fewer no plan exists
 abbrev pub AtLeast : Site → ℕ → Type 0
-AtLeast s n = Every s (λ o. positions o < n → NoPlan o)
+AtLeast s n = Every s (λ o. openOf o < n → NoPlan o)
 
 -- `n will do`: with so many, or more, the site is planned
 abbrev pub WillDo : Site → ℕ → Type 0
-WillDo s n = Every s (λ o. n ≤ positions o → Planned o)
+WillDo s n = Every s (λ o. n ≤ openOf o → Planned o)
 
--- `the site has n`
+-- nothing is blocked
+abbrev pub AllOpen : Site → Type 0
+AllOpen s = openOf s ≡ positions s
+
+-- `the site has n`: so many in all, and all are open
 abbrev pub Has : Site → ℕ → Type 0
-Has s n = n ≡ positions s
+Has s n = (n ≡ positions s) × AllOpen s
 
--- `with f channels`: the site's own
+-- `the site has n open`: and others are blocked
+abbrev pub HasOpen : Site → ℕ → Type 0
+HasOpen s n = (n ≡ openOf s) × (n < positions s)
+
+-- `with f channels`: the site's own, and nothing is blocked there
 abbrev pub WithChannels : Site → ℕ → Type 0
-WithChannels s f = f ≡ s .channels
+WithChannels s f = (f ≡ s .channels) × AllOpen s
 
 abbrev pub WithSlots : Site → ℕ → Type 0
-WithSlots s f = f ≡ s .slots
+WithSlots s f = (f ≡ s .slots) × AllOpen s
 
 -- `at least n slots`: with the same channels and fewer slots no plan exists; so a planned site has as many
 abbrev pub AtLeastSlots : Site → ℕ → Type 0
@@ -77,14 +88,19 @@ AtLeastSlots s n = Every s (λ o. o .channels ≡ s .channels → o .slots < n �
 abbrev pub AtLeastChannels : Site → ℕ → Type 0
 AtLeastChannels s n = Every s (λ o. o .slots ≡ s .slots → o .channels < n → NoPlan o)
 
--- `n slots will do`: with the same channels and so many slots, or more, the site is planned; and never more than the site has where it is planned
+-- `n slots will do`: with the same channels and so many slots, or more, and nothing blocked, the site is planned; and never more than the site has where it is
+-- planned
 pub record SlotsDo (s : Site) (n : ℕ) : Type 0 where
-  pub plans : Every s (λ o. o .channels ≡ s .channels → n ≤ o .slots → Planned o)
+  pub plans : Every s (λ o. AllOpen o → o .channels ≡ s .channels → n ≤ o .slots → Planned o)
   pub own : Planned s → n ≤ s .slots
 
 pub record ChannelsDo (s : Site) (n : ℕ) : Type 0 where
-  pub plans : Every s (λ o. o .slots ≡ s .slots → n ≤ o .channels → Planned o)
+  pub plans : Every s (λ o. AllOpen o → o .slots ≡ s .slots → n ≤ o .channels → Planned o)
   pub own : Planned s → n ≤ s .channels
+
+-- `blocked: LIST`: the list, typed for a site with these slots and channels, gives its blocked positions and no other
+abbrev pub Lists : Site → List ℕ → Type 0
+Lists s text = readList text (s .slots) (s .channels) ≡ fineList (s .blocked)
 
 -- ---- the heaviest clash
 
@@ -122,11 +138,15 @@ meanings s =
     -- `not planned: cell @1 is @2 fragments short. The site is full: no plan exists`
     ∷ (λ cell short c d. Short s cell short × NoPlan s)
     -- `not planned: cell @1 is @2 fragments short. This order found no room, and there may be another`
-    ∷ (λ cell short c d. Short s cell short × (ChainHolds s → ⊥) × (weight (netOf s) (bitAt (set s)) ≤ positions s))
+    ∷ (λ cell short c d. Short s cell short × (ChainHolds s → ⊥) × (weight (netOf s) (bitAt (set s)) ≤ openOf s))
     -- `it takes @1 channel-slots, and no fewer; the site has @2`
     ∷ (λ n has c d. AtLeast s n × WillDo s n × Has s has)
+    -- `..; the site has @2 open`
+    ∷ (λ n has c d. AtLeast s n × WillDo s n × HasOpen s has)
     -- `it takes at least @1 channel-slots, and @2 will do; the site has @3`
     ∷ (λ l u has d. AtLeast s l × WillDo s u × Has s has)
+    -- `..; the site has @3 open`
+    ∷ (λ l u has d. AtLeast s l × WillDo s u × HasOpen s has)
     -- `of all cells that clash with one another these need the most, @1:`
     ∷ (λ l b c d. Most s l)
     -- `  cell @1, load @2`

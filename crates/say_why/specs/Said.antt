@@ -1,11 +1,14 @@
--- What `duggfrask why` says of a site: a list of phrases, each a row of the lines with its values, made from the answers of the calls. A site that is
--- not planned is full when L is above N, chained or not. Only of what is left `This order found no room, and there may be another` is said.
+-- What `duggfrask why` says of a site: a list of phrases, each a row of the lines with its values, made from the answers of the calls; and a line that
+-- lists what is blocked. A site that is not planned is full when L is above N, the count of open positions, chained or not. Only of what is left
+-- `This order found no room, and there may be another` is said.
 use Prim.Native.Nat.{ℕ, zero, suc, _+_, _/_, _%_}
+use mathlib.Core.Bool.{Bool}
 use mathlib.Core.List.{List, [], _∷_, _++_}
 use lib.Dec.{ltb, eqb}
 use lib.ListN.{getD}
 use Rattle.laws.specs.Bits.{bitAt}
 use Rattle.laws.specs.Choice.{pick}
+use Rattle.positions.specs.Blocked.{openIn}
 use Rattle.site.specs.Record.{positions}
 use Rattle.site.specs.declared.Site.{Site}
 use Rattle.planner.specs.Plan.{planAnswer}
@@ -21,11 +24,17 @@ use Rattle.judges.specs.declared.LeastAnswer.the-variants as least
 use Rattle.heaviest.specs.Sets.{heaviestOf}
 use Rattle.heaviest.specs.declared.HeaviestAnswer.{HeaviestAnswer}
 use Rattle.heaviest.specs.declared.HeaviestAnswer.the-variants as heavy
+use Rattle.speech.specs.Speech.{bytes}
 use Rattle.phrases.specs.Phrases.{phrase}
 use Rattle.phrases.specs.declared.Phrase.{Phrase}
 use Rattle.phrases.specs.declared.Phrase.the-variants.{Silent, Row}
+use Rattle.putblocks.specs.Canon.{blockedText}
 use Rattle.say_why.specs.Lines.{whyLines, chainedRow, brokenRow, holdsRow, overRow, offChainRow, plansRow, fullRow, gaveUpRow, exactRow, rangeRow}
 use Rattle.say_why.specs.Lines.{setRow, cellRow, slotsRow, channelsRow}
+
+-- "the count of open positions"
+abbrev pub openOf : Site → ℕ
+openOf s = openIn (s .blocked) (positions s)
 
 -- ---- the verdicts
 
@@ -45,7 +54,7 @@ loadPhrase judge load.Holds = Row holdsRow 0 0 0 0
 loadPhrase judge (load.Over cell excess) = overPhrase judge cell excess
 loadPhrase judge (load.Refused f) = Silent
 
--- l is the load of the heaviest clash, n the positions
+-- l is the load of the heaviest clash, n the open positions
 abbrev pub planPhrase : (l n : ℕ) → PlanAnswer → Phrase
 planPhrase l n plan.Done = Row plansRow 0 0 0 0
 planPhrase l n plan.TableShort = Silent
@@ -60,15 +69,19 @@ leastNumber (least.Least n) = n
 leastNumber (least.Enough n) = n
 leastNumber (least.Refused f) = 0
 
--- U: the smaller of `least`'s number and, where the site is planned, N itself
+-- U: the smaller of `least`'s number and, where the site is planned, the open positions
 abbrev pub willDo : PlanAnswer → (n m : ℕ) → ℕ
 willDo plan.Done n m = pick (ltb n m) n m
 willDo plan.TableShort n m = m
 willDo (plan.NoRoom cell short) n m = m
 willDo (plan.Refused f) n m = m
 
-unfoldable pub takesPhrase : (l u n : ℕ) → Phrase
-takesPhrase l u n = pick (eqb l u) (Row exactRow l n 0 0) (Row rangeRow l u n 0)
+-- of two rows the second, which says `open`, where n of all are open, and these are fewer
+abbrev pub hasRow : (row n all : ℕ) → ℕ
+hasRow row n all = pick (ltb n all) (row + 1) row
+
+unfoldable pub takesPhrase : (l u n all : ℕ) → Phrase
+takesPhrase l u n all = pick (eqb l u) (Row (hasRow exactRow n all) l n 0 0) (Row (hasRow rangeRow n all) l u n 0)
 
 unfoldable pub setPhrase : ℕ → Phrase
 setPhrase l = pick (ltb 0 l) (Row setRow l 0 0 0) Silent
@@ -109,18 +122,22 @@ abbrev pub verdictPhrases : ChainAnswer → LoadAnswer → PlanAnswer → (l n :
 verdictPhrases judge test reply l n = chainPhrase judge ∷ loadPhrase judge test ∷ planPhrase l n reply ∷ []
 
 abbrev pub clashPhrases : Site → (l u set : ℕ) → List Phrase
-clashPhrases s l u set = takesPhrase l u (positions s) ∷ setPhrase l ∷ cellPhrases (s .loads) set (s .cells)
+clashPhrases s l u set = takesPhrase l u (openOf s) (positions s) ∷ setPhrase l ∷ cellPhrases (s .loads) set (s .cells)
 
 abbrev pub sizesPhrases : Site → (l u : ℕ) → List Phrase
 sizesPhrases s l u = slotsPhrase s l u ∷ channelsPhrase s l u ∷ []
 
+-- something is blocked: fewer positions are open than there are. More slots or channels need not be open then, so that no size is said
+abbrev pub someBlocked : Site → Bool
+someBlocked s = ltb (openOf s) (positions s)
+
 abbrev pub numberPhrases : Site → (l u set : ℕ) → List Phrase
-numberPhrases s l u set = clashPhrases s l u set ++ sizesPhrases s l u
+numberPhrases s l u set = clashPhrases s l u set ++ pick (someBlocked s) [] (sizesPhrases s l u)
 
 -- a refused record has no text here: its fault has it
 abbrev pub sitePhrases : Site → PlanAnswer → HeaviestAnswer → List Phrase
 sitePhrases s reply (heavy.Done l set) =
-    verdictPhrases (chainAnswer s) (loadAnswer s) reply l (positions s) ++ numberPhrases s l (willDo reply (positions s) (leastNumber (leastAnswer s))) set
+    verdictPhrases (chainAnswer s) (loadAnswer s) reply l (openOf s) ++ numberPhrases s l (willDo reply (openOf s) (leastNumber (leastAnswer s))) set
 sitePhrases s reply (heavy.Refused f) = []
 
 -- what `why` says of a site, with a table for the planner to plan in
@@ -132,5 +149,26 @@ abbrev pub texts : List Phrase → List ℕ
 texts [] = []
 texts (p ∷ ps) = phrase whyLines p ++ texts ps
 
+-- what is blocked, in the form in which it is typed
+abbrev pub blockedList : Site → List ℕ
+blockedList s = blockedText (s .blocked) (s .slots) (s .channels)
+
+abbrev pub listLine : Site → List ℕ
+listLine s = bytes "blocked: " ++ blockedList s ++ bytes "\n"
+
+-- the last line, where something is blocked
+abbrev pub blockedSaid : Site → HeaviestAnswer → List ℕ
+blockedSaid s (heavy.Done l set) = pick (someBlocked s) (listLine s) []
+blockedSaid s (heavy.Refused f) = []
+
 unfoldable pub whySaid : Site → List ℕ → List ℕ
-whySaid s table = texts (whyPhrases s table)
+whySaid s table = texts (whyPhrases s table) ++ blockedSaid s (heaviestOf s)
+
+-- ---- as the code puts it
+
+-- what comes last: the sizes, or what is blocked
+abbrev pub lastSaid : Site → (l u : ℕ) → List ℕ
+lastSaid s l u = pick (someBlocked s) (listLine s) (texts (sizesPhrases s l u))
+
+abbrev pub siteSaid : Site → PlanAnswer → HeaviestAnswer → List ℕ
+siteSaid s reply found = texts (sitePhrases s reply found) ++ blockedSaid s found

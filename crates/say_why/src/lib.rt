@@ -6,7 +6,10 @@ use judges::LoadAnswer;
 use phrases::Phrase;
 use phrases::put_phrase;
 use planner::PlanAnswer;
+use positions::open_count;
+use putblocks::put_blocked;
 use site::Site;
+use text::put_text;
 use words::has;
 ghost use mathlib.Core.Path.{_≡_};
 ghost use Prim.Native.Nat.{_+_, _*_, _≤_, _<_};
@@ -19,11 +22,11 @@ ghost use Rattle.planner.specs.Plan.{planTable};
 ghost use Rattle.judges.specs.Judges.{chainAnswer, loadAnswer};
 ghost use Rattle.heaviest.specs.declared.HeaviestAnswer.the-variants.{Done};
 ghost use Rattle.phrases.specs.Put.{Put};
-ghost use Rattle.phrases.specs.Phrases.{phrase};
+ghost use Rattle.phrases.specs.Phrases.{phrase, textOf, partIn};
 ghost use Rattle.say_why.specs.Lines.{whyLines, fullRow, gaveUpRow};
-ghost use Rattle.say_why.specs.Said.{chainPhrase, overPhrase, loadPhrase, planPhrase, leastNumber, willDo, takesPhrase, setPhrase, cellPhrase};
-ghost use Rattle.say_why.specs.Said.{cellPhrases, fewest, sizeRow, sizePhrase, verdictPhrases, clashPhrases, sizesPhrases, sitePhrases, texts};
-ghost use Rattle.say_why.specs.Said.{whySaid};
+ghost use Rattle.say_why.specs.Said.{openOf, chainPhrase, overPhrase, loadPhrase, planPhrase, leastNumber, willDo, hasRow, takesPhrase, setPhrase};
+ghost use Rattle.say_why.specs.Said.{cellPhrase, cellPhrases, fewest, sizeRow, sizePhrase, verdictPhrases, clashPhrases, sizesPhrases, texts};
+ghost use Rattle.say_why.specs.Said.{listLine, lastSaid, siteSaid, whySaid};
 
 const CHAINED: usize = 0;
 
@@ -43,20 +46,20 @@ const GAVE_UP: usize = 7;
 
 const EXACT: usize = 8;
 
-const RANGE: usize = 9;
+const RANGE: usize = 10;
 
-const SET: usize = 10;
+const SET: usize = 12;
 
-const CELL: usize = 11;
+const CELL: usize = 13;
 
-const SLOTS: usize = 12;
+const SLOTS: usize = 14;
 
-const CHANNELS: usize = 16;
+const CHANNELS: usize = 18;
 
-// Puts a line: a row of the table with its values, or nothing.
-fn put(out: &mut [u8], at: usize, what: Phrase) -> usize
-    requires { ⌜ at + 1500 ≤ length (now out) ⌝ }
-    ensures { λ r. ⌜ Put (now (out .entry)) at (phrase whyLines what) 1500 (now (out .exit)) r ⌝ }
+// Puts a line: a row of the table with its values, or nothing. It takes ten bytes at most for each of the row's.
+fn put_line(out: &mut [u8], at: usize, what: Phrase) -> usize
+    requires { ⌜ at + 10 * length (partIn (textOf whyLines) what) ≤ length (now out) ⌝ }
+    ensures { λ r. ⌜ Put (now (out .entry)) at (phrase whyLines what) (10 * length (partIn (textOf whyLines) what)) (now (out .exit)) r ⌝ }
 {
     put_phrase(
         out,
@@ -70,7 +73,9 @@ fn put(out: &mut [u8], at: usize, what: Phrase) -> usize
           not planned: cell @1 is @2 fragment@b short. The site is full: no plan exists\n|\
           not planned: cell @1 is @2 fragment@b short. This order found no room, and there may be another\n|\
           it takes @1 channel-slot@a, and no fewer; the site has @2\n|\
+          it takes @1 channel-slot@a, and no fewer; the site has @2 open\n|\
           it takes at least @1 channel-slot@a, and @2 will do; the site has @3\n|\
+          it takes at least @1 channel-slot@a, and @2 will do; the site has @3 open\n|\
           of all cells that clash with one another these need the most, @1:\n|\
           \x20 cell @1, load @2\n|\
           with @1 channel@a: @2 slot@b, and no fewer\n|\
@@ -83,6 +88,14 @@ fn put(out: &mut [u8], at: usize, what: Phrase) -> usize
           with @1 slot@a: more than 16 channels, which no site has\n|",
         what,
     )
+}
+
+// Puts any line: no row has more than 150 bytes.
+fn put(out: &mut [u8], at: usize, what: Phrase) -> usize
+    requires { ⌜ at + 1500 ≤ length (now out) ⌝ }
+    ensures { λ r. ⌜ Put (now (out .entry)) at (phrase whyLines what) 1500 (now (out .exit)) r ⌝ }
+{
+    put_line(out, at, what)
 }
 
 // Chained, or the triple that breaks it.
@@ -118,7 +131,7 @@ fn load_phrase(judge: ChainAnswer, reply: LoadAnswer) -> Phrase
     }
 }
 
-// The row of a no: full where the heaviest clash is above the positions.
+// The row of a no: full where the heaviest clash is above the open positions.
 fn no_row(l: usize, n: usize) -> usize
     ensures { λ r. ⌜ r ≡ pick (ltb n l) fullRow gaveUpRow ⌝ }
 {
@@ -173,14 +186,25 @@ fn will_do(reply: PlanAnswer, n: usize, m: usize) -> usize
     }
 }
 
-// How many channel-slots it takes.
-fn takes_phrase(l: usize, u: usize, n: usize) -> Phrase
-    ensures { λ r. ⌜ r ≡ takesPhrase l u n ⌝ }
+// Of two rows the second, which says `open`, where fewer positions are open than there are.
+fn has_row(row: usize, few: usize, all: usize) -> usize
+    requires { ⌜ row ≤ 16 ⌝ }
+    ensures { λ r. ⌜ r ≡ hasRow row few all ⌝ }
+{
+    if few < all {
+        return row + 1;
+    }
+    row
+}
+
+// How many channel-slots it takes, where n of all are open.
+fn takes_phrase(l: usize, u: usize, n: usize, all: usize) -> Phrase
+    ensures { λ r. ⌜ r ≡ takesPhrase l u n all ⌝ }
 {
     if l == u {
-        return Phrase::Row(EXACT, l, n, 0, 0);
+        return Phrase::Row(has_row(EXACT, n, all), l, n, 0, 0);
     }
-    Phrase::Row(RANGE, l, u, n, 0)
+    Phrase::Row(has_row(RANGE, n, all), l, u, n, 0)
 }
 
 // What stands before the cells of the heaviest clash.
@@ -204,6 +228,14 @@ fn cell_phrase(set: u32, load: usize, j: usize) -> Phrase
     Phrase::Silent
 }
 
+// Puts the line of a cell.
+fn put_cell(out: &mut [u8], at: usize, set: u32, load: usize, j: usize) -> usize
+    requires { ⌜ (j < 32) × (at + 200 ≤ length (now out)) ⌝ }
+    ensures { λ r. ⌜ Put (now (out .entry)) at (phrase whyLines (cellPhrase set load j)) 200 (now (out .exit)) r ⌝ }
+{
+    put_line(out, at, cell_phrase(set, load, j))
+}
+
 // A load as a number.
 fn wide(x: u16) -> usize
     ensures { λ r. ⌜ r ≡ x ⌝ }
@@ -213,13 +245,13 @@ fn wide(x: u16) -> usize
 
 // The lines of the cells of the set, of the first so many.
 fn put_cells(out: &mut [u8], at: usize, loads: &[u16; 32], set: u32, cells: usize) -> usize
-    requires { ⌜ (cells ≤ 32) × (at + 1500 * cells ≤ length (now out)) ⌝ }
-    ensures { λ r. ⌜ Put (now (out .entry)) at (texts (cellPhrases (now (loads .entry)) set cells)) (1500 * cells) (now (out .exit)) r ⌝ }
+    requires { ⌜ (cells ≤ 32) × (at + 200 * cells ≤ length (now out)) ⌝ }
+    ensures { λ r. ⌜ Put (now (out .entry)) at (texts (cellPhrases (now (loads .entry)) set cells)) (200 * cells) (now (out .exit)) r ⌝ }
 {
     let mut next = at;
     let mut j = 0;
     while j < cells {
-        next = put(out, next, cell_phrase(set, wide(loads[j]), j));
+        next = put_cell(out, next, set, wide(loads[j]), j);
         j += 1;
     }
     next
@@ -241,7 +273,7 @@ fn fewest(n: usize, f: usize) -> usize
 
 // The row of a size, of the four that begin at `row`, with its values.
 fn size_row(row: usize, most: usize, f: usize, lo: usize, hi: usize) -> Phrase
-    requires { ⌜ row ≤ 16 ⌝ }
+    requires { ⌜ row ≤ 18 ⌝ }
     ensures { λ r. ⌜ r ≡ sizeRow row most f lo hi ⌝ }
 {
     if most < lo {
@@ -258,7 +290,7 @@ fn size_row(row: usize, most: usize, f: usize, lo: usize, hi: usize) -> Phrase
 
 // With f of the one, how many of the other make l channel-slots, and u.
 fn size_phrase(row: usize, most: usize, f: usize, l: usize, u: usize) -> Phrase
-    requires { ⌜ (row ≤ 16) × (0 < f) ⌝ }
+    requires { ⌜ (row ≤ 18) × (0 < f) ⌝ }
     ensures { λ r. ⌜ r ≡ sizePhrase row most f l u ⌝ }
 {
     size_row(row, most, f, fewest(l, f), fewest(u, f))
@@ -276,13 +308,60 @@ fn put_sizes(out: &mut [u8], at: usize, site: Site, l: usize, u: usize) -> usize
     put(out, middle, channels)
 }
 
-// How many channel-slots it takes, and the heaviest clash.
-fn put_clash(out: &mut [u8], at: usize, site: Site, n: usize, l: usize, u: usize, set: u32) -> usize
-    requires { ⌜ at + 51000 ≤ length (now out) ⌝ }
-    requires { ⌜ (faultOf site ≡ Fine) × (n ≡ positions site) ⌝ }
-    ensures { λ r. ⌜ Put (now (out .entry)) at (texts (clashPhrases site l u set)) 51000 (now (out .exit)) r ⌝ }
+// What is blocked, as a list that can be typed again.
+fn put_list(out: &mut [u8], at: usize, site: Site) -> usize
+    requires { ⌜ at + 30000 ≤ length (now out) ⌝ }
+    requires { ⌜ faultOf site ≡ Fine ⌝ }
+    ensures { λ r. ⌜ Put (now (out .entry)) at (listLine site) 30000 (now (out .exit)) r ⌝ }
 {
-    let second = put(out, at, takes_phrase(l, u, n));
+    let blocked = site.blocked;
+    let list = put_text(out, at, b"blocked: ");
+    let end = put_blocked(
+        out,
+        list,
+        &blocked,
+        site.slots as usize,
+        site.channels as usize,
+    );
+    put_text(out, end, b"\n")
+}
+
+// What comes last: how many slots and channels; or what is blocked, where something is.
+fn put_last(
+    out: &mut [u8],
+    at: usize,
+    site: Site,
+    n: usize,
+    all: usize,
+    l: usize,
+    u: usize,
+) -> usize
+    requires { ⌜ at + 30000 ≤ length (now out) ⌝ }
+    requires { ⌜ (faultOf site ≡ Fine) × (n ≡ openOf site) × (all ≡ positions site) ⌝ }
+    ensures { λ r. ⌜ Put (now (out .entry)) at (lastSaid site l u) 30000 (now (out .exit)) r ⌝ }
+{
+    if n < all {
+        return put_list(out, at, site);
+    }
+    put_sizes(out, at, site, l, u)
+}
+
+// How many channel-slots it takes, and the heaviest clash.
+fn put_clash(
+    out: &mut [u8],
+    at: usize,
+    site: Site,
+    n: usize,
+    all: usize,
+    l: usize,
+    u: usize,
+    set: u32,
+) -> usize
+    requires { ⌜ at + 9400 ≤ length (now out) ⌝ }
+    requires { ⌜ (faultOf site ≡ Fine) × (n ≡ openOf site) × (all ≡ positions site) ⌝ }
+    ensures { λ r. ⌜ Put (now (out .entry)) at (texts (clashPhrases site l u set)) 9400 (now (out .exit)) r ⌝ }
+{
+    let second = put(out, at, takes_phrase(l, u, n, all));
     let third = put(out, second, set_phrase(l));
     let loads = site.loads;
     put_cells(out, third, &loads, set, site.cells as usize)
@@ -304,14 +383,16 @@ fn put_verdicts(out: &mut [u8], site: Site, reply: PlanAnswer, l: usize, n: usiz
 fn put_all(out: &mut [u8], site: Site, reply: PlanAnswer, l: usize, set: u32) -> usize
     requires { ⌜ 60000 ≤ length (now out) ⌝ }
     requires { ⌜ faultOf site ≡ Fine ⌝ }
-    ensures { λ r. ⌜ Put (now (out .entry)) 0 (texts (sitePhrases site reply (Done l set))) 60000 (now (out .exit)) r ⌝ }
+    ensures { λ r. ⌜ Put (now (out .entry)) 0 (siteSaid site reply (Done l set)) 60000 (now (out .exit)) r ⌝ }
 {
-    let n = site.slots as usize * site.channels as usize;
+    let all = site.slots as usize * site.channels as usize;
+    let blocked = site.blocked;
+    let n = open_count(&blocked, all);
     let least = judges::least(site);
     let u = will_do(reply, n, least_number(least));
     let second = put_verdicts(out, site, reply, l, n);
-    let third = put_clash(out, second, site, n, l, u, set);
-    put_sizes(out, third, site, l, u)
+    let third = put_clash(out, second, site, n, all, l, u, set);
+    put_last(out, third, site, n, all, l, u)
 }
 
 // What can be said of a site, from the start of `out`, and how long it is. The planner plans in `table`, which is long enough for every site. A

@@ -1,5 +1,5 @@
 -- Sheets byte for byte, and what the reader says of some, computed. They hold the format from a second side: commas, CR LF, cells from 1,
--- marks from left to right in the line of the cell that reaches, lines counted from 1, and a mark on oneself as 3, after 1. Assumes nothing.
+-- marks from left to right in the line of the cell that reaches, lines counted from 1, a mark on oneself as 3, after 1, and 20 after it. Assumes nothing.
 use Prim.Native.Nat.{ℕ}
 use mathlib.Core.List.{List, [], _∷_, _++_}
 use mathlib.Core.Path.{_≡_, refl}
@@ -9,9 +9,10 @@ use Rattle.text.specs.Decimal.{digitsOf, decimal}
 use Rattle.lines.specs.Match.{starts}
 use Rattle.lines.specs.Format.{column, columns, header, bitsOf, marks, label, cellLine}
 use Rattle.lines.specs.Content.{more, scanned, loadOfLine, marksOfLine, markOfLine, weigh, rowOfLine, lineIn, lineOk, columnsIn, cellsOfLine, headOk}
-use Rattle.site.specs.Record.{siteOf, zeroSite, upTo, sizeOk, rowBad, extraLoad, badRow, faultOf}
+use Rattle.positions.specs.Blocked.{emptySet}
+use Rattle.site.specs.Record.{siteOf, zeroSite, upTo, sizeOk, rowBad, extraLoad, badRow, extraBlocked, faultOf}
 use Rattle.site.specs.declared.Site.{Site}
-use Rattle.site.specs.declared.Fault.the-variants.{Size, Reach}
+use Rattle.site.specs.declared.Fault.the-variants.{Size, Reach, Blocked}
 use Rattle.sheet.specs.Sheet.{lineOf, linesFrom, sheetBytes}
 use Rattle.sheet.specs.Read.{from, loadsOfSheet, rowsOfSheet, siteOfSheet, badSheet, judged, badCell, cellsRead, body, readSheet}
 use Rattle.sheet.specs.declared.SheetAnswer.the-variants.{Done, Refused}
@@ -20,7 +21,7 @@ use Rattle.sheet.specs.declared.SheetAnswer.the-variants.{Done, Refused}
 
 -- P1 of document 01: 3 slots, 2 channels, loads 5, 1 and 4; cell 2 reaches cells 1 and 3
 abbrev p1 : Site
-p1 = siteOf 3 3 2 (5 ∷ 1 ∷ 4 ∷ replicate 29 0) (0 ∷ 5 ∷ replicate 30 0)
+p1 = siteOf 3 3 2 (5 ∷ 1 ∷ 4 ∷ replicate 29 0) (0 ∷ 5 ∷ replicate 30 0) emptySet
 
 abbrev p1Sheet : List ℕ
 p1Sheet =
@@ -35,7 +36,7 @@ p1-written = refl
 
 -- one way: cell 1 reaches cell 3, and nobody else reaches
 abbrev oneWay : Site
-oneWay = siteOf 3 1 1 (7 ∷ 0 ∷ 10 ∷ replicate 29 0) (4 ∷ replicate 31 0)
+oneWay = siteOf 3 1 1 (7 ∷ 0 ∷ 10 ∷ replicate 29 0) (4 ∷ replicate 31 0) emptySet
 
 pub one-way-written : sheetBytes oneWay ≡
     99 ∷ 101 ∷ 108 ∷ 108 ∷ 44 ∷ 108 ∷ 111 ∷ 97 ∷ 100 ∷ 44 ∷ 49 ∷ 44 ∷ 50 ∷ 44 ∷ 51 ∷ 13 ∷ 10 ∷
@@ -60,19 +61,22 @@ alone = 99 ∷ 101 ∷ 108 ∷ 108 ∷ 44 ∷ 108 ∷ 111 ∷ 97 ∷ 100 ∷ 44 
 
 pub sheets-read :
     -- P1 is read
-    readSheet p1Sheet 3 2
+    readSheet p1Sheet 3 2 emptySet
+    -- with position 6 blocked, which it does not have, it is 20
+    ∷ readSheet p1Sheet 3 2 (64 ∷ replicate 31 0)
     -- a mark on oneself is 3 with the row; and 1 comes before it, where there are no slots
-    ∷ readSheet marked 1 1
-    ∷ readSheet marked 0 1
+    ∷ readSheet marked 1 1 emptySet
+    ∷ readSheet marked 0 1 emptySet
     -- nothing at all has no first line; a first line alone lacks line 2; a space after the last line is line 3
-    ∷ readSheet [] 1 1
-    ∷ readSheet alone 1 1
-    ∷ readSheet (alone ++ (49 ∷ 44 ∷ 48 ∷ 44 ∷ 48 ∷ 13 ∷ 10 ∷ 32 ∷ [])) 1 1
+    ∷ readSheet [] 1 1 emptySet
+    ∷ readSheet alone 1 1 emptySet
+    ∷ readSheet (alone ++ (49 ∷ 44 ∷ 48 ∷ 44 ∷ 48 ∷ 13 ∷ 10 ∷ 32 ∷ [])) 1 1 emptySet
     -- 1,00,0 and 01,0,0: "Numbers have no leading zeros"
-    ∷ readSheet (alone ++ (49 ∷ 44 ∷ 48 ∷ 48 ∷ 44 ∷ 48 ∷ 13 ∷ 10 ∷ [])) 1 1
-    ∷ readSheet (alone ++ (48 ∷ 49 ∷ 44 ∷ 48 ∷ 44 ∷ 48 ∷ 13 ∷ 10 ∷ [])) 1 1
+    ∷ readSheet (alone ++ (49 ∷ 44 ∷ 48 ∷ 48 ∷ 44 ∷ 48 ∷ 13 ∷ 10 ∷ [])) 1 1 emptySet
+    ∷ readSheet (alone ++ (48 ∷ 49 ∷ 44 ∷ 48 ∷ 44 ∷ 48 ∷ 13 ∷ 10 ∷ [])) 1 1 emptySet
     ∷ []
     ≡ record { site = p1; answer = Done }
+    ∷ record { site = zeroSite; answer = Refused (Blocked 6) }
     ∷ record { site = zeroSite; answer = Refused (Reach 2) }
     ∷ record { site = zeroSite; answer = Refused Size }
     ∷ badSheet 1
@@ -84,4 +88,5 @@ pub sheets-read :
 unfolding readSheet headOk cellsOfLine columnsIn starts header columns column decimal digitsOf body cellsRead badCell firstOf from lineOk
     loadOfLine scanned more
     label lineIn cellLine marksOfLine markOfLine marks rowOfLine weigh siteOfSheet loadsOfSheet rowsOfSheet judged faultOf sizeOk upTo extraLoad badRow rowBad
+    extraBlocked
 sheets-read = refl

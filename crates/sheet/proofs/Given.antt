@@ -8,7 +8,7 @@ use lib.ListN.{getD}
 use Rattle.laws.specs.Choice.{pick}
 use Rattle.site.specs.Given.{Given, asList}
 use Rattle.site.specs.declared.Fault.{Fault}
-use Rattle.site.specs.declared.Fault.the-variants.{Fine, Size, Load, Reach}
+use Rattle.site.specs.declared.Fault.the-variants.{Fine, Size, Load, Reach, Blocked}
 use Rattle.site.proofs.Given.{faultFrom}
 use Rattle.sheet.specs.Read.{readSheet}
 use Rattle.sheet.specs.Given.{sheetGiven, sheetProper}
@@ -26,6 +26,7 @@ refusal-back Fine h = absurd (false≢true h)
 refusal-back Size h = refl
 refusal-back (Load k) h = refl
 refusal-back (Reach k) h = refl
+refusal-back (Blocked k) h = refl
 
 read-back : (a : SheetAnswer) → sheetProper a ≡ true → readBack (sheetGiven a) ≡ a
 read-back Done h = refl
@@ -35,19 +36,20 @@ read-back (Refused f) h = refusal-back f h
 pub sheet-apart : (a b : SheetAnswer) → sheetProper a ≡ true → sheetProper b ≡ true → sheetGiven a ≡ sheetGiven b → a ≡ b
 sheet-apart a b p q e = sym (read-back a p) ∙ ap readBack e ∙ read-back b q
 
-proper-at : (b : List ℕ) (slots channels : ℕ) (a : SheetAnswer) → readSheet b slots channels .answer ≡ a → sheetProper a ≡ true
-proper-at b slots channels Done e = refl
-proper-at b slots channels (BadLine l) e = refl
-proper-at b slots channels (Refused Fine) e = absurd (read-told b slots channels Fine e .1 refl)
-proper-at b slots channels (Refused Size) e = refl
-proper-at b slots channels (Refused (Load k)) e = refl
-proper-at b slots channels (Refused (Reach k)) e = refl
+proper-at : (b : List ℕ) (slots channels : ℕ) (blocked : List ℕ) (a : SheetAnswer) → readSheet b slots channels blocked .answer ≡ a → sheetProper a ≡ true
+proper-at b slots channels blocked Done e = refl
+proper-at b slots channels blocked (BadLine l) e = refl
+proper-at b slots channels blocked (Refused Fine) e = absurd (read-told b slots channels blocked Fine e .1 refl)
+proper-at b slots channels blocked (Refused Size) e = refl
+proper-at b slots channels blocked (Refused (Load k)) e = refl
+proper-at b slots channels blocked (Refused (Reach k)) e = refl
+proper-at b slots channels blocked (Refused (Blocked k)) e = refl
 
-pub sheet-proper : (b : List ℕ) (slots channels : ℕ) → sheetProper (readSheet b slots channels .answer) ≡ true
-sheet-proper b slots channels = proper-at b slots channels (readSheet b slots channels .answer) refl
+pub sheet-proper : (b : List ℕ) (slots channels : ℕ) (blocked : List ℕ) → sheetProper (readSheet b slots channels blocked .answer) ≡ true
+sheet-proper b slots channels blocked = proper-at b slots channels blocked (readSheet b slots channels blocked .answer) refl
 
--- the documents' numbers and values: done; 17 with the line; 1; 3 with the row
-pub sheet-numbers : (line row : ℕ)
-    → map (λ a. asList (sheetGiven a)) (Done ∷ BadLine line ∷ Refused Size ∷ Refused (Reach row) ∷ [])
-    ≡ (0 ∷ []) ∷ (17 ∷ line ∷ []) ∷ (1 ∷ []) ∷ (3 ∷ row ∷ []) ∷ []
-sheet-numbers line row = refl
+-- the documents' numbers and values: done; 17 with the line; 1; 3 with the row; 20 with the position
+pub sheet-numbers : (line row position : ℕ)
+    → map (λ a. asList (sheetGiven a)) (Done ∷ BadLine line ∷ Refused Size ∷ Refused (Reach row) ∷ Refused (Blocked position) ∷ [])
+    ≡ (0 ∷ []) ∷ (17 ∷ line ∷ []) ∷ (1 ∷ []) ∷ (3 ∷ row ∷ []) ∷ (20 ∷ position ∷ []) ∷ []
+sheet-numbers line row position = refl

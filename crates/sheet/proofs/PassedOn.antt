@@ -13,7 +13,7 @@ use Rattle.records.proofs.PassedOn.{written-refused}
 use Rattle.site.specs.Record.{isFine, faultOf}
 use Rattle.site.specs.declared.Site.{Site}
 use Rattle.site.specs.declared.Fault.{Fault}
-use Rattle.site.specs.declared.Fault.the-variants.{Fine, Size, Load, Reach}
+use Rattle.site.specs.declared.Fault.the-variants.{Fine, Size, Load, Reach, Blocked}
 use Rattle.lines.specs.Format.{lineNumber}
 use Rattle.lines.specs.Content.{cellsOfLine, headOk}
 use Rattle.sheet.specs.Read.{from, badCell, body, siteOfSheet, judged, badSheet, cellsRead, readSheet}
@@ -30,6 +30,7 @@ no-fault-told s Fine q g e = let w = rw q at e in let z : _≡_ {A = ℕ} 0 1 = 
 no-fault-told s Size q g e = let w = rw q at e in (cc, λ y. let z : _≡_ {A = ℕ} 0 1 = cc in omega arith)
 no-fault-told s (Load k) q g e = let w = rw q at e in (cc, λ y. let z : _≡_ {A = ℕ} 0 1 = cc in omega arith)
 no-fault-told s (Reach k) q g e = let w = rw q at e in (cc, λ y. let z : _≡_ {A = ℕ} 0 1 = cc in omega arith)
+no-fault-told s (Blocked k) q g e = let w = rw q at e in (cc, λ y. let z : _≡_ {A = ℕ} 0 1 = cc in omega arith)
 
 said : (t u v : Bool) (a b c : ℕ) (j : SheetRead) (f : Fault)
     → pick t (pick u (badSheet a) (pick v (badSheet b) j)) (badSheet c) .answer ≡ read.Refused f → j .answer ≡ read.Refused f
@@ -40,12 +41,12 @@ said true false true a b c j f e = let z : _≡_ {A = ℕ} 0 1 = cc in absurd (o
 said true false false a b c j f e = e
 
 -- a refusal after 17 is the fault of the record that the lines make
-pub read-told : (b : List ℕ) (slots channels : ℕ) (f : Fault) → readSheet b slots channels .answer ≡ read.Refused f →
-    (f ≡ faultOf (siteOfSheet (cellsOfLine b) (body b) slots channels)) × (f ≡ Fine → ⊥)
+pub read-told : (b : List ℕ) (slots channels : ℕ) (blocked : List ℕ) (f : Fault) → readSheet b slots channels blocked .answer ≡ read.Refused f →
+    (f ≡ faultOf (siteOfSheet (cellsOfLine b) (body b) slots channels blocked)) × (f ≡ Fine → ⊥)
 unfolding readSheet cellsRead
-read-told b slots channels f e =
+read-told b slots channels blocked f e =
     let n = cellsOfLine b in
-    let s = siteOfSheet n (body b) slots channels in
+    let s = siteOfSheet n (body b) slots channels blocked in
     no-fault-told s (faultOf s) refl f
     (said (headOk b) (ltb (badCell n (body b)) n) (ltb 0 (length (from n (body b) n))) (lineNumber (badCell n (body b))) (lineNumber n) 1 (judged s) f e)
 

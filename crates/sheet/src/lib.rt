@@ -1,4 +1,4 @@
-// The range sheet of the fitters, read into a site and written from one. Slots and channels come beside it.
+// The range sheet of the fitters, read into a site and written from one. Slots, channels and the blocked positions come beside it.
 use lines::Head;
 use lines::Line;
 use lines::NOWHERE;
@@ -63,9 +63,16 @@ fn judge(site: Site) -> SheetRead
 }
 
 // The lines of n cells at `at`, and nothing after them.
-fn read_cells(s: &[u8], at: usize, n: usize, slots: u16, channels: u16) -> SheetRead
+fn read_cells(
+    s: &[u8],
+    at: usize,
+    n: usize,
+    slots: u16,
+    channels: u16,
+    blocked: [u64; 32],
+) -> SheetRead
     requires { ⌜ (0 < n) × (n ≤ 32) ⌝ }
-    ensures { λ r. ⌜ r ≡ cellsRead n (drop at (now (s .entry))) slots channels ⌝ }
+    ensures { λ r. ⌜ r ≡ cellsRead n (drop at (now (s .entry))) slots channels blocked ⌝ }
 {
     let mut loads = [0u16; 32];
     let mut reach = [0u32; 32];
@@ -91,12 +98,13 @@ fn read_cells(s: &[u8], at: usize, n: usize, slots: u16, channels: u16) -> Sheet
         channels,
         loads,
         reach,
+        blocked,
     })
 }
 
-// Reads a sheet.
-pub fn read_sheet(bytes: &[u8], slots: u16, channels: u16) -> SheetRead
-    ensures { λ r. ⌜ r ≡ readSheet (now (bytes .entry)) slots channels ⌝ }
+// Reads a sheet, of a site with these slots, channels and blocked positions: 17, 1, 3, then 20.
+pub fn read_sheet(bytes: &[u8], slots: u16, channels: u16, blocked: [u64; 32]) -> SheetRead
+    ensures { λ r. ⌜ r ≡ readSheet (now (bytes .entry)) slots channels blocked ⌝ }
 {
     let h = read_head(bytes);
     let at = h.next;
@@ -104,7 +112,7 @@ pub fn read_sheet(bytes: &[u8], slots: u16, channels: u16) -> SheetRead
     if at == NOWHERE {
         return bad_at(1);
     }
-    read_cells(bytes, at, n, slots, channels)
+    read_cells(bytes, at, n, slots, channels, blocked)
 }
 
 // One more, where the number is above the bound.
@@ -199,7 +207,7 @@ fn put_sheet(s: Site, out: &mut [u8]) -> Written
     Written::Done(need)
 }
 
-// Writes the sheet of a site: 1, 2, 3, then 13.
+// Writes the sheet of a site: 1, 2, 3, 20, then 13.
 pub fn write_sheet(site: Site, out: &mut [u8]) -> Written
     ensures { λ r. ⌜ r ≡ sheetWritten site (now (out .entry)) ⌝ }
     ensures { λ _. ⌜ now (out .exit) ≡ sheetOut site (now (out .entry)) ⌝ }

@@ -17,16 +17,17 @@ use Rattle.laws.specs.Bits.{bitAt}
 use Rattle.laws.proofs.Choice.{cases, refute, both, at-least}
 use Rattle.laws.proofs.Search.{first-least, first-passes, first-before, first-none, first-is}
 use Rattle.laws.proofs.Bits.{bit-above, bit-past, no-bits}
-use Rattle.site.specs.Record.{zeroSite, loadAt, rowOf, upTo, sizeOk, rowBad, extraLoad, badRow, isFine, faultOf}
+use Rattle.positions.specs.Blocked.{blockedAt}
+use Rattle.site.specs.Record.{zeroSite, loadAt, rowOf, positions, upTo, sizeOk, rowBad, extraLoad, badRow, extraBlocked, isFine, faultOf}
 use Rattle.site.specs.Reach.{reaches, clashIn, clashNamed, clashAnswer}
 use Rattle.site.specs.Edit.{orElse, loadEditFault, reachEditFault, answered, setLoadOf, reachEdited, setReachOf, clearReachOf}
-use Rattle.site.specs.Means.{UpTo, Sized, LoadBeyond, RowGood, FaultMeans, Clashing, ClashMeans, EditMeans, Two}
+use Rattle.site.specs.Means.{UpTo, Sized, LoadBeyond, BlockedBeyond, RowGood, FaultMeans, Clashing, ClashMeans, EditMeans, Two}
 use Rattle.site.specs.declared.Site.{Site}
 use Rattle.site.specs.declared.Fault.{Fault}
-use Rattle.site.specs.declared.Fault.the-variants.{Fine, Size, Load, Reach}
+use Rattle.site.specs.declared.Fault.the-variants.{Fine, Size, Load, Reach, Blocked}
 use Rattle.site.specs.declared.ClashAnswer.{ClashAnswer}
 use Rattle.site.specs.declared.ClashAnswer.the-variants.{Clear, Clash, Refused}
-use Rattle.site.proofs.Faults.{fine-is, up-to, up-to-is, sized, sizes-is}
+use Rattle.site.proofs.Faults.{fine-is, up-to, up-to-is, sized, sizes-is, few-positions}
 use Rattle.site.proofs.Accepted.{row-ok, ok-row, row-none}
 use Rattle.site.proofs.PassedOn.{clash-refused}
 
@@ -35,8 +36,9 @@ use Rattle.site.proofs.PassedOn.{clash-refused}
 pub zeros : (zeroSite .cells ≡ 0) × (zeroSite .slots ≡ 0) × (zeroSite .channels ≡ 0)
     × (zeroSite .loads ≡ 0 ∷ 0 ∷ 0 ∷ 0 ∷ 0 ∷ 0 ∷ 0 ∷ 0 ∷ 0 ∷ 0 ∷ 0 ∷ 0 ∷ 0 ∷ 0 ∷ 0 ∷ 0 ∷ 0 ∷ 0 ∷ 0 ∷ 0 ∷ 0 ∷ 0 ∷ 0 ∷ 0 ∷ 0 ∷ 0 ∷ 0 ∷ 0 ∷ 0 ∷ 0 ∷ 0 ∷ 0 ∷ [])
     × (zeroSite .reach ≡ 0 ∷ 0 ∷ 0 ∷ 0 ∷ 0 ∷ 0 ∷ 0 ∷ 0 ∷ 0 ∷ 0 ∷ 0 ∷ 0 ∷ 0 ∷ 0 ∷ 0 ∷ 0 ∷ 0 ∷ 0 ∷ 0 ∷ 0 ∷ 0 ∷ 0 ∷ 0 ∷ 0 ∷ 0 ∷ 0 ∷ 0 ∷ 0 ∷ 0 ∷ 0 ∷ 0 ∷ 0 ∷ [])
+    × (zeroSite .blocked ≡ 0 ∷ 0 ∷ 0 ∷ 0 ∷ 0 ∷ 0 ∷ 0 ∷ 0 ∷ 0 ∷ 0 ∷ 0 ∷ 0 ∷ 0 ∷ 0 ∷ 0 ∷ 0 ∷ 0 ∷ 0 ∷ 0 ∷ 0 ∷ 0 ∷ 0 ∷ 0 ∷ 0 ∷ 0 ∷ 0 ∷ 0 ∷ 0 ∷ 0 ∷ 0 ∷ 0 ∷ 0 ∷ [])
 unfolding zeroSite
-zeros = (refl, refl, refl, refl, refl)
+zeros = (refl, refl, refl, refl, refl, refl)
 
 -- ---- rows
 
@@ -117,25 +119,53 @@ module _ (s : Site) where
       let bad : row-bad (badRow s) ≡ true = first-passes row-bad 0 32 (omega arith) l in
       true≢false (sym bad ∙ (rw (back (badRow s)) at (good-row s (badRow s + 1) (omega arith) g)))
 
-  means-at : (t u v : Bool) → sizeOk (s .cells) (s .slots) (s .channels) ≡ t → ltb (extraLoad s) 32 ≡ u → ltb (badRow s) 32 ≡ v
-      → FaultMeans s (pick t (pick u (Load (extraLoad s + 1)) (pick v (Reach (badRow s + 1)) Fine)) Size)
-  means-at false u v p q r = λ z. true≢false (sym (sizes-is _ _ _ z) ∙ p)
-  means-at true true v p q r =
+  abbrev blocked-at : ℕ → Bool
+  blocked-at = blockedAt (s .blocked)
+
+  -- no position is blocked past the site's before the one that the search finds
+  none-blocked : (k : ℕ) → k < extraBlocked s → BlockedBeyond s k → ⊥
+  unfolding extraBlocked
+  none-blocked k l (past, most, set) = true≢false (sym (eq-eqb _ _ set) ∙ first-before blocked-at (positions s) 2048 k past l)
+
+  found-blocked : positions s ≤ 2048 → extraBlocked s < 2048 → BlockedBeyond s (extraBlocked s)
+  unfolding extraBlocked
+  found-blocked few l = (first-least blocked-at (positions s) 2048, l, eqb-true _ _ (first-passes blocked-at (positions s) 2048 few l))
+
+  means-at : (t u v w : Bool) → sizeOk (s .cells) (s .slots) (s .channels) ≡ t → ltb (extraLoad s) 32 ≡ u → ltb (badRow s) 32 ≡ v
+      → ltb (extraBlocked s) 2048 ≡ w
+      → FaultMeans s (pick t (pick u (Load (extraLoad s + 1)) (pick v (Reach (badRow s + 1)) (pick w (Blocked (extraBlocked s)) Fine))) Size)
+  means-at false u v w p q r x = λ z. true≢false (sym (sizes-is _ _ _ z) ∙ p)
+  means-at true true v w p q r x =
       let z = sized s p in
       (z, found-load (z .cells-most) (ltb-true _ _ q), λ k l. none-before k (omega arith))
-  means-at true false true p q r =
+  means-at true false true w p q r x =
       let l : 32 ≤ extraLoad s = ltb-false _ _ q in
       let b : badRow s < 32 = ltb-true _ _ r in
       (sized s p, (λ k h. none-before k (omega (arith, h .1)) h), (omega arith, omega arith), found-row b, λ k some m. good-before k some (omega arith))
-  means-at true false false p q r =
+  means-at true false false true p q r x =
       let l : 32 ≤ extraLoad s = ltb-false _ _ q in
       let b : 32 ≤ badRow s = ltb-false _ _ r in
-      (sized s p, (λ k h. none-before k (omega (arith, h .1)) h), λ k u. good-before k (u .0) (omega (arith, u .1)))
+      let z = sized s p in (
+        z,
+        (λ k h. none-before k (omega (arith, h .1)) h),
+        (λ k u. good-before k (u .0) (omega (arith, u .1))),
+        found-blocked (few-positions z) (ltb-true _ _ x),
+        none-blocked,
+      )
+  means-at true false false false p q r x =
+      let l : 32 ≤ extraLoad s = ltb-false _ _ q in
+      let b : 32 ≤ badRow s = ltb-false _ _ r in
+      let e : 2048 ≤ extraBlocked s = ltb-false _ _ x in (
+        sized s p,
+        (λ k h. none-before k (omega (arith, h .1)) h),
+        (λ k u. good-before k (u .0) (omega (arith, u .1))),
+        λ k h. none-blocked k (omega (arith, h .1)) h,
+      )
 
   -- the fault that a record has means what is the case ..
   pub fault-means : FaultMeans s (faultOf s)
   unfolding faultOf
-  fault-means = means-at (sizeOk (s .cells) (s .slots) (s .channels)) (ltb (extraLoad s) 32) (ltb (badRow s) 32) refl refl refl
+  fault-means = means-at (sizeOk (s .cells) (s .slots) (s .channels)) (ltb (extraLoad s) 32) (ltb (badRow s) 32) (ltb (extraBlocked s) 2048) refl refl refl refl
 
   no-load : Sized s → ((k : ℕ) → LoadBeyond s k → ⊥) → extraLoad s ≡ 32
   unfolding extraLoad
@@ -146,9 +176,13 @@ module _ (s : Site) where
   good-at : (j : ℕ) → RowGood s (j + 1) → row-bad j ≡ false
   good-at j g = rw (back j) at (good-row s (j + 1) (omega arith) g)
 
+  no-row : ((k : ℕ) → UpTo 32 k → RowGood s k) → badRow s ≡ 32
+  unfolding badRow
+  no-row good = first-none row-bad 0 32 (omega arith) (λ j l h. good-at j (good (j + 1) (omega arith, omega arith)))
+
   -- .. and the one that means what is the case is the one that it has
   pub fault-only : (f : Fault) → FaultMeans s f → faultOf s ≡ f
-  unfolding faultOf extraLoad badRow
+  unfolding faultOf extraLoad badRow extraBlocked
   fault-only Size n = rw (refute (sizeOk (s .cells) (s .slots) (s .channels)) (λ e. n (sized s e)))
   fault-only (Load c) (z, (past, most, set), low) =
       let e : extraLoad s ≡ c - 1 = first-is load-set (s .cells) (c - 1) 32 (omega arith) (omega arith) (lt-ltb 0 (loadAt s (c - 1)) (omega arith))
@@ -165,9 +199,14 @@ module _ (s : Site) where
       is-true : (b : Bool) → (b ≡ false → ⊥) → b ≡ true
       is-true true h = refl
       is-true false h = absurd (h refl)
-  fault-only Fine (z, none, good) =
-      let e : badRow s ≡ 32 = first-none row-bad 0 32 (omega arith) (λ j l h. good-at j (good (j + 1) (omega arith, omega arith))) in
-      simp (sizes-is _ _ _ z, no-load z none, e)
+  fault-only (Blocked k) (z, none, good, (past, most, set), low) =
+      let e : extraBlocked s ≡ k = first-is blocked-at (positions s) k 2048 past most (eq-eqb _ _ set)
+      (λ j l h. refute (blocked-at j) (λ q. low j h (l, omega arith, eqb-true _ _ q))) in
+      simp (sizes-is _ _ _ z, no-load z none, no-row good, e, lt-ltb k 2048 most)
+  fault-only Fine (z, none, good, free) =
+      let e : extraBlocked s ≡ 2048 = first-none blocked-at (positions s) 2048 (few-positions z)
+      (λ j l h. refute (blocked-at j) (λ q. free j (l, h, eqb-true _ _ q))) in
+      simp (sizes-is _ _ _ z, no-load z none, no-row good, e)
 
 -- ---- clash
 
@@ -214,6 +253,7 @@ module _ (s : Site) (a b : ℕ) where
   clash-at Size t p q = (p, λ e. true≢false (sym (ap isFine e)))
   clash-at (Load k) t p q = (p, λ e. true≢false (sym (ap isFine e)))
   clash-at (Reach k) t p q = (p, λ e. true≢false (sym (ap isFine e)))
+  clash-at (Blocked k) t p q = (p, λ e. true≢false (sym (ap isFine e)))
 
   pub clash-means : ClashMeans s a b (clashAnswer s a b)
   unfolding clashAnswer

@@ -14,7 +14,7 @@ use Rattle.site.specs.Record.{isFine, faultOf}
 use Rattle.site.specs.Reach.{clashNamed, clashAnswer}
 use Rattle.site.specs.declared.Site.{Site}
 use Rattle.site.specs.declared.Fault.{Fault}
-use Rattle.site.specs.declared.Fault.the-variants.{Fine, Size, Load, Reach}
+use Rattle.site.specs.declared.Fault.the-variants.{Fine, Size, Load, Reach, Blocked}
 use Rattle.site.specs.declared.ClashAnswer.the-variants.{Clear, Clash, Refused}
 
 -- For an answer type A whose refusals tell their faults apart: a call whose answer for a record with no fault is no refusal.
@@ -36,6 +36,7 @@ proper-call proper refused only Fine done h = h
 proper-call proper refused only Size done h = only Size
 proper-call proper refused only (Load k) done h = only (Load k)
 proper-call proper refused only (Reach k) done h = only (Reach k)
+proper-call proper refused only (Blocked k) done h = only (Blocked k)
 
 -- and of two ways, where both are proper
 pub proper-either : {A : Type 0} (proper : A → Bool) (t : Bool) (a b : A) → proper a ≡ true → proper b ≡ true → proper (pick t a b) ≡ true

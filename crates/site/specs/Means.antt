@@ -1,6 +1,6 @@
 -- What the definitions of this crate mean, said a second time: over bare numbers and bits, with cells and rows numbered from 1 where the document numbers them.
 -- proofs/ shows that each definition says this and nothing else.
-use Prim.Native.Nat.{ℕ, _-_, _/_, _%_, _^_, _≤_, _<_}
+use Prim.Native.Nat.{ℕ, _-_, _*_, _/_, _%_, _^_, _≤_, _<_}
 use mathlib.Core.Bool.{Bool, _&&_}
 use mathlib.Core.Logic.{_⊎_}
 use mathlib.Core.Path.{_≡_}
@@ -11,7 +11,7 @@ use Rattle.site.specs.Record.{loadAt, faultOf}
 use Rattle.site.specs.Reach.{reaches}
 use Rattle.site.specs.declared.Site.{Site}
 use Rattle.site.specs.declared.Fault.{Fault}
-use Rattle.site.specs.declared.Fault.the-variants.{Fine, Size, Load, Reach}
+use Rattle.site.specs.declared.Fault.the-variants.{Fine, Size, Load, Reach, Blocked}
 use Rattle.site.specs.declared.ClashAnswer.{ClashAnswer}
 use Rattle.site.specs.declared.ClashAnswer.the-variants.{Clear, Clash, Refused}
 
@@ -47,13 +47,21 @@ pub record RowGood (s : Site) (row : ℕ) : Type 0 where
   pub within : (b : ℕ) → s .cells < b → Reaches s row b → ⊥
   pub others : Reaches s row row → ⊥
 
--- which fault is a record's: 1, then 2 with the "lowest such cell", then 3 with the "lowest row"
+-- W8: "blocked bit at or past FT": of this position, "bit k % 64 of word k / 64"
+abbrev pub BlockedBeyond : Site → ℕ → Type 0
+BlockedBeyond s k = (s .slots * s .channels ≤ k) × (k < 2048) × (getD (s .blocked) (k / 64) 0 / 2 ^ (k % 64) % 2 ≡ 1)
+
+-- which fault is a record's: 1, then 2 with the "lowest such cell", then 3 with the "lowest row", then 20 with the lowest position
 abbrev pub FaultMeans : Site → Fault → Type 0
 FaultMeans s Size = Sized s → ⊥
 FaultMeans s (Load cell) = Sized s × LoadBeyond s cell × ((k : ℕ) → k < cell → LoadBeyond s k → ⊥)
 FaultMeans s (Reach row) =
     Sized s × ((k : ℕ) → LoadBeyond s k → ⊥) × UpTo 32 row × (RowGood s row → ⊥) × ((k : ℕ) → 1 ≤ k → k < row → RowGood s k)
-FaultMeans s Fine = Sized s × ((k : ℕ) → LoadBeyond s k → ⊥) × ((k : ℕ) → UpTo 32 k → RowGood s k)
+FaultMeans s (Blocked k) =
+    Sized s × ((j : ℕ) → LoadBeyond s j → ⊥) × ((j : ℕ) → UpTo 32 j → RowGood s j)
+    × BlockedBeyond s k × ((j : ℕ) → j < k → BlockedBeyond s j → ⊥)
+FaultMeans s Fine =
+    Sized s × ((k : ℕ) → LoadBeyond s k → ⊥) × ((k : ℕ) → UpTo 32 k → RowGood s k) × ((k : ℕ) → BlockedBeyond s k → ⊥)
 
 -- ---- clash
 
@@ -89,6 +97,7 @@ pub record LoadChanged (s t : Site) (cell v : ℕ) : Type 0 where
   pub cells : t .cells ≡ s .cells
   pub slots : t .slots ≡ s .slots
   pub channels : t .channels ≡ s .channels
+  pub blocked : t .blocked ≡ s .blocked
 
 -- a reach edit: that reach, to `now`, and nothing else
 pub record ReachChanged (s t : Site) (from to : ℕ) (now : Bool) : Type 0 where
@@ -97,3 +106,4 @@ pub record ReachChanged (s t : Site) (from to : ℕ) (now : Bool) : Type 0 where
   pub cells : t .cells ≡ s .cells
   pub slots : t .slots ≡ s .slots
   pub channels : t .channels ≡ s .channels
+  pub blocked : t .blocked ≡ s .blocked

@@ -1,40 +1,52 @@
 -- The site file of a site in order, taken apart record by record: reading it gives the site, and the file of a site that was read is the bytes that were read.
 -- Each record that is written is read back with what follows it, and each that is open is written again as it was (`RecordTrip` of the records).
 -- Assumes nothing.
-use Prim.Native.Nat.{ℕ, zero, suc, _+_, _-_, _*_, _%_, _≤_, _<_}
-use mathlib.Core.Path.{_≡_, refl, sym, ap, _∙_}
+use Prim.Native.Nat.{ℕ, _+_, _-_, _*_, _%_, _≤_, _<_}
+use mathlib.Core.Path.{_≡_, refl, sym, ap, ap₂, _∙_}
+use mathlib.Core.Bool.{Bool, true, false}
 use mathlib.Core.List.{List, [], _∷_, _++_, append-nil}
+use mathlib.Core.Logic.{⊎-elim}
 use native.Mathlib.Nat.{zero-add}
+use native.Mathlib.Decide.{decLt}
 use native.Mathlib.Omega.{arith}
-use lib.ListN.{length, getD, take, drop, replicate, getD-replicate, length-drop, take-append-drop, drop-of-length-le}
+use lib.ListN.{length, getD, take, drop, replicate, getD-replicate, length-append, length-drop, take-append-drop, drop-of-length-le}
 use lib.Seq.{sets, sets-eq, length-sets, getD-drop, length-take-le, ext-getD}
-use borrow.Author.Tests.{ltb-false, le-ltb}
+use borrow.Author.Tests.{ltb-false, lt-ltb, le-ltb}
+use Rattle.laws.specs.Choice.{pick}
+use Rattle.laws.proofs.Choice.{cases}
 use Rattle.laws.proofs.Stores.{take-sets, sets-past}
+use Rattle.positions.specs.Blocked.{mostPositions, emptySet}
+use Rattle.records.specs.Bits.{bytesFor, leftOver}
 use Rattle.records.specs.Bytes.{Bytes, le16, twoBytesEach, numbersIn}
 use Rattle.records.specs.Layout.{recordOf, bodyAt, recordEnd}
-use Rattle.records.specs.Reasons.{firstReason, endReason}
+use Rattle.records.specs.Reasons.{firstReason, recordReasons, NoneApply}
 use Rattle.records.specs.Head.{cellsOfHead, slotsOfHead, channelsOfHead, headRecord, headAnswer}
 use Rattle.records.specs.declared.ReadAnswer.{ReadAnswer}
 use Rattle.records.specs.declared.ReadAnswer.the-variants.{Done, Refused}
 use Rattle.records.specs.declared.Length.the-variants.{Exact, Pairs}
 use Rattle.records.proofs.Laws.{Opening, record-open, exact, even, exact-true, pairs-true, length-least}
 use Rattle.records.proofs.Bytes.{bytes-drop, bytes-take, two-bytes-length, numbers-length, numbers-trip, bytes-trip}
-use Rattle.records.proofs.Reasons.{andThen, both-done, done-none}
+use Rattle.records.proofs.Reasons.{andThen, both-done, done-none, none-done}
 use Rattle.records.proofs.Head.{HeadGood, head-read, head-done}
 use Rattle.records.proofs.RecordTrip.{record-body, rest-back, record-back, body-length, record-again, head-again}
-use Rattle.site.specs.Record.{sizeOk, siteOf}
+use Rattle.site.specs.Record.{positions, sizeOk, siteOf}
 use Rattle.site.specs.declared.Site.{Site}
-use Rattle.site.proofs.Faults.{Sizes, sizes, sizes-is}
-use Rattle.sitefile.specs.Reasons.{loadsAt, reachAt, loadsReasons, pairReasons}
-use Rattle.sitefile.specs.Read.{allZero, loadsOfBody, reachOfBody, siteOfFile, siteAnswer}
-use Rattle.sitefile.specs.Loop.{pairsReadOf, pairsRead}
+use Rattle.site.proofs.Faults.{Sizes, sizes, sizes-is, few-positions}
+use Rattle.sitefile.specs.Blocks.{blockedOfBody, blockBytes, nothingIn, blockRecord}
+use Rattle.sitefile.specs.Reasons.{loadsAt, reachAt, lastAt, positionsOfHead, loadsReasons, pairReasons, reachReasons, blockReasons, lastReasons}
+use Rattle.sitefile.specs.Read.{allZero, loadsOfBody, reachOfBody, blockedOr, siteOfFile, siteAnswer}
+use Rattle.sitefile.specs.Loop.{pairsReadOf, pairsRead, blocksRead}
 use Rattle.sitefile.specs.Write.{pairBytes, siteBytes}
 use Rattle.sitefile.specs.declared.PairsRead.{PairsRead}
+use Rattle.sitefile.specs.declared.BlocksRead.{BlocksRead}
 use Rattle.sitefile.proofs.WriteLaws.{pair-bytes-even}
 use Rattle.sitefile.proofs.Rows.{Rows}
 use Rattle.sitefile.proofs.PairTrip.{Named, rowsRead, pairs-read, pairs-written}
 use Rattle.sitefile.proofs.PairReasons.{pairs-way}
-use Rattle.sitefile.proofs.Reasons.{lastReasons, last-parts, site-parts}
+use Rattle.sitefile.proofs.Blocks.{SetHeld, zeros-at, nothing-empty, empty-held, empty-is, body-held, bytes-length, bytes-set, none-left, set-bytes}
+use Rattle.sitefile.proofs.Blocks.{block-none, block-some}
+use Rattle.sitefile.proofs.Reasons.{reach-parts, site-parts}
+use Rattle.sitefile.proofs.ReadLaws.{last-none, blocks-told, blocks-given, blocks-done, body-long}
 
 -- a site whose record is in order
 pub record GoodSite (s : Site) : Type 0 where
@@ -43,6 +55,7 @@ pub record GoodSite (s : Site) : Type 0 where
   pub unused : (k : ℕ) → s .cells ≤ k → getD (s .loads) k 0 ≡ 0
   pub rows : Rows (s .reach)
   pub named : Named (s .cells) (s .reach)
+  pub blocked : SetHeld (s .blocked) (positions s)
 
 -- the used loads, and zeros after them
 loads-over :
@@ -90,19 +103,22 @@ module _ (s : Site) (good : GoodSite s) where
   l-length : length L ≡ 2 * s .cells
   l-length = two-bytes-length (take (s .cells) (s .loads)) ∙ ap (λ (k : ℕ). 2 * k) (length-take-le (s .cells) (s .loads) (omega (arith, in-order, good .size)))
 
+  abbrev E : List ℕ
+  E = blockRecord (s .blocked) (positions s)
+
   -- where each record stands
-  head-here : drop 0 B ≡ headRecord (s .cells) (s .slots) (s .channels) ++ (recordOf 2 L ++ recordOf 3 P)
+  head-here : drop 0 B ≡ headRecord (s .cells) (s .slots) (s .channels) ++ (recordOf 2 L ++ (recordOf 3 P ++ E))
   unfolding siteBytes
   head-here = refl
 
-  loads-here : drop (loadsAt B) B ≡ recordOf 2 L ++ recordOf 3 P
-  loads-here = rest-back B 0 1 (twoBytesEach (s .cells ∷ s .slots ∷ s .channels ∷ [])) (recordOf 2 L ++ recordOf 3 P) head-here
+  loads-here : drop (loadsAt B) B ≡ recordOf 2 L ++ (recordOf 3 P ++ E)
+  loads-here = rest-back B 0 1 (twoBytesEach (s .cells ∷ s .slots ∷ s .channels ∷ [])) (recordOf 2 L ++ (recordOf 3 P ++ E)) head-here
 
-  reach-here : drop (reachAt B) B ≡ recordOf 3 P ++ []
-  reach-here = rest-back B (loadsAt B) 2 L (recordOf 3 P) loads-here ∙ sym (append-nil (recordOf 3 P))
+  reach-here : drop (reachAt B) B ≡ recordOf 3 P ++ E
+  reach-here = rest-back B (loadsAt B) 2 L (recordOf 3 P ++ E) loads-here
 
-  no-more : drop (recordEnd B (reachAt B)) B ≡ []
-  no-more = rest-back B (reachAt B) 3 P [] reach-here
+  last-here : drop (lastAt B) B ≡ E
+  last-here = rest-back B (reachAt B) 3 P E reach-here
 
   cells-back : cellsOfHead B ≡ s .cells
   unfolding siteBytes
@@ -120,14 +136,14 @@ module _ (s : Site) (good : GoodSite s) where
   head-good : headAnswer B ≡ Done
   head-good =
       head-done B
-      (record-back B 0 1 (twoBytesEach (s .cells ∷ s .slots ∷ s .channels ∷ [])) (recordOf 2 L ++ recordOf 3 P) head-here
+      (record-back B 0 1 (twoBytesEach (s .cells ∷ s .slots ∷ s .channels ∷ [])) (recordOf 2 L ++ (recordOf 3 P ++ E)) head-here
       (Exact 8) (exact-true 8 (omega arith)))
       ((λ j. sizeOk (cells-back j) (slots-back j) (channels-back j)) ∙ sizes-is _ _ _ (good .range))
 
   loads-good : firstReason (loadsReasons B (loadsAt B) (cellsOfHead B)) ≡ Done
   loads-good =
       let n : 2 + length L ≡ 2 + 2 * cellsOfHead B = omega (arith, l-length, cells-back) in
-      record-back B (loadsAt B) 2 L (recordOf 3 P) loads-here (Exact (2 + 2 * cellsOfHead B)) (rw n (exact-true (2 + 2 * cellsOfHead B) (omega arith)))
+      record-back B (loadsAt B) 2 L (recordOf 3 P ++ E) loads-here (Exact (2 + 2 * cellsOfHead B)) (rw n (exact-true (2 + 2 * cellsOfHead B) (omega arith)))
 
   pairs-back : (at : ℕ) → (firstReason (pairReasons (s .cells) at 0 0 P) ≡ Done) × (reachOfBody P ≡ s .reach)
   unfolding pairsRead
@@ -136,40 +152,103 @@ module _ (s : Site) (good : GoodSite s) where
       (sym (pairs-way (s .cells) at in-order P) ∙ pairs-read (s .cells) at (s .reach) (good .rows) (good .named))
 
   reach-body : bodyAt B (reachAt B) ≡ P
-  reach-body = record-body B (reachAt B) 3 P [] reach-here
+  reach-body = record-body B (reachAt B) 3 P E reach-here
 
-  last-good : firstReason (lastReasons B (reachAt B) (cellsOfHead B)) ≡ Done
-  unfolding firstReason
-  last-good =
+  reach-good : firstReason (reachReasons B (reachAt B) (cellsOfHead B)) ≡ Done
+  reach-good =
       let fits = pairs-true (2 + length P) (omega arith) (omega (arith, pair-bytes-even (s .reach))) in
-      let open-3 = record-back B (reachAt B) 3 P [] reach-here Pairs fits in
+      let open-3 = record-back B (reachAt B) 3 P E reach-here Pairs fits in
       let pairs : firstReason (pairReasons (cellsOfHead B) (reachAt B) 0 0 (bodyAt B (reachAt B))) ≡ Done =
       (λ j. firstReason (pairReasons (cells-back j) (reachAt B) 0 0 (reach-body j))) ∙ pairs-back (reachAt B) .0 in
-      let ended : length B - recordEnd B (reachAt B) ≡ 0 = sym (length-drop (recordEnd B (reachAt B)) B) ∙ ap length no-more in
-      let last : firstReason (endReason B (recordEnd B (reachAt B)) ∷ []) ≡ Done = rw (le-ltb (recordEnd B (reachAt B)) (length B) (omega arith)) refl in
-      last-parts B (reachAt B) (cellsOfHead B)
-      ∙ ap (λ (a : ReadAnswer). andThen a (andThen (firstReason (pairReasons (cellsOfHead B) (reachAt B) 0 0 (bodyAt B (reachAt B))))
-      (firstReason (endReason B (recordEnd B (reachAt B)) ∷ [])))) open-3
-      ∙ ap (λ (a : ReadAnswer). andThen a (firstReason (endReason B (recordEnd B (reachAt B)) ∷ []))) pairs
-      ∙ last
+      reach-parts B (reachAt B) (cellsOfHead B)
+      ∙ ap (λ (a : ReadAnswer). andThen a (firstReason (pairReasons (cellsOfHead B) (reachAt B) 0 0 (bodyAt B (reachAt B))))) open-3
+      ∙ pairs
+
+  -- kind 6: absent where nothing is blocked, and else in order
+  many : positions s ≤ mostPositions
+  many = few-positions (good .range)
+
+  positions-back : positionsOfHead B ≡ positions s
+  positions-back = ap₂ (λ (x y : ℕ). x * y) slots-back channels-back
+
+  abbrev as-read : BlocksRead
+  as-read = record { blocked = s .blocked; answer = Done }
+
+  none-back : nothingIn (s .blocked) ≡ true → as-read ≡ blocksRead B (lastAt B) (positionsOfHead B)
+  none-back e =
+      let ended : length B - lastAt B ≡ 0 = sym (length-drop (lastAt B) B) ∙ ap length (last-here ∙ block-none (s .blocked) (positions s) e) in
+      (λ j. record { blocked = empty-is (s .blocked) (positions s) (good .blocked) e j; answer = Done })
+      ∙ last-none B (lastAt B) (positionsOfHead B) (omega arith)
+
+  module _ (some : nothingIn (s .blocked) ≡ false) where
+    abbrev Q : List ℕ
+    Q = blockBytes (s .blocked) (positions s)
+
+    block-here : drop (lastAt B) B ≡ recordOf 6 Q ++ []
+    block-here = last-here ∙ block-some (s .blocked) (positions s) some ∙ sym (append-nil (recordOf 6 Q))
+
+    block-body : bodyAt B (lastAt B) ≡ Q
+    block-body = record-body B (lastAt B) 6 Q [] block-here
+
+    block-due : lastAt B < length B
+    block-due =
+        let n : length (recordOf 6 Q ++ []) ≡ 4 + length Q = simp length-append (omega arith) in
+        let d : length B - lastAt B ≡ 4 + length Q = sym (length-drop (lastAt B) B) ∙ ap length block-here ∙ n in
+        omega arith
+
+    block-open : firstReason (recordReasons B (lastAt B) 6 (Exact (2 + bytesFor (positionsOfHead B)))) ≡ Done
+    block-open =
+        let n : 2 + length Q ≡ 2 + bytesFor (positionsOfHead B) =
+        ap (λ (k : ℕ). 2 + k) (bytes-length (s .blocked) (positions s) ∙ ap bytesFor (sym positions-back)) in
+        record-back B (lastAt B) 6 Q [] block-here (Exact (2 + bytesFor (positionsOfHead B)))
+        (rw n (exact-true (2 + bytesFor (positionsOfHead B)) (omega arith)))
+
+    block-left : leftOver (bodyAt B (lastAt B)) (positionsOfHead B) ≡ false
+    block-left = (λ j. leftOver (block-body j) (positions-back j)) ∙ none-left (s .blocked) (positions s) many (good .blocked)
+
+    block-set : blockedOfBody (bodyAt B (lastAt B)) ≡ s .blocked
+    block-set = ap blockedOfBody block-body ∙ bytes-set (s .blocked) (positions s) (good .blocked)
+
+    block-whole : length B ≤ recordEnd B (lastAt B)
+    block-whole =
+        let ended : length B - recordEnd B (lastAt B) ≡ 0 =
+        sym (length-drop (recordEnd B (lastAt B)) B) ∙ ap length (rest-back B (lastAt B) 6 Q [] block-here) in
+        omega arith
+
+    some-back : as-read ≡ blocksRead B (lastAt B) (positionsOfHead B)
+    some-back =
+        (λ j. record { blocked = sym block-set j; answer = Done })
+        ∙ blocks-done B (lastAt B) (positionsOfHead B) block-due block-open block-left (ap (λ (l : List ℕ). nothingIn l) block-set ∙ some) block-whole
+
+  blocks-back : as-read ≡ blocksRead B (lastAt B) (positionsOfHead B)
+  blocks-back = ⊎-elim none-back some-back (cases (nothingIn (s .blocked)))
+
+  last-good : firstReason (lastReasons B (lastAt B) (positionsOfHead B)) ≡ Done
+  last-good = blocks-told B (lastAt B) (positionsOfHead B) as-read blocks-back
 
   pub written-accepted : siteAnswer B ≡ Done
   written-accepted =
       site-parts B
       ∙ ap (λ (a : ReadAnswer). andThen a (andThen (firstReason (loadsReasons B (loadsAt B) (cellsOfHead B)))
-      (firstReason (lastReasons B (reachAt B) (cellsOfHead B))))) head-good
-      ∙ ap (λ (a : ReadAnswer). andThen a (firstReason (lastReasons B (reachAt B) (cellsOfHead B)))) loads-good
+      (andThen (firstReason (reachReasons B (reachAt B) (cellsOfHead B))) (firstReason (lastReasons B (lastAt B) (positionsOfHead B)))))) head-good
+      ∙ ap (λ (a : ReadAnswer). andThen a (andThen (firstReason (reachReasons B (reachAt B) (cellsOfHead B)))
+      (firstReason (lastReasons B (lastAt B) (positionsOfHead B))))) loads-good
+      ∙ ap (λ (a : ReadAnswer). andThen a (firstReason (lastReasons B (lastAt B) (positionsOfHead B)))) reach-good
       ∙ last-good
 
   loads-stated : loadsOfBody (bodyAt B (loadsAt B)) ≡ s .loads
   loads-stated =
-      ap loadsOfBody (record-body B (loadsAt B) 2 L (recordOf 3 P) loads-here)
+      ap loadsOfBody (record-body B (loadsAt B) 2 L (recordOf 3 P ++ E) loads-here)
       ∙ ap (sets allZero 0) (numbers-trip (take (s .cells) (s .loads)))
       ∙ loads-back (s .cells) (s .loads) in-order (good .size) (good .unused)
 
+  blocked-stated : blockedOr B (lastAt B) ≡ s .blocked
+  blocked-stated = sym (blocks-given B (lastAt B) (positionsOfHead B) as-read blocks-back refl)
+
   pub written-stated : siteOfFile B ≡ s
   unfolding siteOfFile
-  written-stated = λ j. siteOf (cells-back j) (slots-back j) (channels-back j) (loads-stated j) ((ap reachOfBody reach-body ∙ pairs-back 0 .1) j)
+  written-stated =
+      λ j. siteOf (cells-back j) (slots-back j) (channels-back j) (loads-stated j) ((ap reachOfBody reach-body ∙ pairs-back 0 .1) j) (blocked-stated j)
 
 -- what an accepted file tells: each record is open, its contents are in order, and nothing follows the last
 pub record Accepted (b : List ℕ) : Type 0 where
@@ -177,26 +256,21 @@ pub record Accepted (b : List ℕ) : Type 0 where
   pub loads : Opening b (loadsAt b) 2 (Exact (2 + 2 * cellsOfHead b)) (loadsAt b + 4) (le16 b (loadsAt b) - 2)
   pub reach : Opening b (reachAt b) 3 Pairs (reachAt b + 4) (le16 b (reachAt b) - 2)
   pub pairs : firstReason (pairReasons (cellsOfHead b) (reachAt b) 0 0 (bodyAt b (reachAt b))) ≡ Done
-  pub whole : length b ≤ recordEnd b (reachAt b)
+  pub last : firstReason (lastReasons b (lastAt b) (positionsOfHead b)) ≡ Done
 
 pub accepted : (b : List ℕ) → siteAnswer b ≡ Done → Accepted b
 accepted b e =
     let h = both-done _ _ (sym (site-parts b) ∙ e) in
     let l = both-done _ _ (h .1) in
-    let r = both-done _ _ (sym (last-parts b (reachAt b) (cellsOfHead b)) ∙ l .1) in
-    let p = both-done _ _ (r .1) in
+    let k = both-done _ _ (l .1) in
+    let r = both-done _ _ (sym (reach-parts b (reachAt b) (cellsOfHead b)) ∙ k .0) in
     record {
       head = head-read b (h .0);
       loads = record-open b (loadsAt b) 2 (Exact (2 + 2 * cellsOfHead b)) (l .0);
       reach = record-open b (reachAt b) 3 Pairs (r .0);
-      pairs = p .0;
-      whole = ltb-false (recordEnd b (reachAt b)) (length b) (done-none (endReason b (recordEnd b (reachAt b)) ∷ []) (p .1) .0);
+      pairs = r .1;
+      last = k .1;
     }
-
-zeros-at : (n k : ℕ) → _≡_ {A = ℕ} (getD (replicate n 0) k 0) 0
-zeros-at zero k = refl
-zeros-at (suc n) zero = refl
-zeros-at (suc n) (suc k) = zeros-at n k
 
 module _ (b : List ℕ) (bytes : Bytes b) (done : siteAnswer b ≡ Done) where
   a : Accepted b
@@ -237,21 +311,91 @@ module _ (b : List ℕ) (bytes : Bytes b) (done : siteAnswer b ≡ Done) where
       pairs-written (cellsOfHead b) (reachAt b) (range .cells-most) (reachOfBody Y) Y y-even
       (pairs-way (cellsOfHead b) (reachAt b) (range .cells-most) Y ∙ ap (pairsReadOf (reachOfBody Y)) (a .pairs))
 
+  -- kind 6, or nothing
+  abbrev N : ℕ
+  N = positionsOfHead b
+
+  many-read : N ≤ mostPositions
+  many-read = few-positions range
+
+  -- the file ends after kind 3
+  module _ (ended : length b ≤ lastAt b) where
+    none-read : blockedOr b (lastAt b) ≡ emptySet
+    unfolding blockedOr
+    none-read = ap (λ (t : Bool). pick t (blockedOfBody (bodyAt b (lastAt b))) emptySet) (le-ltb (lastAt b) (length b) ended)
+
+    none-again : blockRecord (blockedOr b (lastAt b)) N ≡ drop (lastAt b) b
+    none-again =
+        ap (λ (l : List ℕ). blockRecord l N) none-read
+        ∙ block-none emptySet N nothing-empty
+        ∙ sym (drop-of-length-le b {i = lastAt b} ended)
+
+    none-held : SetHeld (blockedOr b (lastAt b)) N
+    none-held = rw none-read (empty-held N)
+
+  -- a byte makes kind 6 due
+  module _ (due : lastAt b < length b) where
+    abbrev W : List ℕ
+    W = bodyAt b (lastAt b)
+
+    due-read : blockedOr b (lastAt b) ≡ blockedOfBody W
+    unfolding blockedOr
+    due-read = ap (λ (t : Bool). pick t (blockedOfBody W) emptySet) (lt-ltb (lastAt b) (length b) due)
+
+    due-reasons : lastReasons b (lastAt b) N ≡ blockReasons b (lastAt b) N
+    unfolding lastReasons
+    due-reasons = ap (λ (t : Bool). pick t (blockReasons b (lastAt b) N) []) (lt-ltb (lastAt b) (length b) due)
+
+    none-apply : NoneApply (blockReasons b (lastAt b) N)
+    none-apply = done-none (blockReasons b (lastAt b) N) (ap firstReason (sym due-reasons) ∙ a .last)
+
+    due-open : Opening b (lastAt b) 6 (Exact (2 + bytesFor N)) (lastAt b + 4) (le16 b (lastAt b) - 2)
+    due-open =
+        record-open b (lastAt b) 6 (Exact (2 + bytesFor N))
+        (none-done (recordReasons b (lastAt b) 6 (Exact (2 + bytesFor N)))
+        (none-apply .0, (none-apply .1 .0, (none-apply .1 .1 .0, (none-apply .1 .1 .1 .0, tt)))))
+
+    due-again : blockRecord (blockedOr b (lastAt b)) N ≡ drop (lastAt b) b
+    due-again =
+        let past = none-apply .1 .1 .1 .1 in
+        let whole : length b ≤ recordEnd b (lastAt b) = ltb-false (recordEnd b (lastAt b)) (length b) (past .1 .1 .0) in
+        let small : Bytes W = bytes-take (le16 b (lastAt b) - 2) (drop (lastAt b + 4) b) (bytes-drop (lastAt b + 4) b bytes) in
+        ap (λ (l : List ℕ). blockRecord l N) due-read
+        ∙ block-some (blockedOfBody W) N (past .1 .0)
+        ∙ ap (recordOf 6) (set-bytes W N small (body-long b (lastAt b) N _ _ due-open) many-read)
+        ∙ sym (append-nil (recordOf 6 W))
+        ∙ ap (λ (l : List ℕ). recordOf 6 W ++ l) (sym (drop-of-length-le b {i = recordEnd b (lastAt b)} whole))
+        ∙ record-again b bytes (lastAt b) 6 (Exact (2 + bytesFor N)) _ _ due-open
+
+    due-held : SetHeld (blockedOr b (lastAt b)) N
+    due-held = rw due-read (body-held W N (none-apply .1 .1 .1 .1 .0))
+
+  last-again : blockRecord (blockedOr b (lastAt b)) N ≡ drop (lastAt b) b
+  last-again = go (decLt (lastAt b) (length b))
+    where
+      go : Dec (lastAt b < length b) → blockRecord (blockedOr b (lastAt b)) N ≡ drop (lastAt b) b
+      go (yes h) = due-again h
+      go (no h) = none-again (omega arith)
+
+  last-held : SetHeld (blockedOr b (lastAt b)) N
+  last-held = go (decLt (lastAt b) (length b))
+    where
+      go : Dec (lastAt b < length b) → SetHeld (blockedOr b (lastAt b)) N
+      go (yes h) = due-held h
+      go (no h) = none-held (omega arith)
+
   -- an accepted file, read and written again, is the same bytes
   pub read-written : siteBytes (siteOfFile b) ≡ b
   unfolding siteBytes siteOfFile
   read-written =
-      let last : recordOf 3 (pairBytes (reachOfBody Y)) ≡ drop (reachAt b) b =
-      ap (recordOf 3) (rows-trip .0)
-      ∙ sym (append-nil (recordOf 3 Y))
-      ∙ ap (λ (l : List ℕ). recordOf 3 Y ++ l) (sym (drop-of-length-le b {i = recordEnd b (reachAt b)} (a .whole)))
-      ∙ record-again b bytes (reachAt b) 3 Pairs _ _ (a .reach) in
-      let second : recordOf 2 (twoBytesEach (take (cellsOfHead b) (loadsOfBody X))) ++ drop (reachAt b) b ≡ drop (loadsAt b) b =
+      let H = headRecord (cellsOfHead b) (slotsOfHead b) (channelsOfHead b) in
+      let M = recordOf 2 (twoBytesEach (take (cellsOfHead b) (loadsOfBody X))) in
+      let third : recordOf 3 (pairBytes (reachOfBody Y)) ++ blockRecord (blockedOr b (lastAt b)) N ≡ drop (reachAt b) b =
+      (λ j. recordOf 3 (rows-trip .0 j) ++ last-again j) ∙ record-again b bytes (reachAt b) 3 Pairs _ _ (a .reach) in
+      let second : M ++ drop (reachAt b) b ≡ drop (loadsAt b) b =
       ap (λ (l : List ℕ). recordOf 2 l ++ drop (reachAt b) b) loads-bytes ∙ record-again b bytes (loadsAt b) 2 (Exact (2 + 2 * cellsOfHead b)) _ _ (a .loads) in
-      ap
-      (λ (l : List ℕ). headRecord (cellsOfHead b) (slotsOfHead b) (channelsOfHead b) ++ (recordOf 2 (twoBytesEach (take (cellsOfHead b) (loadsOfBody X))) ++ l))
-      last
-      ∙ ap (λ (l : List ℕ). headRecord (cellsOfHead b) (slotsOfHead b) (channelsOfHead b) ++ l) second
+      ap (λ (l : List ℕ). H ++ (M ++ l)) third
+      ∙ ap (λ (l : List ℕ). H ++ l) second
       ∙ head-again b bytes (a .head)
 
   -- what is read is in order
@@ -264,4 +408,5 @@ module _ (b : List ℕ) (bytes : Bytes b) (done : siteAnswer b ≡ Done) where
         unused = λ k h. sets-past (numbersIn X) allZero 0 k (omega (arith, w-length)) ∙ zeros-at 32 k;
         rows = rows-trip .1;
         named = rows-trip .2;
+        blocked = last-held;
       }

@@ -61,6 +61,7 @@ module _ (s : Site) (held : Held s) (fine : faultOf s ≡ Fine) where
         unused = no-load;
         rows = record { size = held .rows; fits = held .bits };
         named = all-named;
+        blocked = record { long = held .blocked; fits = held .blocked-bits; none-past = fine-sound s fine .none-past };
       }
 
 module _ (s : Site) (good : GoodSite s) where
@@ -91,4 +92,9 @@ module _ (s : Site) (good : GoodSite s) where
 
   pub good-fine : faultOf s ≡ Fine
   good-fine =
-      sound-fine s (record { sizes = sizes-is (s .cells) (s .slots) (s .channels) (good .range); loads = λ k a b. good .unused k a; rows = row-passes })
+      sound-fine s (record {
+        sizes = sizes-is (s .cells) (s .slots) (s .channels) (good .range);
+        loads = λ k a b. good .unused k a;
+        rows = row-passes;
+        none-past = good .blocked .none-past;
+      })

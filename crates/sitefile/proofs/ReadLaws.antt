@@ -1,21 +1,32 @@
 -- The reader's answers, by what its tests say: the records' answers one after the other, and then what follows the last. Assumes nothing.
-use Prim.Native.Nat.{ℕ, _≤_, _<_}
+use Prim.Native.Nat.{ℕ, _+_, _-_, _≤_, _<_}
 use mathlib.Core.Path.{_≡_, refl, sym, ap, _∙_}
+use mathlib.Core.Bool.{Bool, true, false}
 use mathlib.Core.List.{List, [], _∷_}
+use native.Mathlib.Omega.{arith}
 use borrow.Author.Tests.{lt-ltb, le-ltb}
-use lib.ListN.{length}
+use lib.Dec.{ltb}
+use lib.ListN.{length, drop, length-drop}
+use lib.Seq.{length-take-le}
+use Rattle.laws.specs.Choice.{pick}
+use Rattle.positions.specs.Blocked.{emptySet}
+use Rattle.records.specs.Bits.{bytesFor, leftOver}
+use Rattle.records.specs.Bytes.{le16}
 use Rattle.records.specs.Layout.{bodyAt, recordEnd}
-use Rattle.records.specs.Reasons.{firstReason, recordReasons, endReason}
+use Rattle.records.specs.Reasons.{Reason, reason, firstReason, recordReasons, endReason}
 use Rattle.records.specs.Head.{cellsOfHead, headAnswer}
-use Rattle.records.specs.declared.Length.the-variants.{Pairs}
+use Rattle.records.specs.declared.Length.the-variants.{Exact, Pairs}
 use Rattle.records.specs.declared.ReadAnswer.{ReadAnswer}
 use Rattle.records.specs.declared.ReadAnswer.the-variants.{Done, Refused}
-use Rattle.records.proofs.Reasons.{andThen}
-use Rattle.sitefile.specs.Reasons.{loadsAt, reachAt, loadsReasons, pairReasons}
-use Rattle.sitefile.specs.Read.{reachOfBody, siteAnswer}
-use Rattle.sitefile.specs.Loop.{noRows, pairsReadOf, pairsRead, reachRead}
+use Rattle.records.proofs.Laws.{Opening, record-open, exact, within}
+use Rattle.records.proofs.Reasons.{andThen, first-append, both-done}
+use Rattle.sitefile.specs.Blocks.{blockedOfBody, nothingIn}
+use Rattle.sitefile.specs.Reasons.{loadsAt, reachAt, lastAt, positionsOfHead, loadsReasons, pairReasons, reachReasons, blockReasons, lastReasons}
+use Rattle.sitefile.specs.Read.{reachOfBody, blockedOr, siteAnswer}
+use Rattle.sitefile.specs.Loop.{noRows, pairsReadOf, pairsRead, reachRead, noBlocks, blocksReadOf, blocksRead}
 use Rattle.sitefile.specs.declared.PairsRead.{PairsRead}
-use Rattle.sitefile.proofs.Reasons.{lastReasons, last-parts, site-parts}
+use Rattle.sitefile.specs.declared.BlocksRead.{BlocksRead}
+use Rattle.sitefile.proofs.Reasons.{reach-parts, site-parts}
 
 pairs-answer : (rows : List ℕ) (a : ReadAnswer) → pairsReadOf rows a .answer ≡ a
 unfolding pairsReadOf
@@ -26,7 +37,16 @@ pairs-rows : (rows : List ℕ) (a : ReadAnswer) → a ≡ Done → pairsReadOf r
 unfolding pairsReadOf
 pairs-rows rows a e = rw e refl
 
--- kind 3, and what may follow it
+blocks-answer : (set : List ℕ) (a : ReadAnswer) → blocksReadOf set a .answer ≡ a
+unfolding blocksReadOf
+blocks-answer set Done = refl
+blocks-answer set (Refused n at) = refl
+
+blocks-set : (set : List ℕ) (a : ReadAnswer) → a ≡ Done → blocksReadOf set a .blocked ≡ set
+unfolding blocksReadOf
+blocks-set set a e = rw e refl
+
+-- kind 3
 module _ (s : List ℕ) (at cells : ℕ) where
   abbrev R : List ℕ
   R = reachOfBody (bodyAt s at)
@@ -34,74 +54,138 @@ module _ (s : List ℕ) (at cells : ℕ) where
   abbrev A : ReadAnswer
   A = firstReason (pairReasons cells at 0 0 (bodyAt s at))
 
-  abbrev E : ReadAnswer
-  E = firstReason (endReason s (recordEnd s at) ∷ [])
-
-  reach-is : (a b : ReadAnswer) → firstReason (recordReasons s at 3 Pairs) ≡ a → andThen a (andThen A E) ≡ b → pairsReadOf R b ≡ reachRead s at cells
+  reach-is : (a b : ReadAnswer) → firstReason (recordReasons s at 3 Pairs) ≡ a → andThen a A ≡ b → pairsReadOf R b ≡ reachRead s at cells
   unfolding reachRead
-  reach-is a b e f = ap (pairsReadOf R) (sym (last-parts s at cells ∙ ap (λ (x : ReadAnswer). andThen x (andThen A E)) e ∙ f))
+  reach-is a b e f = ap (pairsReadOf R) (sym (reach-parts s at cells ∙ ap (λ (x : ReadAnswer). andThen x A) e ∙ f))
 
   pub reach-stop : (n k : ℕ) → firstReason (recordReasons s at 3 Pairs) ≡ Refused n k → noRows (Refused n k) ≡ reachRead s at cells
   unfolding pairsReadOf
   reach-stop n k e = reach-is (Refused n k) (Refused n k) e refl
 
-  module _ (opens : firstReason (recordReasons s at 3 Pairs) ≡ Done) (p : PairsRead) (pairs : p ≡ pairsRead cells at (bodyAt s at)) where
-    is : p ≡ pairsReadOf R A
-    unfolding pairsRead
-    is = pairs
+  pub reach-pairs : firstReason (recordReasons s at 3 Pairs) ≡ Done → pairsRead cells at (bodyAt s at) ≡ reachRead s at cells
+  unfolding pairsRead
+  reach-pairs opens = reach-is Done A opens refl
 
-    told : p .answer ≡ A
-    told = ap (λ (x : PairsRead). x .answer) is ∙ pairs-answer R A
+-- kind 6, where it is due, and what may follow it
+module _ (s : List ℕ) (at n : ℕ) where
+  abbrev X : List ℕ
+  X = blockedOfBody (bodyAt s at)
 
-    pub reach-bad : (n k : ℕ) → p .answer ≡ Refused n k → p ≡ reachRead s at cells
-    reach-bad n k e =
-        let a : A ≡ Refused n k = sym told ∙ e in
-        is ∙ ap (pairsReadOf R) a ∙ reach-is Done (Refused n k) opens (ap (λ (x : ReadAnswer). andThen x E) a)
+  abbrev contents : List Reason
+  contents = reason (leftOver (bodyAt s at) n) 14 at ∷ reason (nothingIn X) 21 at ∷ endReason s (recordEnd s at) ∷ []
 
-    module _ (done : p .answer ≡ Done) where
-      good : A ≡ Done
-      good = sym told ∙ done
+  by-due : (t : Bool) → ltb at (length s) ≡ t → blocksReadOf (pick t X emptySet) (firstReason (pick t (blockReasons s at n) [])) ≡ blocksRead s at n
+  unfolding blocksRead lastReasons blockedOr
+  by-due t e = sym (ap (λ (u : Bool). blocksReadOf (pick u X emptySet) (firstReason (pick u (blockReasons s at n) []))) e)
 
-      pub reach-more : recordEnd s at < length s → noRows (Refused 12 (recordEnd s at)) ≡ reachRead s at cells
-      unfolding pairsReadOf firstReason
-      reach-more h =
-          reach-is Done (Refused 12 (recordEnd s at)) opens (ap (λ (x : ReadAnswer). andThen x E) good ∙ rw (lt-ltb (recordEnd s at) (length s) h) refl)
+  -- the file ends here
+  pub last-none : length s ≤ at → noBlocks Done ≡ blocksRead s at n
+  unfolding blocksReadOf firstReason
+  last-none h = by-due false (le-ltb at (length s) h)
 
-      pub reach-done : length s ≤ recordEnd s at → p ≡ reachRead s at cells
-      unfolding firstReason
-      reach-done h =
-          is ∙ ap (pairsReadOf R) good ∙ reach-is Done Done opens (ap (λ (x : ReadAnswer). andThen x E) good ∙ rw (le-ltb (recordEnd s at) (length s) h) refl)
+  -- what is read by itself tells the answer, and the set where it is done
+  pub blocks-told : (q : BlocksRead) → q ≡ blocksRead s at n → firstReason (lastReasons s at n) ≡ q .answer
+  unfolding blocksRead
+  blocks-told q e = sym (ap (λ (x : BlocksRead). x .answer) e ∙ blocks-answer (blockedOr s at) (firstReason (lastReasons s at n)))
+
+  pub blocks-given : (q : BlocksRead) → q ≡ blocksRead s at n → q .answer ≡ Done → q .blocked ≡ blockedOr s at
+  unfolding blocksRead
+  blocks-given q e d =
+      ap (λ (x : BlocksRead). x .blocked) e ∙ blocks-set (blockedOr s at) (firstReason (lastReasons s at n)) (blocks-told q e ∙ d)
+
+  -- its contents, by the three tests
+  contents-are :
+      (l z m : Bool) → leftOver (bodyAt s at) n ≡ l → nothingIn X ≡ z → ltb (recordEnd s at) (length s) ≡ m →
+      firstReason contents ≡ pick l (Refused 14 at) (pick z (Refused 21 at) (pick m (Refused 12 (recordEnd s at)) Done))
+  unfolding firstReason
+  contents-are l z m e f g = λ i. pick (e i) (Refused 14 at) (pick (f i) (Refused 21 at) (pick (g i) (Refused 12 (recordEnd s at)) Done))
+
+  module _ (due : at < length s) where
+    blocks-are : (a : ReadAnswer) → firstReason (blockReasons s at n) ≡ a → blocksReadOf X a ≡ blocksRead s at n
+    blocks-are a e = ap (blocksReadOf X) (sym e) ∙ by-due true (lt-ltb at (length s) due)
+
+    parts : firstReason (blockReasons s at n) ≡ andThen (firstReason (recordReasons s at 6 (Exact (2 + bytesFor n)))) (firstReason contents)
+    parts = first-append (recordReasons s at 6 (Exact (2 + bytesFor n))) contents
+
+    pub blocks-stop : (k a : ℕ) → firstReason (recordReasons s at 6 (Exact (2 + bytesFor n))) ≡ Refused k a → noBlocks (Refused k a) ≡ blocksRead s at n
+    unfolding blocksReadOf
+    blocks-stop k a e = blocks-are (Refused k a) (parts ∙ ap (λ (x : ReadAnswer). andThen x (firstReason contents)) e)
+
+    module _ (opens : firstReason (recordReasons s at 6 (Exact (2 + bytesFor n))) ≡ Done) where
+      past-open : (a : ReadAnswer) → firstReason contents ≡ a → blocksReadOf X a ≡ blocksRead s at n
+      past-open a e = blocks-are a (parts ∙ ap (λ (x : ReadAnswer). andThen x (firstReason contents)) opens ∙ e)
+
+      pub blocks-left : leftOver (bodyAt s at) n ≡ true → noBlocks (Refused 14 at) ≡ blocksRead s at n
+      unfolding blocksReadOf
+      blocks-left e = past-open (Refused 14 at) (contents-are true (nothingIn X) (ltb (recordEnd s at) (length s)) e refl refl)
+
+      module _ (none : leftOver (bodyAt s at) n ≡ false) where
+        pub blocks-nothing : nothingIn X ≡ true → noBlocks (Refused 21 at) ≡ blocksRead s at n
+        unfolding blocksReadOf
+        blocks-nothing e = past-open (Refused 21 at) (contents-are false true (ltb (recordEnd s at) (length s)) none e refl)
+
+        module _ (some : nothingIn X ≡ false) where
+          pub blocks-more : recordEnd s at < length s → noBlocks (Refused 12 (recordEnd s at)) ≡ blocksRead s at n
+          unfolding blocksReadOf
+          blocks-more h =
+              past-open (Refused 12 (recordEnd s at)) (contents-are false false true none some (lt-ltb (recordEnd s at) (length s) h))
+
+          pub blocks-done : length s ≤ recordEnd s at → record { blocked = X; answer = Done } ≡ blocksRead s at n
+          unfolding blocksReadOf
+          blocks-done h = past-open Done (contents-are false false false none some (le-ltb (recordEnd s at) (length s) h))
+
+-- an open record of kind 6 has the bytes of n positions
+pub body-long :
+    (s : List ℕ) (at n start len : ℕ) → Opening s at 6 (Exact (2 + bytesFor n)) start len → length (bodyAt s at) ≡ bytesFor n
+body-long s at n start len o =
+    let w = exact (2 + bytesFor n) (le16 s at) (o .fits) in
+    length-take-le (le16 s at - 2) (drop (at + 4) s) (rw (length-drop (at + 4) s) (omega (arith, within s at 6 _ start len o, o .starts, o .size)))
+    ∙ omega arith
 
 -- the whole file
 module _ (s : List ℕ) where
   abbrev L : ReadAnswer
   L = firstReason (loadsReasons s (loadsAt s) (cellsOfHead s))
 
+  abbrev K : ReadAnswer
+  K = firstReason (reachReasons s (reachAt s) (cellsOfHead s))
+
   abbrev Z : ReadAnswer
-  Z = firstReason (lastReasons s (reachAt s) (cellsOfHead s))
+  Z = firstReason (lastReasons s (lastAt s) (positionsOfHead s))
 
   pub head-stop : (n k : ℕ) → headAnswer s ≡ Refused n k → siteAnswer s ≡ Refused n k
-  head-stop n k e = site-parts s ∙ ap (λ (x : ReadAnswer). andThen x (andThen L Z)) e
+  head-stop n k e = site-parts s ∙ ap (λ (x : ReadAnswer). andThen x (andThen L (andThen K Z))) e
 
   module _ (head : headAnswer s ≡ Done) where
-    past-head : siteAnswer s ≡ andThen L Z
-    past-head = site-parts s ∙ ap (λ (x : ReadAnswer). andThen x (andThen L Z)) head
+    past-head : siteAnswer s ≡ andThen L (andThen K Z)
+    past-head = site-parts s ∙ ap (λ (x : ReadAnswer). andThen x (andThen L (andThen K Z))) head
 
     pub loads-stop : (n k : ℕ) → L ≡ Refused n k → siteAnswer s ≡ Refused n k
-    loads-stop n k e = past-head ∙ ap (λ (x : ReadAnswer). andThen x Z) e
+    loads-stop n k e = past-head ∙ ap (λ (x : ReadAnswer). andThen x (andThen K Z)) e
 
-    -- past the loads, what the last record gives decides
+    -- past the loads, what kind 3 gives decides
     module _ (loads : L ≡ Done) (p : PairsRead) (reach : p ≡ reachRead s (reachAt s) (cellsOfHead s)) where
-      pub site-is : siteAnswer s ≡ p .answer
-      unfolding reachRead
-      site-is =
-          past-head
-          ∙ ap (λ (x : ReadAnswer). andThen x Z) loads
-          ∙ sym (ap (λ (x : PairsRead). x .answer) reach ∙ pairs-answer (reachOfBody (bodyAt s (reachAt s))) Z)
+      past-loads : siteAnswer s ≡ andThen K Z
+      past-loads = past-head ∙ ap (λ (x : ReadAnswer). andThen x (andThen K Z)) loads
 
-      pub rows-are : p .answer ≡ Done → p .reach ≡ reachOfBody (bodyAt s (reachAt s))
+      reach-told : p .answer ≡ K
       unfolding reachRead
-      rows-are done =
-          ap (λ (x : PairsRead). x .reach) reach
-          ∙ pairs-rows (reachOfBody (bodyAt s (reachAt s))) Z
-          (sym (pairs-answer (reachOfBody (bodyAt s (reachAt s))) Z) ∙ ap (λ (x : PairsRead). x .answer) (sym reach) ∙ done)
+      reach-told = ap (λ (x : PairsRead). x .answer) reach ∙ pairs-answer (reachOfBody (bodyAt s (reachAt s))) K
+
+      pub rows-stop : (n k : ℕ) → p .answer ≡ Refused n k → siteAnswer s ≡ Refused n k
+      rows-stop n k e = past-loads ∙ ap (λ (x : ReadAnswer). andThen x Z) (sym reach-told ∙ e)
+
+      -- and past that, what kind 6 gives
+      module _ (done : p .answer ≡ Done) where
+        reach-found : K ≡ Done
+        reach-found = sym reach-told ∙ done
+
+        pub rows-are : p .reach ≡ reachOfBody (bodyAt s (reachAt s))
+        unfolding reachRead
+        rows-are = ap (λ (x : PairsRead). x .reach) reach ∙ pairs-rows (reachOfBody (bodyAt s (reachAt s))) K reach-found
+
+        pub reach-open : Opening s (reachAt s) 3 Pairs (reachAt s + 4) (le16 s (reachAt s) - 2)
+        reach-open = record-open s (reachAt s) 3 Pairs (both-done _ _ (sym (reach-parts s (reachAt s) (cellsOfHead s)) ∙ reach-found) .0)
+
+        pub site-is : (q : BlocksRead) → q ≡ blocksRead s (lastAt s) (positionsOfHead s) → siteAnswer s ≡ q .answer
+        site-is q e = past-loads ∙ ap (λ (x : ReadAnswer). andThen x Z) reach-found ∙ blocks-told s (lastAt s) (positionsOfHead s) q e

@@ -2,41 +2,41 @@
 use Prim.Native.Nat.{ℕ, _≤_}
 use mathlib.Core.Path.{_≡_, refl, sym, ap, _∙_}
 use mathlib.Core.List.{List, [], _∷_, _++_, map, map-append}
+use mathlib.Core.Bool.{Bool, true, false}
 use native.Mathlib.Omega.{arith}
+use lib.Dec.{ltb}
+use lib.ListN.{length}
+use Rattle.laws.specs.Choice.{pick}
 use Rattle.records.specs.Layout.{bodyAt, recordEnd}
-use Rattle.records.specs.Reasons.{Reason, firstReason, recordReasons, endReason, First}
+use Rattle.records.specs.Reasons.{Reason, firstReason, recordReasons, First}
 use Rattle.records.specs.Head.{cellsOfHead, headReasons, headAnswer}
 use Rattle.records.specs.declared.Length.the-variants.{Pairs}
 use Rattle.records.specs.declared.ReadAnswer.{ReadAnswer}
 use Rattle.records.specs.declared.ReadAnswer.the-variants.{Done, Refused}
 use Rattle.records.proofs.Reasons.{andThen, first-append, refused-first, Some, some-append, some-first}
 use Rattle.site.specs.declared.Site.{Site}
-use Rattle.sitefile.specs.Reasons.{loadsAt, reachAt, loadsReasons, pairReasons, reachReasons, siteReasons}
+use Rattle.sitefile.specs.Reasons.{loadsAt, reachAt, lastAt, positionsOfHead, loadsReasons, pairReasons, reachReasons, blockReasons}
+use Rattle.sitefile.specs.Reasons.{lastReasons, siteReasons}
 use Rattle.sitefile.specs.Read.{siteOfFile, siteAnswer, siteDone, refusedSite, siteReadOf, readSite}
 
--- the last record, and what may follow it
-abbrev pub lastReasons : List ℕ → ℕ → ℕ → List Reason
-lastReasons s at cells = reachReasons s at cells ++ (endReason s (recordEnd s at) ∷ [])
-
 module _ (s : List ℕ) where
-  pub last-parts :
+  pub reach-parts :
       (at cells : ℕ) →
-      firstReason (lastReasons s at cells)
-      ≡ andThen (firstReason (recordReasons s at 3 Pairs)) (andThen (firstReason (pairReasons cells at 0 0 (bodyAt s at)))
-      (firstReason (endReason s (recordEnd s at) ∷ [])))
-  last-parts at cells =
-      let pairs = pairReasons cells at 0 0 (bodyAt s at) in
-      let last : List Reason = endReason s (recordEnd s at) ∷ [] in
-      first-append (recordReasons s at 3 Pairs) (pairs ++ last) ∙ ap (andThen (firstReason (recordReasons s at 3 Pairs))) (first-append pairs last)
+      firstReason (reachReasons s at cells)
+      ≡ andThen (firstReason (recordReasons s at 3 Pairs)) (firstReason (pairReasons cells at 0 0 (bodyAt s at)))
+  reach-parts at cells = first-append (recordReasons s at 3 Pairs) (pairReasons cells at 0 0 (bodyAt s at))
 
   pub site-parts :
       siteAnswer s
-      ≡ andThen (headAnswer s) (andThen (firstReason (loadsReasons s (loadsAt s) (cellsOfHead s))) (firstReason (lastReasons s (reachAt s) (cellsOfHead s))))
+      ≡ andThen (headAnswer s) (andThen (firstReason (loadsReasons s (loadsAt s) (cellsOfHead s)))
+      (andThen (firstReason (reachReasons s (reachAt s) (cellsOfHead s))) (firstReason (lastReasons s (lastAt s) (positionsOfHead s)))))
   unfolding siteAnswer siteReasons headAnswer
   site-parts =
       let loads = loadsReasons s (loadsAt s) (cellsOfHead s) in
-      first-append (headReasons s) (loads ++ lastReasons s (reachAt s) (cellsOfHead s))
-      ∙ ap (andThen (firstReason (headReasons s))) (first-append loads (lastReasons s (reachAt s) (cellsOfHead s)))
+      let reach = reachReasons s (reachAt s) (cellsOfHead s) in
+      let last = lastReasons s (lastAt s) (positionsOfHead s) in
+      first-append (headReasons s) (loads ++ (reach ++ last))
+      ∙ ap (andThen (firstReason (headReasons s))) (first-append loads (reach ++ last) ∙ ap (andThen (firstReason loads)) (first-append reach last))
 
   -- what a read gives, by its answer
   pub refuse : (n at : ℕ) → siteAnswer s ≡ Refused n at → refusedSite (Refused n at) ≡ readSite s
@@ -57,26 +57,51 @@ pub first-refused : (s : List ℕ) → readSite s .answer ≡ siteAnswer s
 unfolding readSite
 first-refused s = answer-of (siteOfFile s) (siteAnswer s)
 
--- the order, as numbers and offsets: head, its contents, loads, reach, its pairs, then 12
+-- the order, as numbers and offsets: head, its contents, loads, reach, its pairs, then kind 6 where it is due, with 14, 21 and 12
+last-numbers :
+    (s : List ℕ) (at n : ℕ) → map (λ (r : Reason). r .number) (lastReasons s at n) ≡ pick (ltb at (length s)) (8 ∷ 9 ∷ 10 ∷ 8 ∷ 14 ∷ 21 ∷ 12 ∷ []) []
+unfolding lastReasons
+last-numbers s at n = go (ltb at (length s))
+  where
+    go : (t : Bool) → map (λ (r : Reason). r .number) (pick t (blockReasons s at n) []) ≡ pick t (8 ∷ 9 ∷ 10 ∷ 8 ∷ 14 ∷ 21 ∷ 12 ∷ []) []
+    go true = refl
+    go false = refl
+
+last-offsets :
+    (s : List ℕ) (at n : ℕ) →
+    map (λ (r : Reason). r .offset) (lastReasons s at n) ≡ pick (ltb at (length s)) (at ∷ at ∷ at ∷ at ∷ at ∷ at ∷ recordEnd s at ∷ []) []
+unfolding lastReasons
+last-offsets s at n = go (ltb at (length s))
+  where
+    go : (t : Bool) → map (λ (r : Reason). r .offset) (pick t (blockReasons s at n) []) ≡ pick t (at ∷ at ∷ at ∷ at ∷ at ∷ at ∷ recordEnd s at ∷ []) []
+    go true = refl
+    go false = refl
+
 pub numbers :
     (s : List ℕ) →
     map (λ (r : Reason). r .number) (siteReasons s)
     ≡ 8 ∷ 9 ∷ 10 ∷ 8 ∷ 1 ∷ 8 ∷ 9 ∷ 10 ∷ 8 ∷ 8 ∷ 9 ∷ 10 ∷ 8
-    ∷ (map (λ (r : Reason). r .number) (pairReasons (cellsOfHead s) (reachAt s) 0 0 (bodyAt s (reachAt s))) ++ (12 ∷ []))
+    ∷ (map (λ (r : Reason). r .number) (pairReasons (cellsOfHead s) (reachAt s) 0 0 (bodyAt s (reachAt s)))
+    ++ pick (ltb (lastAt s) (length s)) (8 ∷ 9 ∷ 10 ∷ 8 ∷ 14 ∷ 21 ∷ 12 ∷ []) [])
 unfolding siteReasons
 numbers s =
+    let pairs = pairReasons (cellsOfHead s) (reachAt s) 0 0 (bodyAt s (reachAt s)) in
     ap (λ (l : List ℕ). 8 ∷ 9 ∷ 10 ∷ 8 ∷ 1 ∷ 8 ∷ 9 ∷ 10 ∷ 8 ∷ 8 ∷ 9 ∷ 10 ∷ 8 ∷ l)
-    (map-append (λ (r : Reason). r .number) (pairReasons (cellsOfHead s) (reachAt s) 0 0 (bodyAt s (reachAt s))) (endReason s (recordEnd s (reachAt s)) ∷ []))
+    (map-append (λ (r : Reason). r .number) pairs (lastReasons s (lastAt s) (positionsOfHead s))
+    ∙ ap (λ (l : List ℕ). map (λ (r : Reason). r .number) pairs ++ l) (last-numbers s (lastAt s) (positionsOfHead s)))
 
 pub offsets :
     (s : List ℕ) →
     map (λ (r : Reason). r .offset) (siteReasons s)
     ≡ 0 ∷ 0 ∷ 0 ∷ 0 ∷ 0 ∷ loadsAt s ∷ loadsAt s ∷ loadsAt s ∷ loadsAt s ∷ reachAt s ∷ reachAt s ∷ reachAt s ∷ reachAt s
-    ∷ (map (λ (r : Reason). r .offset) (pairReasons (cellsOfHead s) (reachAt s) 0 0 (bodyAt s (reachAt s))) ++ (recordEnd s (reachAt s) ∷ []))
+    ∷ (map (λ (r : Reason). r .offset) (pairReasons (cellsOfHead s) (reachAt s) 0 0 (bodyAt s (reachAt s)))
+    ++ pick (ltb (lastAt s) (length s)) (lastAt s ∷ lastAt s ∷ lastAt s ∷ lastAt s ∷ lastAt s ∷ lastAt s ∷ recordEnd s (lastAt s) ∷ []) [])
 unfolding siteReasons
 offsets s =
+    let pairs = pairReasons (cellsOfHead s) (reachAt s) 0 0 (bodyAt s (reachAt s)) in
     ap (λ (l : List ℕ). 0 ∷ 0 ∷ 0 ∷ 0 ∷ 0 ∷ loadsAt s ∷ loadsAt s ∷ loadsAt s ∷ loadsAt s ∷ reachAt s ∷ reachAt s ∷ reachAt s ∷ reachAt s ∷ l)
-    (map-append (λ (r : Reason). r .offset) (pairReasons (cellsOfHead s) (reachAt s) 0 0 (bodyAt s (reachAt s))) (endReason s (recordEnd s (reachAt s)) ∷ []))
+    (map-append (λ (r : Reason). r .offset) pairs (lastReasons s (lastAt s) (positionsOfHead s))
+    ∙ ap (λ (l : List ℕ). map (λ (r : Reason). r .offset) pairs ++ l) (last-offsets s (lastAt s) (positionsOfHead s)))
 
 -- and of each pair
 pub pair-numbers :
@@ -98,18 +123,22 @@ some-pairs cells at from to [] = tt
 some-pairs cells at from to (f ∷ []) = tt
 some-pairs cells at from to (f ∷ t ∷ r) = (omega arith, (omega arith, some-pairs cells at f t r))
 
-some-last : (s : List ℕ) (at cells : ℕ) → Some (lastReasons s at cells)
-some-last s at cells =
-    let last : List Reason = endReason s (recordEnd s at) ∷ [] in
-    let h : Some last = (omega arith, tt) in
-    let p = some-append (pairReasons cells at 0 0 (bodyAt s at)) last (some-pairs cells at 0 0 (bodyAt s at)) h in
-    (omega arith, (omega arith, (omega arith, (omega arith, p))))
+some-last : (s : List ℕ) (at n : ℕ) → Some (lastReasons s at n)
+unfolding lastReasons
+some-last s at n = go (ltb at (length s))
+  where
+    go : (t : Bool) → Some (pick t (blockReasons s at n) [])
+    go true = (omega arith, (omega arith, (omega arith, (omega arith, (omega arith, (omega arith, (omega arith, tt)))))))
+    go false = tt
 
 some-site : (s : List ℕ) → Some (siteReasons s)
 unfolding siteReasons
 some-site s =
-    let r = some-last s (reachAt s) (cellsOfHead s) in
-    let l : Some (loadsReasons s (loadsAt s) (cellsOfHead s) ++ lastReasons s (reachAt s) (cellsOfHead s)) =
+    let last = lastReasons s (lastAt s) (positionsOfHead s) in
+    let pairs = pairReasons (cellsOfHead s) (reachAt s) 0 0 (bodyAt s (reachAt s)) in
+    let p = some-append pairs last (some-pairs (cellsOfHead s) (reachAt s) 0 0 (bodyAt s (reachAt s))) (some-last s (lastAt s) (positionsOfHead s)) in
+    let r : Some (reachReasons s (reachAt s) (cellsOfHead s) ++ last) = (omega arith, (omega arith, (omega arith, (omega arith, p)))) in
+    let l : Some (loadsReasons s (loadsAt s) (cellsOfHead s) ++ (reachReasons s (reachAt s) (cellsOfHead s) ++ last)) =
     (omega arith, (omega arith, (omega arith, (omega arith, r)))) in
     (omega arith, (omega arith, (omega arith, (omega arith, (omega arith, l)))))
 

@@ -13,6 +13,8 @@ use Rattle.records.specs.Layout.{recordOf}
 use Rattle.records.specs.Head.{headRecord, headSize}
 use Rattle.records.proofs.Write.{record-put}
 use Rattle.records.proofs.Bytes.{two-bytes-length}
+use Rattle.site.specs.Record.{positions}
+use Rattle.sitefile.specs.Blocks.{blockRecord}
 use Rattle.sitefile.specs.Write.{pairBytes, siteBytes}
 use Rattle.site.specs.declared.Site.{Site}
 use Rattle.sitefile.proofs.RowLaws.{pairs-even, pairs-most}
@@ -42,7 +44,8 @@ module _ (s : Site) (cells : s .cells ≤ 32) (size : length (s .loads) ≡ 32) 
   loads-length = two-bytes-length (take (s .cells) (s .loads)) ∙ ap (λ (k : ℕ). 2 * k) (length-take-le (s .cells) (s .loads) (omega arith))
 
   -- the file's length, and its parts stored one after the other
-  pub site-length : length (siteBytes s) ≡ headSize + 4 + 2 * s .cells + 4 + length (pairBytes (s .reach))
+  pub site-length :
+      length (siteBytes s) ≡ headSize + 4 + 2 * s .cells + 4 + length (pairBytes (s .reach)) + length (blockRecord (s .blocked) (positions s))
   unfolding siteBytes
   site-length = simp length-append (omega (arith, loads-length))
 
@@ -51,23 +54,33 @@ module _ (s : Site) (cells : s .cells ≤ 32) (size : length (s .loads) ≡ 32) 
       sets
       (sets
       (sets
+      (sets
       (sets (sets out 0 (headRecord (s .cells) (s .slots) (s .channels))) headSize (twoBytesEach ((2 + 2 * s .cells) ∷ 2 ∷ [])))
       (headSize + 4)
       (twoBytesEach (take (s .cells) (s .loads))))
       (headSize + 4 + 2 * s .cells)
       (twoBytesEach ((2 + length (pairBytes (s .reach))) ∷ 3 ∷ [])))
       (headSize + 4 + 2 * s .cells + 4)
-      (pairBytes (s .reach))
+      (pairBytes (s .reach)))
+      (headSize + 4 + 2 * s .cells + 4 + length (pairBytes (s .reach)))
+      (blockRecord (s .blocked) (positions s))
       ≡ sets out 0 (siteBytes s)
   unfolding siteBytes
   site-put out =
       let H = headRecord (s .cells) (s .slots) (s .channels) in
       let L = twoBytesEach (take (s .cells) (s .loads)) in
       let P = pairBytes (s .reach) in
+      let Z = blockRecord (s .blocked) (positions s) in
       let X = sets out 0 H in
+      let Y = sets X headSize (recordOf 2 L) in
+      let at = headSize + 4 + 2 * s .cells in
       let e : headSize + length (recordOf 2 L) ≡ headSize + 4 + 2 * s .cells = omega (arith, loads-length) in
-      record-put (sets (sets X headSize (twoBytesEach ((2 + 2 * s .cells) ∷ 2 ∷ []))) (headSize + 4) L) (headSize + 4 + 2 * s .cells) 3 (2 + length P) P refl
-      ∙ ap (λ (l : List ℕ). sets l (headSize + 4 + 2 * s .cells) (recordOf 3 P)) (record-put X headSize 2 (2 + 2 * s .cells) L (omega (arith, loads-length)))
-      ∙ ap (λ (k : ℕ). sets (sets X headSize (recordOf 2 L)) k (recordOf 3 P)) (sym e)
-      ∙ sym (sets-append X headSize (recordOf 2 L) (recordOf 3 P))
-      ∙ sym (sets-append out 0 H (recordOf 2 L ++ recordOf 3 P))
+      let f : headSize + 4 + 2 * s .cells + 4 + length P ≡ headSize + 4 + 2 * s .cells + length (recordOf 3 P) = omega arith in
+      ap (λ (l : List ℕ). sets l (at + 4 + length P) Z)
+      (record-put (sets (sets X headSize (twoBytesEach ((2 + 2 * s .cells) ∷ 2 ∷ []))) (headSize + 4) L) at 3 (2 + length P) P refl
+      ∙ ap (λ (l : List ℕ). sets l at (recordOf 3 P)) (record-put X headSize 2 (2 + 2 * s .cells) L (omega (arith, loads-length))))
+      ∙ ap (λ (k : ℕ). sets (sets Y at (recordOf 3 P)) k Z) f
+      ∙ sym (sets-append Y at (recordOf 3 P) Z)
+      ∙ ap (λ (k : ℕ). sets Y k (recordOf 3 P ++ Z)) (sym e)
+      ∙ sym (sets-append X headSize (recordOf 2 L) (recordOf 3 P ++ Z))
+      ∙ sym (sets-append out 0 H (recordOf 2 L ++ (recordOf 3 P ++ Z)))

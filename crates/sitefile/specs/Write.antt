@@ -9,22 +9,24 @@ use Rattle.records.specs.Head.{headRecord}
 use Rattle.records.specs.Write.{written, laidOver}
 use Rattle.records.specs.declared.Written.{Written}
 use Rattle.records.specs.declared.Written.the-variants.{Refused}
-use Rattle.site.specs.Record.{faultOf, isFine}
+use Rattle.site.specs.Record.{positions, faultOf, isFine}
 use Rattle.site.specs.declared.Site.{Site}
 use Rattle.sitefile.specs.Pairs.{pairsFrom}
+use Rattle.sitefile.specs.Blocks.{blockRecord}
 
 -- the bytes of all the pairs, from row after row: 32 places in each of 32 rows
 unfoldable pub pairBytes : List ℕ → List ℕ
 pairBytes reach = pairsFrom reach 0 1024
 
--- "A site file is kinds 1, 2, 3": the head, "I loads, two bytes each", the pairs
+-- "A site file is kinds 1, 2, 3": the head, "I loads, two bytes each", the pairs. W8: kind 6 after kind 3, absent when nothing is blocked
 unfoldable pub siteBytes : Site → List ℕ
 siteBytes s =
     headRecord (s .cells) (s .slots) (s .channels)
     ++ (recordOf 2 (twoBytesEach (take (s .cells) (s .loads)))
-    ++ recordOf 3 (pairBytes (s .reach)))
+    ++ (recordOf 3 (pairBytes (s .reach))
+    ++ blockRecord (s .blocked) (positions s)))
 
--- "Writers: 1, 2, 3, .. 13"
+-- "Writers: 1, 2, 3, .. 13"; W8: 20 after 3
 unfoldable pub siteWritten : Site → List ℕ → Written
 siteWritten s out = pick (isFine (faultOf s)) (written (siteBytes s) out) (Refused (faultOf s))
 

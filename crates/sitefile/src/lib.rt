@@ -1,10 +1,12 @@
-// The site file: kinds 1, 2 and 3 of house files, read into a site and written from one.
+// The site file: kinds 1, 2 and 3 of house files, and 6 where something is blocked, read into a site and written from one.
+use positions::none_blocked;
 use records::AFTER_HEAD;
 use records::Length;
 use records::Opened;
 use records::ReadAnswer;
 use records::Written;
 use records::head_answer;
+use records::left_over;
 use records::open;
 use records::opened_answer;
 use records::put_head;
@@ -18,15 +20,19 @@ use site::within;
 ghost use mathlib.Core.Path.{_≡_};
 ghost use mathlib.Core.List.{[], _∷_};
 ghost use Prim.Native.Nat.{_+_, _*_, _≤_, _<_};
-ghost use lib.ListN.{length, take};
+ghost use lib.ListN.{length, take, getD};
 ghost use lib.Seq.{sets};
 ghost use Rattle.laws.specs.Bits.{setBit};
+ghost use Rattle.laws.specs.Part.{listOf};
+ghost use Rattle.positions.specs.Blocked.{mostPositions, wordIn};
+ghost use Rattle.site.specs.Record.{positions};
 ghost use Rattle.records.specs.Bytes.{twoBytesEach};
 ghost use Rattle.records.specs.Write.{written, laidOver};
 ghost use Rattle.sitefile.specs.Pairs.{pairOk, place};
+ghost use Rattle.sitefile.specs.Blocks.{bitStated, blockedOfBody, blockByte, blockRecord};
 ghost use Rattle.sitefile.specs.Loop.{rowFrom};
 ghost use Rattle.sitefile.specs.Read.{loadsOfBody, refusedSite, readSite};
-ghost use Rattle.sitefile.specs.Loop.{noRows, pairsRead, reachRead};
+ghost use Rattle.sitefile.specs.Loop.{noRows, pairsRead, reachRead, noBlocks, blocksRead, LoadsRead};
 ghost use Rattle.sitefile.specs.Write.{siteBytes, pairBytes, siteWritten, siteOut};
 
 // What a site read gives: the site, or a site of zeros beside the refusal.
@@ -38,6 +44,12 @@ pub struct SiteRead {
 // The reach rows of a kind 3 record; or none beside the refusal.
 struct PairsRead {
     pub reach: [u32; 32],
+    pub answer: ReadAnswer,
+}
+
+// The blocked positions of a kind 6 record; or none beside the refusal.
+struct BlocksRead {
+    pub blocked: [u64; 32],
     pub answer: ReadAnswer,
 }
 
@@ -129,7 +141,7 @@ fn pairs_of(body: &[u8], cells: u16, at: usize) -> PairsRead
     }
 }
 
-// Kind 3, due at `at`, and nothing after it.
+// Kind 3, due at `at`.
 fn read_reach(s: &[u8], at: usize, cells: u16) -> PairsRead
     requires { ⌜ cells ≤ 32 ⌝ }
     ensures { λ r. ⌜ r ≡ reachRead (now (s .entry)) at cells ⌝ }
@@ -139,15 +151,83 @@ fn read_reach(s: &[u8], at: usize, cells: u16) -> PairsRead
         return no_rows(opened_answer(o));
     };
     let end = start + len;
-    let read = pairs_of(&s[start..end], cells, at);
-    let answer = read.answer;
-    let ReadAnswer::Done = answer else {
-        return read;
-    };
-    if end < s.len() {
-        return no_rows(ReadAnswer::Refused(12, end));
+    pairs_of(&s[start..end], cells, at)
+}
+
+// Word j of the set that a kind 6 body states: its bytes from 8 j on, the first with weight 1.
+fn word_of(body: &[u8], j: usize) -> u64
+    requires { ⌜ j < 32 ⌝ }
+    ensures { λ r. ⌜ r ≡ wordIn (bitStated (now (body .entry))) j ⌝ }
+{
+    let mut v: u64 = 0;
+    let mut i: usize = 8;
+    while 0 < i {
+        i -= 1;
+        v = v * 256 + byte_at(body, 8 * j + i) as u64;
     }
-    read
+    v
+}
+
+// A byte of a body; 0 past its end.
+fn byte_at(body: &[u8], k: usize) -> u8
+    ensures { λ r. ⌜ r ≡ getD (now (body .entry)) k 0 ⌝ }
+    ensures { λ r. ⌜ r < 256 ⌝ }
+{
+    if k < body.len() {
+        return body[k];
+    }
+    0
+}
+
+// The set that a kind 6 body states.
+fn set_of(body: &[u8]) -> [u64; 32]
+    ensures { λ r. ⌜ r ≡ blockedOfBody (now (body .entry)) ⌝ }
+{
+    let mut set = [0u64; 32];
+    for j in 0..32 {
+        set[j] = word_of(body, j);
+    }
+    set
+}
+
+// A refusal, and no blocked positions.
+fn no_blocks(answer: ReadAnswer) -> BlocksRead
+    ensures { λ r. ⌜ r ≡ noBlocks answer ⌝ }
+{
+    BlocksRead {
+        blocked: [0u64; 32],
+        answer,
+    }
+}
+
+// Kind 6, which any byte at `at` makes due, for n positions, and nothing after it: 14, then 21, then 12.
+fn read_blocks(s: &[u8], at: usize, n: usize) -> BlocksRead
+    requires { ⌜ n ≤ mostPositions ⌝ }
+    ensures { λ r. ⌜ r ≡ blocksRead (now (s .entry)) at n ⌝ }
+{
+    if s.len() <= at {
+        return no_blocks(ReadAnswer::Done);
+    }
+    let m = (n + 7) / 8;
+    let o = open(s, at, 6, Length::Exact((2 + m) as u16));
+    let Opened::Body(start, len) = o else {
+        return no_blocks(opened_answer(o));
+    };
+    let end = start + len;
+    if left_over(&s[start..end], n) {
+        return no_blocks(ReadAnswer::Refused(14, at));
+    }
+    let blocked = set_of(&s[start..end]);
+    if none_blocked(&blocked) {
+        return no_blocks(ReadAnswer::Refused(21, at));
+    }
+    if end < s.len() {
+        return no_blocks(ReadAnswer::Refused(12, end));
+    }
+    BlocksRead {
+        blocked,
+        answer: ReadAnswer::Done,
+    }
 }
 
 // A refused read: a site of zeros beside the refusal.
@@ -160,7 +240,37 @@ fn refused(answer: ReadAnswer) -> SiteRead
     }
 }
 
-// Reads a site file: kinds 1, 2, 3 and nothing after them.
+// Kind 3, and kind 6 where a byte makes it due, of a file whose head and loads are read.
+fn read_rest(bytes: &[u8], at: usize, cells: u16, loads: [u16; 32]) -> SiteRead
+    requires { ⌜ LoadsRead (now bytes) at cells loads ⌝ }
+    ensures { λ r. ⌜ r ≡ readSite (now (bytes .entry)) ⌝ }
+{
+    let read = read_reach(bytes, at, cells);
+    let reach = read.reach;
+    let first = read.answer;
+    let ReadAnswer::Done = first else {
+        return refused(first);
+    };
+    let slots = two_bytes(bytes, 6);
+    let channels = two_bytes(bytes, 8);
+    let end = at + 2 + two_bytes(bytes, at) as usize;
+    let last = read_blocks(bytes, end, slots as usize * channels as usize);
+    let blocked = last.blocked;
+    let answer = last.answer;
+    let ReadAnswer::Done = answer else {
+        return refused(answer);
+    };
+    let mut site = Site::zeros();
+    site.cells = cells;
+    site.slots = slots;
+    site.channels = channels;
+    site.loads = loads;
+    site.reach = reach;
+    site.blocked = blocked;
+    SiteRead { site, answer }
+}
+
+// Reads a site file: kinds 1, 2, 3, and 6 where something is blocked.
 pub fn read_site(bytes: &[u8]) -> SiteRead
     ensures { λ r. ⌜ r ≡ readSite (now (bytes .entry)) ⌝ }
 {
@@ -175,19 +285,7 @@ pub fn read_site(bytes: &[u8]) -> SiteRead
     };
     let end = start + len;
     let loads = loads_of(&bytes[start..end]);
-    let read = read_reach(bytes, end, cells);
-    let answer = read.answer;
-    let reach = read.reach;
-    let ReadAnswer::Done = answer else {
-        return refused(answer);
-    };
-    let mut site = Site::zeros();
-    site.cells = cells;
-    site.slots = two_bytes(bytes, 6);
-    site.channels = two_bytes(bytes, 8);
-    site.loads = loads;
-    site.reach = reach;
-    SiteRead { site, answer }
+    read_rest(bytes, end, cells, loads)
 }
 
 // Stores the first n loads, two bytes each.
@@ -260,20 +358,70 @@ fn put_pairs(out: &mut [u8], at: usize, reach: &[u32; 32], end: usize)
     }
 }
 
+// The byte of the positions 8 j to 8 j + 7.
+fn block_byte(set: &[u64; 32], j: usize) -> u8
+    requires { ⌜ j < 256 ⌝ }
+    ensures { λ r. ⌜ r ≡ blockByte (now (set .entry)) j ⌝ }
+{
+    ((set[j / 8] >> (8 * (j % 8))) % 256) as u8
+}
+
+// How many bytes kind 6 takes: none where nothing is blocked.
+fn blocks_len(set: &[u64; 32], n: usize) -> usize
+    requires { ⌜ n ≤ mostPositions ⌝ }
+    ensures { λ r. ⌜ r ≡ length (blockRecord (now (set .entry)) n) ⌝ }
+    ensures { λ r. ⌜ r ≤ 300 ⌝ }
+{
+    if none_blocked(set) {
+        return 0;
+    }
+    4 + (n + 7) / 8
+}
+
+// The bytes of m times eight positions.
+fn put_bits(out: &mut [u8], at: usize, set: &[u64; 32], m: usize)
+    requires { ⌜ (m ≤ 256) × (at + m ≤ length (now out)) ⌝ }
+    ensures { λ _. ⌜ now (out .exit) ≡ sets (now (out .entry)) at (listOf (blockByte (now (set .entry))) m) ⌝ }
+{
+    let mut j: usize = 0;
+    while j < m {
+        let x = block_byte(set, j);
+        out[at + j] = x;
+        j += 1;
+    }
+}
+
+// Kind 6, from `at` on; nothing where `need` says that it takes no bytes.
+fn put_blocks(out: &mut [u8], at: usize, set: &[u64; 32], n: usize, need: usize)
+    requires { ⌜ (n ≤ mostPositions) × (need ≡ length (blockRecord (now set) n)) × (at + need ≤ length (now out)) ⌝ }
+    ensures { λ _. ⌜ now (out .exit) ≡ sets (now (out .entry)) at (blockRecord (now (set .entry)) n) ⌝ }
+{
+    if need == 0 {
+        return;
+    }
+    let m = (n + 7) / 8;
+    put_start(out, at, (2 + m) as u16, 6);
+    put_bits(out, at + 4, set, m);
+}
+
 // The site file of a site whose record is in order.
 fn put_site(s: Site, out: &mut [u8]) -> Written
-    requires { ⌜ s .cells ≤ 32 ⌝ }
+    requires { ⌜ (s .cells ≤ 32) × (positions s ≤ mostPositions) ⌝ }
     ensures { λ r. ⌜ r ≡ written (siteBytes s) (now (out .entry)) ⌝ }
     ensures { λ _. ⌜ now (out .exit) ≡ laidOver (siteBytes s) (now (out .entry)) ⌝ }
 {
     let loads = s.loads;
     let reach = s.reach;
+    let blocked = s.blocked;
     let cells = s.cells;
     let n = cells as usize;
+    let all = s.slots as usize * s.channels as usize;
     let m = pairs_len(reach);
+    let last = blocks_len(&blocked, all);
     let from = AFTER_HEAD + 4;
     let at = from + 2 * n;
-    let need = at + 4 + m;
+    let end = at + 4 + m;
+    let need = end + last;
     if out.len() < need {
         return Written::OutShort(need);
     }
@@ -281,11 +429,12 @@ fn put_site(s: Site, out: &mut [u8]) -> Written
     put_start(out, AFTER_HEAD, 2 + 2 * cells, 2);
     put_loads(out, from, loads, n);
     put_start(out, at, (2 + m) as u16, 3);
-    put_pairs(out, at + 4, &reach, need);
+    put_pairs(out, at + 4, &reach, end);
+    put_blocks(out, end, &blocked, all, last);
     Written::Done(need)
 }
 
-// Writes the site file of a site: 1, 2, 3, then 13.
+// Writes the site file of a site: 1, 2, 3, 20, then 13.
 pub fn write_site(site: Site, out: &mut [u8]) -> Written
     ensures { λ r. ⌜ r ≡ siteWritten site (now (out .entry)) ⌝ }
     ensures { λ _. ⌜ now (out .exit) ≡ siteOut site (now (out .entry)) ⌝ }

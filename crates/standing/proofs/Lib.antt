@@ -3,3 +3,4 @@ pub mod Rows
 pub mod Passes
 pub mod Standing
 pub mod Turns
+pub mod Laid

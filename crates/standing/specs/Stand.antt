@@ -2,9 +2,9 @@
 use mathlib.Core.Path.{_≡_}
 use mathlib.Core.List.{List}
 use Prim.Native.Nat.{ℕ, _+_}
-use Rattle.theory.specs.Net.{Net, unblocked}
+use Rattle.theory.specs.Net.{Net}
 use Rattle.theory.specs.Greedy.{reserved, Outcome, planned, noRoom}
-use Rattle.site.specs.Reach.{netBy}
+use Rattle.site.specs.Reach.{isOpen, netBy}
 use Rattle.mending.specs.Mend.{mend}
 use Rattle.mending.specs.Changes.{changeCount}
 use Rattle.standing.specs.Words.{Says}
@@ -23,12 +23,12 @@ module _ (s : Net) (u : List ℕ) where
   stoodOf (noRoom c m) = Short (c + 1) m
 
 -- what stands, or the cell that finds no room, for a problem by its numbers
-module _ (cells n : ℕ) (loads clash u : List ℕ) where
+module _ (cells n : ℕ) (loads clash blocked u : List ℕ) where
   abbrev pub mendBy : Outcome
-  mendBy = mend (netBy cells n loads clash unblocked) u
+  mendBy = mend (netBy cells n loads clash (isOpen blocked)) u
 
   abbrev pub stoodBy : Stood
-  stoodBy = stoodOf (netBy cells n loads clash unblocked) u mendBy
+  stoodBy = stoodOf (netBy cells n loads clash (isOpen blocked)) u mendBy
 
   -- the words and counts say what stands, where every cell finds room
   abbrev pub SaysBy : List ℕ → List ℕ → Type 0

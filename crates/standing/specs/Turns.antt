@@ -6,7 +6,7 @@ use lib.Seq.{sets}
 use Rattle.laws.specs.Part.{listOf}
 use Rattle.theory.specs.Greedy.{reserved, Outcome, planned, noRoom}
 use Rattle.mending.specs.Keep.{standAt}
-use Rattle.standing.specs.Words.{freeAt, joined, turnCount}
+use Rattle.standing.specs.Words.{freeAt, turnMask, everyBit, wordsLaid, joined, turnCount}
 use Rattle.standing.specs.Stand.{mendBy}
 
 -- the words after the turns of the first i cells
@@ -14,11 +14,12 @@ unfoldable pub turnWords : ℕ → List ℕ → List ℕ → List ℕ → List �
 turnWords n loads clash u words zero = words
 turnWords n loads clash u words (suc i) =
     joined (turnWords n loads clash u words i)
-    (standAt (freeAt (turnWords n loads clash u words i) (getD clash i 0)) (reserved n u i) (getD loads i 0) n) (2 ^ i) n
+    (standAt (freeAt (turnWords n loads clash u words i) (turnMask (getD clash i 0) i)) (reserved n u i) (getD loads i 0) n) (2 ^ i) n
 
 -- how many positions change in cell i's turn
 abbrev pub turnChanges : ℕ → List ℕ → List ℕ → List ℕ → List ℕ → ℕ → ℕ
-turnChanges n loads clash u words i = turnCount (freeAt (turnWords n loads clash u words i) (getD clash i 0)) (reserved n u i) (getD loads i 0) n
+turnChanges n loads clash u words i =
+    turnCount (freeAt (turnWords n loads clash u words i) (turnMask (getD clash i 0) i)) (reserved n u i) (getD loads i 0) n
 
 -- how many cells have had their turn: "the first cell whose load can't be met" is the last one
 abbrev pub turnsOf : ℕ → Outcome → ℕ
@@ -30,10 +31,18 @@ abbrev pub metOf : ℕ → Outcome → ℕ
 metOf cells (planned t) = cells
 metOf cells (noRoom c m) = c
 
--- what is left in the words and in the counts
-module _ (cells n : ℕ) (loads clash u words : List ℕ) where
+-- what the turns leave in the words and in the counts
+module _ (cells n : ℕ) (loads clash blocked u words : List ℕ) where
+  abbrev pub turnedBy : List ℕ
+  turnedBy = turnWords n loads clash u words (turnsOf cells (mendBy cells n loads clash blocked u))
+
+  abbrev pub countedBy : List ℕ → List ℕ
+  countedBy counts = sets counts 0 (listOf (turnChanges n loads clash u words) (metOf cells (mendBy cells n loads clash blocked u)))
+
+-- the same where the blocked positions have every bit before the first turn, and none after the last
+module _ (cells n : ℕ) (loads clash blocked u words : List ℕ) where
   abbrev pub wordsBy : List ℕ
-  wordsBy = turnWords n loads clash u words (turnsOf cells (mendBy cells n loads clash u))
+  wordsBy = wordsLaid (turnedBy cells n loads clash blocked u (wordsLaid words blocked everyBit n)) blocked 0 n
 
   abbrev pub countsBy : List ℕ → List ℕ
-  countsBy counts = sets counts 0 (listOf (turnChanges n loads clash u words) (metOf cells (mendBy cells n loads clash u)))
+  countsBy = countedBy cells n loads clash blocked u (wordsLaid words blocked everyBit n)

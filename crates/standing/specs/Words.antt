@@ -2,7 +2,7 @@
 use mathlib.Core.Path.{_≡_}
 use mathlib.Core.Bool.{Bool, _&&_, not}
 use mathlib.Core.List.{List}
-use Prim.Native.Nat.{ℕ, _+_, _-_, _<_}
+use Prim.Native.Nat.{ℕ, _+_, _-_, _^_, _<_}
 use lib.Bits.{bitAnd, bitOr}
 use lib.Dec.{eqb}
 use lib.ListN.{getD}
@@ -13,12 +13,34 @@ use Rattle.laws.specs.Part.{listOf}
 use Rattle.laws.specs.Sum.{count}
 use Rattle.theory.specs.Net.{Reserved}
 use Rattle.theory.specs.Greedy.{sends, reserved}
+use Rattle.positions.specs.Blocked.{blockedAt}
+use Rattle.site.specs.Reach.{isOpen}
 use Rattle.mending.specs.Keep.{keepAt, standAt}
 use Rattle.mending.specs.Changes.{differ, changed}
 
--- no cell of a clash row stands at position k
+-- no cell of a mask stands at position k
 abbrev pub freeAt : List ℕ → ℕ → ℕ → Bool
-freeAt words row k = eqb (bitAnd (getD words k 0) row) 0
+freeAt words mask k = eqb (bitAnd (getD words k 0) mask) 0
+
+-- what cell i asks the words for: its clash row, and its own bit
+abbrev pub turnMask : ℕ → ℕ → ℕ
+turnMask row i = bitOr row (2 ^ i)
+
+-- W8: "a valid table reserves none of them". The word of a blocked position has every bit while the cells have their turns: it is free for no cell
+abbrev pub everyBit : ℕ
+everyBit = 4294967295
+
+-- word k with another laid down where position k is blocked
+abbrev pub wordLaid : List ℕ → List ℕ → ℕ → ℕ → ℕ
+wordLaid words blocked word k = pick (blockedAt blocked k) word (getD words k 0)
+
+-- the words of the first n positions with a word laid down at the blocked ones
+abbrev pub wordsLaid : List ℕ → List ℕ → ℕ → ℕ → List ℕ
+wordsLaid words blocked word n = sets words 0 (listOf (wordLaid words blocked word) n)
+
+-- the words of the first n positions before the first turn
+abbrev pub Starts : ℕ → List ℕ → List ℕ → Type 0
+Starts n blocked words = (k : ℕ) → k < n → getD words k 0 ≡ pick (isOpen blocked k) 0 everyBit
 
 -- word k with a cell's bit joined, where the cell is to stand there
 abbrev pub wordWith : List ℕ → (ℕ → Bool) → ℕ → ℕ → ℕ

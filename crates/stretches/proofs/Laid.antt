@@ -2,7 +2,8 @@
 -- for as long as the word stays, each usable position takes its cells (theory's `steady-takes`).
 --     begun                    nothing is laid down, and the cells have their loads left
 --     run-most, run-some       a stretch is not empty, and ends where the positions do
---     more                     after a stretch, the same is so of the position where it ends; more-all: where no position is blocked
+--     run-under                no cell of a stretch's word runs out before its end
+--     more                     after a stretch, the same is so of the position where it ends
 --     needed                   the word of the cells in need, by what the theory says that they have left
 -- Assumes nothing.
 use mathlib.Core.Path.{_≡_, refl, sym, ap, ap₂, _∙_}
@@ -19,9 +20,8 @@ use Rattle.laws.specs.Bits.{bitAt, bitIn, wordOf}
 use Rattle.laws.specs.Choice.{pick}
 use Rattle.laws.specs.Part.{listOf}
 use Rattle.laws.proofs.Stores.{sets-none, sets-same, sets-at, sets-on, sets-next}
-use Rattle.laws.proofs.Sums.{count-all}
 use Rattle.laws.proofs.Words.{word-bit, word-eq, word-gate}
-use Rattle.theory.specs.Net.{Net, unblocked}
+use Rattle.theory.specs.Net.{Net}
 use Rattle.theory.specs.Positions.{chosen, leftAt, needAt, takes}
 use Rattle.theory.proofs.Chosen.{chosen-needs, chosen-same}
 use Rattle.theory.proofs.Positions.{left-start}
@@ -90,6 +90,13 @@ module _ (usable : ℕ → Bool) (rows words₀ left₀ : List ℕ) (cells n k :
     enough : (i : ℕ) → i < cells → choice i ≡ true → run ≤ leftAt s k i
     enough i l e = omega (arith, is-run, left-is i l, shortest-under (chosen (bitIn rows) (bitAt need)) (λ i. getD left i 0) (n - k) cells i l (same i l ∙ e))
 
+    -- no cell of the word runs out before
+    pub run-under : (i : ℕ) → i < cells → bitAt word i ≡ true → run ≤ getD left i 0
+    run-under i l t =
+        let taken : bitAt word i ≡ chosen (bitIn rows) (bitAt need) i
+        = ap (λ x. bitAt x i) is-word ∙ word-bit (chosen (bitIn rows) (bitAt need)) cells i l in
+        omega (arith, is-run, shortest-under (chosen (bitIn rows) (bitAt need)) (λ i. getD left i 0) (n - k) cells i l (sym taken ∙ t))
+
     -- a stretch over m positions, of which no more than the run are usable
     pub more : (m : ℕ) → k + m ≤ n → openTo (netBy cells n left₀ rows usable) k m ≤ run → (words′ left′ : List ℕ)
         → words′ ≡ sets words k (listOf (λ d. pick (usable (k + d)) word 0) m)
@@ -113,24 +120,3 @@ module _ (usable : ℕ → Bool) (rows words₀ left₀ : List ℕ) (cells n k :
               ap₂ (λ x t. x - pick t (openTo s k m) 0) g (bit-is i l)
               ∙ sym (steady-left s cells k m still m (le-refl m) i l));
         }
-
--- where no position is blocked, the stretch is the run
-module _ (rows words₀ left₀ : List ℕ) (cells n k : ℕ) (words left : List ℕ) (laid : Laid (netBy cells n left₀ rows unblocked) words₀ left₀ k words left)
-    (fits : cells ≤ length left₀) (need : ℕ) (is-need : need ≡ wordOf (inNeed left) cells) (below : k < n) (word run : ℕ)
-    (is-word : word ≡ wordOf (chosen (bitIn rows) (bitAt need)) cells)
-    (is-run : run ≡ shortest (chosen (bitIn rows) (bitAt need)) (λ i. getD left i 0) (n - k) cells) where
-  pub more-all : (words′ left′ : List ℕ) → words′ ≡ sets words k (listOf (λ _. word) run)
-      → left′ ≡ sets left 0 (listOf (spent left word run) cells)
-      → Laid (netBy cells n left₀ rows unblocked) words₀ left₀ (k + run) words′ left′
-  more-all words′ left′ e d =
-      more unblocked rows words₀ left₀ cells n k words left laid fits need is-need below word run is-word is-run run
-      (run-most unblocked rows words₀ left₀ cells n k words left laid fits need is-need below word run is-word is-run)
-      (omega (arith, count-all run)) words′ left′ e
-      (d ∙ ap (λ x. sets left 0 (listOf (spent left word x) cells)) (sym (count-all run)))
-
-  -- no cell of the word runs out before
-  pub run-under : (i : ℕ) → i < cells → bitAt word i ≡ true → run ≤ getD left i 0
-  run-under i l t =
-      let taken : bitAt word i ≡ chosen (bitIn rows) (bitAt need) i
-      = ap (λ x. bitAt x i) is-word ∙ word-bit (chosen (bitIn rows) (bitAt need)) cells i l in
-      omega (arith, is-run, shortest-under (chosen (bitIn rows) (bitAt need)) (λ i. getD left i 0) (n - k) cells i l (sym taken ∙ t))

@@ -3,4 +3,5 @@ pub mod Turns
 pub mod Runs
 pub mod Spends
 pub mod Laid
+pub mod Open
 pub mod Ends

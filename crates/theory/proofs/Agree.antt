@@ -13,7 +13,8 @@ use Rattle.laws.proofs.Choice.{cases}
 use Rattle.laws.proofs.Search.{first-same, first-end}
 use Rattle.laws.proofs.Sums.{sum-eq}
 use Rattle.theory.specs.Net.{Net, Reserved}
-use Rattle.theory.specs.Verdict.{clash, wrong, secondAt, clashesAt, firstAt, lowestClash, wrongIn, lowestWrong, wrongAt, clashAt, tableVerdict}
+use Rattle.theory.specs.Verdict.{barred, holderAt, barredAt, lowestBarred, openVerdict, barAt, clash, wrong, secondAt, clashesAt}
+use Rattle.theory.specs.Verdict.{firstAt, lowestClash, wrongIn, lowestWrong, wrongAt, clashAt, tableVerdict}
 
 module _ (s : Net) (res sat : Reserved) (same : (i k : ℕ) → i < s .cells → k < s .width → res i k ≡ sat i k) where
   second-agree : (k a : ℕ) → k < s .width → secondAt s res k a ≡ secondAt s sat k a
@@ -60,6 +61,24 @@ module _ (s : Net) (res sat : Reserved) (same : (i k : ℕ) → i < s .cells →
       (λ e. rw e (ap (wrongAt s res) wrong-agree ∙ wrong-at (lowestWrong s sat)))
       (cases (ltb k (s .width)))
 
+  open-agree : openVerdict s res ≡ openVerdict s sat
+  unfolding openVerdict
+  open-agree = ap (clashAt s res) lowest-agree ∙ clash-at (lowestClash s sat)
+
+  holder-agree : (k : ℕ) → k < s .width → holderAt s res k ≡ holderAt s sat k
+  unfolding holderAt
+  holder-agree k h = first-same (λ i. res i k) (λ i. sat i k) 0 (s .cells) zero-le (λ i g m. same i k m h)
+
+  barred-agree : lowestBarred s res ≡ lowestBarred s sat
+  unfolding lowestBarred barredAt
+  barred-agree =
+      first-same (barredAt s res) (barredAt s sat) 0 (s .width) zero-le
+      (λ k g m. ap (λ a. not (s .usable k) && ltb a (s .cells)) (holder-agree k m))
+
+  bar-at : (k : ℕ) → barAt s res k ≡ barAt s sat k
+  bar-at k =
+      ⊎-elim (λ e. rw e (ap (barred k) (holder-agree k (ltb-true k (s .width) e)))) (λ e. rw e open-agree) (cases (ltb k (s .width)))
+
   pub verdict-agree : tableVerdict s res ≡ tableVerdict s sat
   unfolding tableVerdict
-  verdict-agree = ap (clashAt s res) lowest-agree ∙ clash-at (lowestClash s sat)
+  verdict-agree = ap (barAt s res) barred-agree ∙ bar-at (lowestBarred s sat)

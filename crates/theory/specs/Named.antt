@@ -37,6 +37,18 @@ pub record FirstBreaks (s : Net) (who : ℕ → Bool) (a b c : ℕ) : Type 0 whe
   pub shows : Breaks s who a b c
   pub earliest : (x y z : ℕ) → Breaks s who x y z → NoEarlier a c b x z y
 
+-- W8: "reservation on a blocked position": cell i's, at position k
+pub record Barred (s : Net) (res : Reserved) (k i : ℕ) : Type 0 where
+  pub inside : i < s .cells
+  pub within : k < s .width
+  pub held : res i k ≡ true
+  pub closed : s .usable k ≡ false
+
+-- "lowest position, then cell"
+pub record FirstBarred (s : Net) (res : Reserved) (k i : ℕ) : Type 0 where
+  pub shows : Barred s res k i
+  pub earliest : (l j : ℕ) → Barred s res l j → Rising k l (i ≤ j)
+
 -- "two clashing cells hold 1 at one position": cells a < c, at position k
 pub record Clashes (s : Net) (res : Reserved) (k a c : ℕ) : Type 0 where
   pub rising : a < c
@@ -46,13 +58,16 @@ pub record Clashes (s : Net) (res : Reserved) (k a c : ℕ) : Type 0 where
   pub one : res a k ≡ true
   pub other : res c k ≡ true
 
--- "lowest position; there the pair with the lowest first cell, then second"
+-- W8: 22 "before 6": no reservation on a blocked position. "lowest position; there the pair with the lowest first cell, then second"
 pub record FirstClash (s : Net) (res : Reserved) (k a c : ℕ) : Type 0 where
+  pub free : (l j : ℕ) → Barred s res l j → ⊥
   pub shows : Clashes s res k a c
   pub earliest : (l x z : ℕ) → Clashes s res l x z → NoEarlier k a c l x z
 
--- "6 before 7", "lowest cell, its count": no clash anywhere; cell i is reserved n times, which is not its load; and every lower cell is as its load says
+-- "6 before 7", "lowest cell, its count": no reservation on a blocked position, no clash anywhere; cell i is reserved n times, which is not its load;
+-- and every lower cell is as its load says
 pub record FirstWrong (s : Net) (res : Reserved) (i n : ℕ) : Type 0 where
+  pub free : (l j : ℕ) → Barred s res l j → ⊥
   pub apart : (k a c : ℕ) → Clashes s res k a c → ⊥
   pub inside : i < s .cells
   pub counted : n ≡ count (res i) (s .width)

@@ -49,6 +49,7 @@ pub fn fault_answer(said: Fault) -> Answer
         Fault::Size => give(1, 0, 0, 0),
         Fault::Load(cell) => give(2, cell, 0, 0),
         Fault::Reach(row) => give(3, row, 0, 0),
+        Fault::Blocked(position) => give(20, position, 0, 0),
     }
 }
 
@@ -118,6 +119,7 @@ pub fn check_answer(said: CheckAnswer) -> Answer
     match said {
         CheckAnswer::Valid => give(0, 0, 0, 0),
         CheckAnswer::TableShort => give(4, 0, 0, 0),
+        CheckAnswer::Blocked(position, cell) => give(22, position, cell, 0),
         CheckAnswer::Clash(position, a, c) => give(6, position, a, c),
         CheckAnswer::Count(cell, count) => give(7, cell, count, 0),
         CheckAnswer::Refused(f) => fault_answer(f),

@@ -18,6 +18,12 @@ ghost use Rattle.sheet.specs.Given.{sheetGiven};
 ghost use Rattle.told.specs.Told.{told};
 ghost use Rattle.toldfiles.specs.Files.{toldEdited, toldSiteRead, toldPlanRead, toldSheetRead};
 
+// dugg_blocked: a set of blocked positions, position k in bit k % 64 of word k / 64.
+#[repr(C)]
+pub struct Blocked {
+    pub bits: [u64; 32],
+}
+
 // dugg_edited: a site and the answer beside it.
 #[repr(C)]
 pub struct EditedSite {

@@ -17,7 +17,7 @@ use Rattle.site.proofs.Given.{faultFrom}
 use Rattle.site.proofs.PassedOn.{proper-call, proper-either}
 use Rattle.site.specs.declared.Site.{Site}
 use Rattle.site.specs.declared.Fault.{Fault}
-use Rattle.site.specs.declared.Fault.the-variants.{Fine, Size, Load, Reach}
+use Rattle.site.specs.declared.Fault.the-variants.{Fine, Size, Load, Reach, Blocked}
 use Rattle.planner.specs.Plan.{answerOf}
 use Rattle.planner.specs.Given.{planProper}
 use Rattle.planner.proofs.Given.{run-proper}
@@ -43,6 +43,7 @@ read-refusal Fine h = absurd (false≢true h)
 read-refusal Size h = refl
 read-refusal (Load k) h = refl
 read-refusal (Reach k) h = refl
+read-refusal (Blocked k) h = refl
 
 read-back : (a : FormAnswer) → formProper a ≡ true → readBack (formGiven a) ≡ a
 read-back Done h = refl
@@ -71,10 +72,10 @@ check-words-proper s w =
     (proper-either checkProper (ltb (length w) (positions s)) check.TableShort (verdictOf v) refl (verdict-proper v))
 
 -- the numbers and the values, in their order, of an answer of each kind
-abbrev forms : (cell row : ℕ) → List FormAnswer
-forms cell row = Done ∷ TableShort ∷ Refused Size ∷ Refused (Load cell) ∷ Refused (Reach row) ∷ []
+abbrev forms : (cell row position : ℕ) → List FormAnswer
+forms cell row position = Done ∷ TableShort ∷ Refused Size ∷ Refused (Load cell) ∷ Refused (Reach row) ∷ Refused (Blocked position) ∷ []
 
-pub form-numbers : (cell row : ℕ)
-    → (map (λ (a : FormAnswer). formGiven a .number) (forms cell row) ≡ 0 ∷ 4 ∷ 1 ∷ 2 ∷ 3 ∷ [])
-    × (map (λ (a : FormAnswer). formGiven a .values) (forms cell row) ≡ [] ∷ [] ∷ [] ∷ (cell ∷ []) ∷ (row ∷ []) ∷ [])
-form-numbers cell row = (refl, refl)
+pub form-numbers : (cell row position : ℕ)
+    → (map (λ (a : FormAnswer). formGiven a .number) (forms cell row position) ≡ 0 ∷ 4 ∷ 1 ∷ 2 ∷ 3 ∷ 20 ∷ [])
+    × (map (λ (a : FormAnswer). formGiven a .values) (forms cell row position) ≡ [] ∷ [] ∷ [] ∷ (cell ∷ []) ∷ (row ∷ []) ∷ (position ∷ []) ∷ [])
+form-numbers cell row position = (refl, refl)

@@ -1,23 +1,41 @@
 -- From what the walk finds to the verdict: a word's clashes are those of its position, and the counts are how often each cell is reserved. Assumes nothing.
 use mathlib.Core.Path.{_≡_, refl, sym, ap, _∙_}
-use mathlib.Core.Bool.{not}
+use mathlib.Core.Bool.{Bool, true, false, _&&_, not}
 use mathlib.Core.List.{List}
 use Prim.Native.Nat.{ℕ, _+_, _≤_, _<_, zero-le}
 use native.Mathlib.Omega.{arith}
-use lib.Dec.{eqb}
+use lib.Dec.{ltb, eqb}
 use lib.ListN.{length, getD}
 use borrow.Author.Tests.{lt-ltb, le-ltb, ltb-true}
-use Rattle.laws.specs.Bits.{bitIn}
+use Rattle.laws.specs.Bits.{bitAt, bitIn}
 use Rattle.laws.specs.Search.{first}
-use Rattle.laws.proofs.Search.{first-passes, first-most, first-same}
+use Rattle.laws.proofs.Any.{any-none}
+use Rattle.laws.proofs.Search.{first-passes, first-most, first-none, first-same}
 use Rattle.theory.specs.Net.{Net, unblocked}
-use Rattle.theory.specs.Verdict.{valid, clash, wrong, secondAt, clashesAt, firstAt, lowestClash, wrongIn, lowestWrong, tableVerdict}
+use Rattle.theory.specs.Verdict.{
+  valid,
+  clash,
+  wrong,
+  holderAt,
+  barredAt,
+  lowestBarred,
+  secondAt,
+  clashesAt,
+  firstAt,
+  lowestClash,
+  wrongIn,
+  lowestWrong,
+  openVerdict,
+  tableVerdict,
+}
+use Rattle.positions.specs.Blocked.{mostPositions, blockedAt, anyIn}
 use Rattle.site.specs.Record.{positions, faultOf}
 use Rattle.site.specs.Reach.{netIn, netOf}
 use Rattle.site.specs.declared.Site.{Site}
 use Rattle.site.specs.declared.Fault.the-variants.{Fine}
 use Rattle.words.specs.Clashes.{secondIn, clashesIn, firstIn}
 use Rattle.checker.specs.Check.{verdictOf}
+use Rattle.checker.specs.Marks.{barNet}
 use Rattle.checker.specs.declared.CheckAnswer.the-variants.{Valid, Clash, Count}
 use Rattle.checker.proofs.Judged.{judged-by}
 use Rattle.wordforms.specs.Words.{sendsAt}
@@ -55,10 +73,10 @@ module _ (cells n : ℕ) (loads rows words : List ℕ) where
         rw (f, at) (ltb-true _ cells (first-passes (λ k. clashingWord rows cells (getD words k 0)) 0 n zero-le (rw at at h)))
 
     pub is-clash : {a c : ℕ} → p < n → a ≡ firstIn (getD words p 0) rows cells → c ≡ secondIn (getD words p 0) rows cells a
-        → Clash p (a + 1) (c + 1) ≡ verdictOf (tableVerdict whole (sendsAt words))
-    unfolding tableVerdict verdictOf
+        → Clash p (a + 1) (c + 1) ≡ verdictOf (openVerdict whole (sendsAt words))
+    unfolding openVerdict verdictOf
     is-clash {a} {c} h f g =
-        let e : clash p a c ≡ tableVerdict whole (sendsAt words) =
+        let e : clash p a c ≡ openVerdict whole (sendsAt words) =
         rw (sym (at ∙ lowest-is), lt-ltb p n h, sym (f ∙ first-is p), sym (g ∙ second-is p a)) in
         ap verdictOf e
 
@@ -70,19 +88,40 @@ module _ (cells n : ℕ) (loads rows words : List ℕ) where
           ∙ first-same (miscounted counts loads) (wrongIn whole (sendsAt words)) 0 cells zero-le
           (λ j l h. ap (λ (m : ℕ). not (eqb m (getD loads j 0))) (counted .1 j h))
 
-      pub is-count : i < cells → Count (i + 1) (getD counts i 0) ≡ verdictOf (tableVerdict whole (sendsAt words))
-      unfolding tableVerdict verdictOf
+      pub is-count : i < cells → Count (i + 1) (getD counts i 0) ≡ verdictOf (openVerdict whole (sendsAt words))
+      unfolding openVerdict verdictOf
       is-count h =
-          let e : wrong i (getD counts i 0) ≡ tableVerdict whole (sendsAt words) =
+          let e : wrong i (getD counts i 0) ≡ openVerdict whole (sendsAt words) =
           rw (sym (at ∙ lowest-is), le-ltb p n none, sym wrong-is, lt-ltb i cells h, counted .1 i h) in
           ap verdictOf e
 
-      pub is-valid : cells ≤ i → Valid ≡ verdictOf (tableVerdict whole (sendsAt words))
-      unfolding tableVerdict verdictOf
+      pub is-valid : cells ≤ i → Valid ≡ verdictOf (openVerdict whole (sendsAt words))
+      unfolding openVerdict verdictOf
       is-valid h =
-          let e : valid ≡ tableVerdict whole (sendsAt words) =
+          let e : valid ≡ openVerdict whole (sendsAt words) =
           rw (sym (at ∙ lowest-is), le-ltb p n none, sym wrong-is, le-ltb i cells h) in
           ap verdictOf e
+
+-- ---- blocked positions
+
+twice : (b : Bool) → b ≡ not (not b)
+twice true = refl
+twice false = refl
+
+module _ (cells n : ℕ) (blocked words : List ℕ) where
+  -- the test of `lowestBarred`, of a word
+  pub bar-word : (k : ℕ) → (blockedAt blocked k && ltb (first (bitAt (getD words k 0)) 0 cells) cells) ≡ barredAt (barNet cells n blocked) (sendsAt words) k
+  unfolding barredAt holderAt
+  bar-word k = ap (λ b. b && ltb (first (bitAt (getD words k 0)) 0 cells) cells) (twice (blockedAt blocked k))
+
+  -- where no position is blocked there is none
+  pub none-barred : n ≤ mostPositions → anyIn blocked mostPositions ≡ false → n ≡ lowestBarred (barNet cells n blocked) (sendsAt words)
+  unfolding lowestBarred
+  none-barred few none =
+      sym (first-none (barredAt (barNet cells n blocked) (sendsAt words)) 0 n zero-le
+      (λ k _ l.
+      sym (bar-word k)
+      ∙ ap (λ b. b && ltb (first (bitAt (getD words k 0)) 0 cells) cells) (any-none (blockedAt blocked) mostPositions none k (omega arith))))
 
 -- the check of a site with no fault and of enough words
 pub words-judged : (s : Site) (w : List ℕ) → faultOf s ≡ Fine → positions s ≤ length w

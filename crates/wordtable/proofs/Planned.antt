@@ -4,11 +4,10 @@ use mathlib.Core.List.{List, _++_}
 use Prim.Native.Nat.{ℕ, _≤_}
 use lib.ListN.{length, drop}
 use borrow.Author.Tests.{le-ltb}
-use Rattle.theory.specs.Net.{unblocked}
 use Rattle.theory.specs.Greedy.{greedy}
 use Rattle.laws.specs.Bits.{bitIn}
 use Rattle.site.specs.Record.{positions, faultOf}
-use Rattle.site.specs.Reach.{clashOf, netIn, netOf, netBy}
+use Rattle.site.specs.Reach.{clashOf, isOpen, netIn, netOf, netBy}
 use Rattle.site.specs.declared.Site.{Site}
 use Rattle.site.specs.declared.Fault.the-variants.{Fine}
 use Rattle.words.specs.Words.{outWords}
@@ -17,10 +16,10 @@ use Rattle.planner.specs.declared.PlanAnswer.{PlanAnswer}
 use Rattle.wordtable.specs.Plan.{planWordsAnswer, planWords}
 
 module _ (s : Site) (w : List ℕ) (fine : faultOf s ≡ Fine) (fits : positions s ≤ length w) (rows : List ℕ) (states : bitIn rows ≡ clashOf s) where
-  net : netBy (s .cells) (positions s) (s .loads) rows unblocked ≡ netOf s
-  net = ap (λ clash. netIn (s .cells) (positions s) (s .loads) clash unblocked) states
+  net : netBy (s .cells) (positions s) (s .loads) rows (isOpen (s .blocked)) ≡ netOf s
+  net = ap (λ clash. netIn (s .cells) (positions s) (s .loads) clash (isOpen (s .blocked))) states
 
-  pub is-answer : (r : PlanAnswer) → r ≡ answerOf (greedy (netBy (s .cells) (positions s) (s .loads) rows unblocked)) → r ≡ planWordsAnswer s w
+  pub is-answer : (r : PlanAnswer) → r ≡ answerOf (greedy (netBy (s .cells) (positions s) (s .loads) rows (isOpen (s .blocked)))) → r ≡ planWordsAnswer s w
   unfolding planWordsAnswer
   is-answer r e =
       e
@@ -28,7 +27,7 @@ module _ (s : Site) (w : List ℕ) (fine : faultOf s ≡ Fine) (fits : positions
       ∙ sym (simp (fine, le-ltb (length w) (positions s) fits))
 
   pub are-words : (x : List ℕ)
-      → x ≡ outWords (s .cells) (positions s) (greedy (netBy (s .cells) (positions s) (s .loads) rows unblocked)) ++ drop (positions s) w
+      → x ≡ outWords (s .cells) (positions s) (greedy (netBy (s .cells) (positions s) (s .loads) rows (isOpen (s .blocked)))) ++ drop (positions s) w
       → x ≡ planWords s w
   unfolding planWords
   are-words x e =

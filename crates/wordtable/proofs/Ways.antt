@@ -16,7 +16,7 @@ use Rattle.theory.specs.Greedy.{reserved}
 use Rattle.site.specs.Record.{positions, size, faultOf, isFine}
 use Rattle.site.specs.declared.Site.{Site}
 use Rattle.site.specs.declared.Fault.{Fault}
-use Rattle.site.specs.declared.Fault.the-variants.{Fine, Size, Load, Reach}
+use Rattle.site.specs.declared.Fault.the-variants.{Fine, Size, Load, Reach, Blocked}
 use Rattle.words.specs.Words.{wordsOf}
 use Rattle.wordforms.specs.Words.{sendsAt, bytesOf}
 use Rattle.wordtable.specs.Forms.{lentShort, formAnswer, toWords, toBytes}
@@ -88,6 +88,7 @@ goes-by Fine false e = (refl, refl)
 goes-by Size b e = let z : _≡_ {A = ℕ} 0 1 = cc in absurd (omega arith)
 goes-by (Load k) b e = let z : _≡_ {A = ℕ} 0 1 = cc in absurd (omega arith)
 goes-by (Reach k) b e = let z : _≡_ {A = ℕ} 0 1 = cc in absurd (omega arith)
+goes-by (Blocked k) b e = let z : _≡_ {A = ℕ} 0 1 = cc in absurd (omega arith)
 
 kept-by : (f : Fault) (b : Bool) (done kept : List ℕ) → OneOf (1 ∷ 2 ∷ []) (tagOf the-type (pick (isFine f) (pick b TableShort Done) (Refused f)))
     → kept ≡ pick (isFine f) (pick b kept done) kept
@@ -96,6 +97,7 @@ kept-by Fine false done kept h = absurd (⊎-elim (λ e. omega arith) (λ e. ome
 kept-by Size b done kept h = refl
 kept-by (Load k) b done kept h = refl
 kept-by (Reach k) b done kept h = refl
+kept-by (Blocked k) b done kept h = refl
 
 module _ (s : Site) (t w : List ℕ) {a : FormAnswer} (is : a ≡ formAnswer s t w) where
   pub goes : a ≡ Done → Goes s t w

@@ -2,18 +2,25 @@
 //
 // What planning costs stands in crates/stretches/src/lib.rt; the local room is the clash rows and a load for each cell.
 // What the check costs: a run of equal words is passed at a compare a word, and its word is looked at once, in it only the cells that are set;
-// the local room is the clash rows and a count for each cell. The changes of form go row by row over neighbouring places, without a branch.
+// the local room is the clash rows and a count for each cell. Where positions are blocked, each position is looked at once before that.
+// The changes of form go row by row over neighbouring places, without a branch.
 ghost use mathlib.Core.Path.{_≡_};
-ghost use mathlib.Core.Bool.{not};
-ghost use Prim.Native.Nat.{_+_, _≤_, _<_};
-ghost use lib.Dec.{eqb};
-ghost use lib.ListN.{length, getD};
-ghost use Rattle.laws.specs.Bits.{bitIn};
+ghost use mathlib.Core.Bool.{_&&_, not};
+ghost use mathlib.Core.List.{_++_};
+ghost use Prim.Native.Nat.{_+_, _*_, _≤_, _<_};
+ghost use lib.Dec.{ltb, eqb};
+ghost use lib.ListN.{length, getD, drop};
+ghost use lib.Seq.{sets};
+ghost use Rattle.laws.specs.Bits.{bitAt, bitIn};
+ghost use Rattle.laws.specs.Part.{listOf};
 ghost use Rattle.laws.specs.Search.{first};
 ghost use Rattle.theory.specs.Net.{unblocked};
-ghost use Rattle.theory.specs.Verdict.{tableVerdict};
-ghost use Rattle.site.specs.Reach.{netIn};
+ghost use Rattle.theory.specs.Greedy.{reserved};
+ghost use Rattle.theory.specs.Verdict.{lowestBarred, openVerdict, tableVerdict};
+ghost use Rattle.positions.specs.Blocked.{mostPositions, blockedAt};
+ghost use Rattle.site.specs.Reach.{isOpen, netIn};
 ghost use Rattle.checker.specs.Check.{verdictOf};
+ghost use Rattle.checker.specs.Marks.{barNet};
 ghost use Rattle.wordforms.specs.Words.{sendsAt};
 ghost use Rattle.wordtable.specs.Tally.{clashingWord, differs, Room, Added, CountedTo, miscounted};
 ghost use Rattle.wordtable.specs.Plan.{planWordsAnswer, planWords};
@@ -21,11 +28,14 @@ ghost use Rattle.wordtable.specs.Check.{checkWordsAnswer};
 ghost use Rattle.wordtable.specs.Forms.{formAnswer, toWords, toBytes};
 use checker::CheckAnswer;
 use planner::PlanAnswer;
+use positions::is_blocked;
+use positions::none_blocked;
 use site::Fault;
 use site::Site;
 use square::low_bits;
 use wordforms::gather_words;
 use wordforms::scatter;
+use words::lowest;
 
 // The answer to a change of form: done; 4, a lent part is short; or what is wrong with the record.
 pub enum FormAnswer {
@@ -50,7 +60,8 @@ pub fn plan_words(site: Site, words: &mut [u32]) -> PlanAnswer
     }
     let clash = site.clash_rows();
     let loads = site.loads;
-    stretches::plan_stretches(words, &clash, loads, cells, n)
+    let blocked = site.blocked;
+    stretches::plan_stretches(words, &clash, loads, cells, n, &blocked)
 }
 
 // Adds `times` to the count of each cell of a word, and answers what those cells meet of their clash rows above them: not 0 exactly where two of them clash.
@@ -124,10 +135,16 @@ fn lowest_wrong(counts: &[u32; 32], loads: [u16; 32], cells: usize) -> usize
     i
 }
 
-// The verdict on n words: their first clash, else their first wrong count.
-fn judge(words: &[u32], n: usize, clash: &[u32; 32], loads: [u16; 32], cells: usize) -> CheckAnswer
+// The verdict on n words that have no cell at a blocked position: their first clash, else their first wrong count.
+fn judge_open(
+    words: &[u32],
+    n: usize,
+    clash: &[u32; 32],
+    loads: [u16; 32],
+    cells: usize,
+) -> CheckAnswer
     requires { ⌜ (cells ≤ 32) × (n ≤ 2048) × (n ≤ length (now words)) ⌝ }
-    ensures { λ r. ⌜ r ≡ verdictOf (tableVerdict (netIn cells n loads (bitIn (now (clash .entry))) unblocked) (sendsAt (now (words .entry)))) ⌝ }
+    ensures { λ r. ⌜ r ≡ verdictOf (openVerdict (netIn cells n loads (bitIn (now (clash .entry))) unblocked) (sendsAt (now (words .entry)))) ⌝ }
 {
     let mut counts = [0u32; 32];
     let p = walk(&mut counts, words, n, clash, cells);
@@ -144,7 +161,69 @@ fn judge(words: &[u32], n: usize, clash: &[u32; 32], loads: [u16; 32], cells: us
     CheckAnswer::Valid
 }
 
-// Whether words are a valid table for a site; if not, their first clash, else their first wrong count. Refuses a site at fault, then too few words.
+// Whether position p is blocked and its word has a cell.
+fn is_barred(blocked: &[u64; 32], word: u32, p: usize, cells: usize) -> bool
+    requires { ⌜ (cells ≤ 32) × (p < mostPositions) ⌝ }
+    ensures { λ r. ⌜ r ≡ (blockedAt (now (blocked .entry)) p && ltb (first (bitAt word) 0 cells) cells) ⌝ }
+{
+    if is_blocked(blocked, p) {
+        return lowest(word, 0, cells) < cells;
+    }
+    false
+}
+
+// The lowest blocked position whose word has a cell; n where there is none.
+fn first_barred(words: &[u32], n: usize, blocked: &[u64; 32], cells: usize) -> usize
+    requires { ⌜ (cells ≤ 32) × (n ≤ mostPositions) × (n ≤ length (now words)) ⌝ }
+    ensures { λ r. ⌜ r ≡ lowestBarred (barNet cells n (now (blocked .entry))) (sendsAt (now (words .entry))) ⌝ }
+{
+    let mut p = 0;
+    while p < n {
+        if is_barred(blocked, words[p], p, cells) {
+            return p;
+        }
+        p += 1;
+    }
+    p
+}
+
+// The same, without a look at the words where no position is blocked.
+fn lowest_barred(words: &[u32], n: usize, blocked: &[u64; 32], cells: usize) -> usize
+    requires { ⌜ (cells ≤ 32) × (n ≤ mostPositions) × (n ≤ length (now words)) ⌝ }
+    ensures { λ r. ⌜ r ≡ lowestBarred (barNet cells n (now (blocked .entry))) (sendsAt (now (words .entry))) ⌝ }
+{
+    if none_blocked(blocked) {
+        return n;
+    }
+    first_barred(words, n, blocked, cells)
+}
+
+// The verdict on n words: the first blocked position that has a cell, and the lowest cell there, else what is said without them.
+fn judge(
+    words: &[u32],
+    n: usize,
+    clash: &[u32; 32],
+    loads: [u16; 32],
+    cells: usize,
+    blocked: &[u64; 32],
+) -> CheckAnswer
+    requires { ⌜ (cells ≤ 32) × (n ≤ 2048) × (n ≤ length (now words)) ⌝ }
+    ensures { λ r. ⌜
+        r ≡ verdictOf (tableVerdict (netIn cells n loads (bitIn (now (clash .entry))) (isOpen (now (blocked .entry)))) (sendsAt (now (words .entry))))
+        ⌝ }
+{
+    let p = lowest_barred(words, n, blocked, cells);
+    if p < n {
+        let word = words[p];
+        let i = lowest(word, 0, cells);
+        let number = i + 1;
+        return CheckAnswer::Blocked(p, number);
+    }
+    judge_open(words, n, clash, loads, cells)
+}
+
+// Whether words are a valid table for a site; if not, their first cell at a blocked position, else their first clash, else their first wrong count.
+// Refuses a site at fault, then too few words.
 pub fn check_words(site: Site, words: &[u32]) -> CheckAnswer
     ensures { λ r. ⌜ r ≡ checkWordsAnswer site (now (words .entry)) ⌝ }
 {
@@ -159,7 +238,8 @@ pub fn check_words(site: Site, words: &[u32]) -> CheckAnswer
     }
     let clash = site.clash_rows();
     let loads = site.loads;
-    judge(words, n, &clash, loads, cells)
+    let blocked = site.blocked;
+    judge(words, n, &clash, loads, cells, &blocked)
 }
 
 // What a change of form answers, by what is lent: refuses a site at fault, then a table or words that are too short.

@@ -1,13 +1,15 @@
 //! `duggfrask why`: what can be said of a site, line by line.
 
 use super::wording::counted;
+use crate::blocklist::write_list;
 use crate::heaviest::{heaviest, Heaviest};
 use crate::judge::{chain, least, load_test};
 use crate::planner::plan;
 use crate::site::{Site, MOST_CHANNELS, MOST_SLOTS};
 
 /// Whether the site is chained, the load test, the plan or what a no means; how many channel-slots it takes and the
-/// heaviest clash; and so how many slots and channels. The site comes from a reader, and is sound.
+/// heaviest clash; and so how many slots and channels, or where something is blocked what. The site comes from a reader,
+/// and is sound.
 pub fn why(site: &Site) -> String {
     let gap = chain(site).expect("a sound site");
     let clash = heaviest(site).expect("a sound site");
@@ -17,7 +19,7 @@ pub fn why(site: &Site) -> String {
             format!("not chained: cells {a} and {c} clash, and cell {b} between them does not clash with cell {a}\n")
         }
     };
-    let room = site.positions() as u64;
+    let room = site.room();
     let planned = plan(site, &mut vec![0; site.table_len()]);
     let demand = least(site).expect("a sound site").channel_slots;
     let enough = if planned.is_ok() { demand.min(room) } else { demand };
@@ -29,7 +31,7 @@ pub fn why(site: &Site) -> String {
         + &load_line(site, gap.is_none())
         + &plan
         + &takes_lines(site, &clash, enough)
-        + &size_lines(site, clash.load, enough)
+        + &if site.has_blocked() { blocked_line(site) } else { size_lines(site, clash.load, enough) }
 }
 
 fn load_line(site: &Site, chained: bool) -> String {
@@ -54,7 +56,8 @@ fn takes_lines(site: &Site, clash: &Heaviest, enough: u64) -> String {
     } else {
         format!("it takes at least {least}, and {enough} will do")
     };
-    let mut lines = format!("{takes}; the site has {}\n", site.positions());
+    let open = if site.has_blocked() { " open" } else { "" };
+    let mut lines = format!("{takes}; the site has {}{open}\n", site.room());
     if clash.load > 0 {
         lines += &format!("of all cells that clash with one another these need the most, {}:\n", clash.load);
     }
@@ -62,6 +65,11 @@ fn takes_lines(site: &Site, clash: &Heaviest, enough: u64) -> String {
         lines += &format!("  cell {cell}, load {}\n", site.load(cell));
     }
     lines
+}
+
+/// Where something is blocked more slots or channels need not be open, so that nothing is said of how many would do.
+fn blocked_line(site: &Site) -> String {
+    format!("blocked: {}\n", write_list(site))
 }
 
 /// With the site's channels how many slots, and with its slots how many channels.
@@ -89,6 +97,7 @@ fn with(given: String, least: u64, enough: u64, thing: &str, most: usize) -> Str
 #[cfg(test)]
 mod tests {
     use super::*;
+    use crate::site::set_of;
 
     fn alone(slots: usize, channels: usize, load: u16) -> Vec<String> {
         let site = Site::sized(1, slots, channels).with_load(1, load).unwrap();
@@ -168,6 +177,33 @@ with 1 channel: at least 2 slots, and 3 will do
 with 2 slots: at least 1 channel, and 2 will do
 ";
         assert_eq!(why(&site), expected);
+    }
+
+    #[test]
+    fn what_is_blocked() {
+        let mut site = Site::sized(2, 3, 2).with_reach(1, 2, true).unwrap();
+        site.loads[..2].copy_from_slice(&[3, 1]);
+        site.blocked[0] = 0b101010;
+        let expected = "\
+chained
+the load test fails: cell 2 is over by 1 fragment
+not planned: cell 2 is 1 fragment short. The site is full: no plan exists
+it takes 4 channel-slots, and no fewer; the site has 3 open
+of all cells that clash with one another these need the most, 4:
+  cell 1, load 3
+  cell 2, load 1
+blocked: *.2
+";
+        assert_eq!(why(&site), expected);
+        site.blocked[0] = 0b111111;
+        let lines = why(&site);
+        assert!(lines.contains("\nit takes 4 channel-slots, and no fewer; the site has 0 open\n"), "{lines}");
+        assert!(lines.ends_with("\nblocked: *.*\n"), "{lines}");
+        let star = Site { blocked: set_of(9..10), ..star(128, &[10; 14]) };
+        let lines = why(&star);
+        assert!(
+            lines.contains("\nplanned\nit takes at least 20 channel-slots, and 127 will do; the site has 127 open\n")
+        );
     }
 
     #[test]

@@ -104,9 +104,18 @@ fn way(site: &Site, first: usize, second: usize) -> String {
     }
 }
 
-/// The checker's refusals 6 and 7.
+/// A list of blocked positions that is none: where its first item begins that is no item, counted from 0.
+pub fn bad_list(at: usize) -> String {
+    format!("--blocked: at character {} stands no slot.channel of this site\n", at + 1)
+}
+
+/// The checker's refusals 22, 6 and 7.
 pub fn sends_wrongly(site: &Site, no: &Answer) -> String {
     let [value, first, second] = no.value;
+    if no.number == 22 {
+        let place = slot_and_channel(site, value, ", ");
+        return format!("refused 22: cell {first} sends in {place}, which is blocked\n");
+    }
     if no.number == 6 {
         let place = slot_and_channel(site, value, ", ");
         let way = way(site, first as usize, second as usize);
@@ -169,7 +178,7 @@ mod tests {
 
     #[test]
     fn the_page_has_every_meaning() {
-        for number in 1..=19 {
+        for number in 1..=22 {
             let meaning = meaning(NUMBERS, number);
             assert!(meaning.starts_with(|first: char| first.is_ascii_lowercase()), "{number}: {meaning}");
             assert!(!meaning.ends_with('.') && !meaning.contains(". "), "{number}: {meaning}");

@@ -1,15 +1,17 @@
 -- `admission::decide` meets its contract: each way out is one of the ways of proofs/Answer.antt; where no flow is refused the arrays state the list's flows,
 -- and the clash rows the site's problem. Assumes nothing.
 use Prim.Native.Nat.{ℕ, _≤_}
-use mathlib.Core.Bool.{true}
+use mathlib.Core.Bool.{true, not}
 use mathlib.Core.Path.{_≡_, sym, ap, _∙_}
 use native.Mathlib.Omega.{arith}
 use lib.ListN.{getD}
 use borrow.Author.Needs.{needs}
 use borrow.Author.Tests.{not-true, not-false}
+use Rattle.laws.proofs.Sums.{count-most}
 use Rattle.theory.specs.Net.{everyone}
 use Rattle.theory.specs.Verdict.{chainVerdict}
-use Rattle.site.specs.Record.{faultOf}
+use Rattle.positions.specs.Blocked.{blockedAt}
+use Rattle.site.specs.Record.{positions, faultOf}
 use Rattle.site.specs.Reach.{netOf}
 use Rattle.site.specs.declared.Fault.the-variants.{Fine}
 use Rattle.site.proofs.Faults.{not-fine, fine-sized, few-positions}
@@ -98,53 +100,81 @@ returns-4 c =
     (c .before .before .before .before .before .before .before .before .before .if1 .left) (chain (c .before .before .before .before .before)) _
     (c .before .before .before .before .ask-all .ensures .0) (c .before .before .before .if3 .taken))
 
+cast-n : tie.Need-cast-n
+cast-n c = search needs
+
+cast-n-2 : tie.Need-cast-n-2
+cast-n-2 c = search needs
+
+mul-n : tie.Need-mul-n
+mul-n c = omega (arith, few-positions (fine-sized _ (fine (c .before .before .before .before .before .before .before .before .before))))
+
+cast-open-count : tie.Need-cast-open-count
+cast-open-count c =
+    omega (arith, few-positions (fine-sized _ (fine (c .before .before .before .before .before .before .before .before .before .before .before))))
+
+open-count-requires : tie.Need-open-count-requires
+open-count-requires c κs = few-positions (fine-sized _ (fine (c .before .before .before .before .before .before .before .before .before .before .before)))
+
+-- once the open positions are counted
+module _ (c : tie.After-open-count) where
+  abbrev told : tie.After-enum-told
+  told = c .before .before .before .before .before .before .before .before .before .before .before .before
+
+  abbrev start : tie.Start
+  start = told .before .before .before
+
+  abbrev asked : tie.After-ask-all
+  asked = c .before .before .before .before .before .before
+
+  abbrev rows : tie.After-clash-rows
+  rows = c .before .before .before .before .before .before .before .before .before .before
+
+  few : start .args .count ≤ 16
+  few = c .before .before .before .before .before .before .before .before .before .before .before .if1 .left
+
+  all : start .args .count ≤ asked .ask-all .result .bad
+  all = c .before .before .before .before .before .if3 .left
+
+  -- what is counted is at most N
+  counted-few : c .open-count .result ≤ 2048
+  counted-few = omega (
+    arith,
+    c .open-count .ensures,
+    count-most (λ k. not (blockedAt (start .args .site .blocked) k)) (positions (start .args .site)),
+    few-positions (fine-sized _ (fine told)),
+  )
+
 cast-room : tie.Need-cast-room
-cast-room c = search needs
-
-cast-room-2 : tie.Need-cast-room-2
-cast-room-2 c = search needs
-
-mul-room : tie.Need-mul-room
-mul-room c = omega (arith, few-positions (fine-sized _ (fine (c .before .before .before .before .before .before .before .before .before))))
+cast-room c = omega (arith, counted-few c)
 
 best-set-requires : tie.Need-best-set-requires
 best-set-requires c κs =
-    let a =
-    c .before .before .before .before .before .before .before .before .before .before .before .before .before .before .before .before .before .before .before
-    .args in
-    let asked = c .before .before .before .before .before .before .before .before .before .before .ask-all in
-    let fine-here = fine (c .before .before .before .before .before .before .before .before .before .before .before .before .before .before .before .before) in
-    let few : a .count ≤ 16 =
-    c .before .before .before .before .before .before .before .before .before .before .before .before .before .before .before .if1 .left in (
-      (omega (arith, few-positions (fine-sized _ fine-here)), few),
-      inside-most (a .site) fine-here (here (a .l)) (a .count) few (asked .result .bad) (asked .ensures .0)
-          (c .before .before .before .before .before .before .before .before .before .if3 .left) (asked .result .cells) (asked .ensures .1 .0),
+    let o = c .before .before .before .before .before .before .before in
+    let a = start o .args in
+    let r = asked o .ask-all in (
+      (omega (arith, counted-few o, few-positions (fine-sized _ (fine (told o)))), few o),
+      inside-most (a .site) (fine (told o)) (here (a .l)) (a .count) (few o) (r .result .bad) (r .ensures .0) (all o) (r .result .cells) (r .ensures .1 .0),
     )
 
 returns-5 : tie.Need-returns-5
 returns-5 c =
-    let a =
-    c .before .before .before .before .before .before .before .before .before .before .before .before .before .before .before .before .before .before .before
-    .before .args in
+    let o = c .before .before .before .before .before .before .before .before in
+    let a = start o .args in
     let f = here (a .l) in
-    let asked = c .before .before .before .before .before .before .before .before .before .before .before .ask-all in
-    let rows = c .before .before .before .before .before .before .before .before .before .before .before .before .before .before .before .clash-rows in
-    let fine-here =
-    fine (c .before .before .before .before .before .before .before .before .before .before .before .before .before .before .before .before .before) in
-    let few : a .count ≤ 16 =
-    c .before .before .before .before .before .before .before .before .before .before .before .before .before .before .before .before .if1 .left in
-    let all : a .count ≤ asked .result .bad = c .before .before .before .before .before .before .before .before .before .before .if3 .left in
-    let own = asked .result .cells in
-    let chain-here = chain (c .before .before .before .before .before .before .before .before .before .before .before .before) in
+    let r = asked o .ask-all in
+    let clash = rows o .clash-rows in
+    let fine-here = fine (told o) in
+    let own = r .result .cells in
+    let chain-here = chain (asked o .before) in
     ap Admitted
     (c .best-set .ensures
-    ∙ best-in-is _ (rows .result) own (asked .result .shares) (asked .result .values) (a .count) few (netOf (a .site))
-    (stands (a .site) fine-here f (a .count) few (asked .result .bad) (asked .ensures .0) all own (asked .ensures .1 .0) (rows .result)
-    (rows .ensures .1 fine-here) chain-here)
-    ∙ same-best (a .site) fine-here f (a .count) few (asked .result .bad) (asked .ensures .0) all own (asked .ensures .1 .0) (asked .result .shares)
-    (asked .result .values)
-    (asked .ensures .1 .1 .0) (asked .ensures .1 .1 .1))
-    ∙ sym (set-answer (a .site) f (a .count) fine-here few chain-here (rw (← asked .ensures .0) all))
+    ∙ best-in-is _ (clash .result) own (r .result .shares) (r .result .values) (a .count) (few o) (netOf (a .site))
+    (stands (a .site) fine-here f (a .count) (few o) (r .result .bad) (r .ensures .0) (all o) own (r .ensures .1 .0) (o .open-count .result)
+    (o .open-count .ensures) (clash .result) (clash .ensures .1 fine-here) chain-here)
+    ∙ same-best (a .site) fine-here f (a .count) (few o) (r .result .bad) (r .ensures .0) (all o) own (r .ensures .1 .0) (r .result .shares)
+    (r .result .values) (r .ensures .1 .1 .0) (r .ensures .1 .1 .1))
+    ∙ sym (set-answer (a .site) f (a .count) fine-here (few o) chain-here (rw (← r .ensures .0) (all o)))
 
 pub decide-spec : {M : Type 1} → statement M
 decide-spec =
@@ -164,8 +194,11 @@ decide-spec =
     add-refusal
     refusal-requires
     returns-4
+    cast-n
+    cast-n-2
+    mul-n
+    cast-open-count
+    open-count-requires
     cast-room
-    cast-room-2
-    mul-room
     best-set-requires
     returns-5)

@@ -1,8 +1,12 @@
--- `judges::load_test` meets its contract: the cell that the search finds is over, so that the excess does not wrap. Assumes nothing.
+-- `judges::load_test` meets its contract: the cell that the search finds is over, so that the excess does not wrap; the room is the
+-- count of open positions. Assumes nothing.
 use mathlib.Core.Path.{_≡_, sym, _∙_}
 use Prim.Native.Nat.{_+_, _-_, _≤_}
 use native.Mathlib.Omega.{arith}
-use Rattle.theory.specs.Net.{demand}
+use mathlib.Core.Bool.{not}
+use Rattle.laws.proofs.Sums.{count-most}
+use Rattle.theory.specs.Net.{room, demand}
+use Rattle.positions.specs.Blocked.{blockedAt}
 use Rattle.site.specs.Record.{positions, faultOf}
 use Rattle.site.specs.Reach.{netOf}
 use Rattle.site.specs.declared.Fault.the-variants.{Fine}
@@ -32,14 +36,39 @@ returns c = simp (sym (c .before .fault-in .ensures), not-fine (c .before .fault
 cast-cells : tie.Need-cast-cells
 cast-cells c = search needs
 
+cast-n : tie.Need-cast-n
+cast-n c = search needs
+
+cast-n-2 : tie.Need-cast-n-2
+cast-n-2 c = search needs
+
+mul-n : tie.Need-mul-n
+mul-n c = omega (arith, few-positions (fine-sized _ (fine (c .before .before .before))))
+
+open-count-requires : tie.Need-open-count-requires
+open-count-requires c κs = few-positions (fine-sized _ (fine (c .before .before .before .before .before)))
+
 cast-room : tie.Need-cast-room
-cast-room c = search needs
+cast-room c =
+    let told-fine = c .before .before .before .before .before .before in
+    let site = told-fine .before .before .before .args .site in
+    omega (
+      arith,
+      c .open-count .ensures,
+      count-most (λ k. not (blockedAt (site .blocked) k)) (positions site),
+      few-positions (fine-sized _ (fine told-fine)),
+    )
 
-cast-room-2 : tie.Need-cast-room-2
-cast-room-2 c = search needs
+-- what is counted is the problem's room
+module _ (c : tie.After-first-over) where
+  abbrev counting : tie.After-open-count
+  counting = c .before .before .before .before .before .before .before
 
-mul-room : tie.Need-mul-room
-mul-room c = omega (arith, few-positions (fine-sized _ (fine (c .before .before .before))))
+  abbrev accepted : tie.After-enum-told
+  accepted = counting .before .before .before .before .before .before
+
+  is-room : counting .open-count .result ≡ room (netOf (accepted .before .before .before .args .site))
+  is-room = counting .open-count .ensures ∙ sym (net-open (accepted .before .before .before .args .site))
 
 clash-rows-requires : tie.Need-clash-rows-requires
 clash-rows-requires c κs = search needs
@@ -48,48 +77,43 @@ loaded-requires : tie.Need-loaded-requires
 loaded-requires c κs = search needs
 
 first-over-requires : tie.Need-first-over-requires
-first-over-requires c κs = fine-sized _ (fine (c .before .before .before .before .before .before .before .before .before)) .cells-most
+first-over-requires c κs = fine-sized _ (fine (c .before .before .before .before .before .before .before .before .before .before .before .before)) .cells-most
 
 mul-demand : tie.Need-mul-demand
 mul-demand c = search needs
 
 array-read-demand : tie.Need-array-read-demand
-array-read-demand c = omega (
-  arith,
-  fine-sized _ (fine (c .before .before .before .before .before .before .before .before .before .before .before .before)) .cells-most,
-)
+array-read-demand c = omega (arith, fine-sized _ (fine (accepted (c .before .before))) .cells-most)
 
 demand-requires : tie.Need-demand-requires
-demand-requires c κs = omega (
-  arith,
-  fine-sized _ (fine (c .before .before .before .before .before .before .before .before .before .before .before .before)) .cells-most,
-)
+demand-requires c κs = omega (arith, fine-sized _ (fine (accepted (c .before .before))) .cells-most)
 
 -- what the demand is, and what the call then answers
 told : (c : tie.After-demand)
-    → let site =
-    c .before .before .before .before .before .before .before .before .before .before .before .before .before .before .before .before .args .site in
-    (positions site ≤ c .demand .result) × (loadAnswer site ≡ Over (c .before .before .before .first-over .result + 1) (c .demand .result - positions site))
+    → let at = c .before .before .before in
+    let open-ones = counting at .open-count .result in
+    (open-ones ≤ c .demand .result)
+    × (loadAnswer (accepted at .before .before .before .args .site) ≡ Over (at .first-over .result + 1) (c .demand .result - open-ones))
 told c =
     let at = c .before .before .before in
-    let fine-here = fine (at .before .before .before .before .before .before .before .before .before .before) in
-    let site = at .before .before .before .before .before .before .before .before .before .before .before .before .before .args .site in
+    let fine-here = fine (accepted at) in
+    let site = accepted at .before .before .before .args .site in
     let rows = at .before .before .before .before .before .clash-rows .result in
     let relation = at .before .before .before .before .before .clash-rows .ensures .1 fine-here in
     let counted = at .before .before .before .loaded in
     let i = at .first-over .result in
     let d : c .demand .result ≡ demand (netOf site) i = c .demand .ensures ∙ demand-is site rows relation i in
-    rw d (load-over site fine-here rows relation (counted .result) (counted .ensures) (positions site) (sym (net-open site)) i (at .first-over .ensures)
+    rw d (load-over site fine-here rows relation (counted .result) (counted .ensures) (counting at .open-count .result) (is-room at) i (at .first-over .ensures)
     (c .before .before .if1 .taken))
 
-add-t18 : tie.Need-add-t18
-add-t18 c = search needs
+add-t21 : tie.Need-add-t21
+add-t21 c = search needs
 
-sub-t21 : tie.Need-sub-t21
-sub-t21 c = omega (arith, told c .0)
+sub-t24 : tie.Need-sub-t24
+sub-t24 c = omega (arith, told c .0)
 
-cast-t22 : tie.Need-cast-t22
-cast-t22 c = search needs
+cast-t25 : tie.Need-cast-t25
+cast-t25 c = search needs
 
 returns-2 : tie.Need-returns-2
 returns-2 c = sym (told c .1)
@@ -97,12 +121,12 @@ returns-2 c = sym (told c .1)
 returns-3 : tie.Need-returns-3
 returns-3 c =
     let at = c .before in
-    let fine-here = fine (at .before .before .before .before .before .before .before .before .before .before) in
-    let site = at .before .before .before .before .before .before .before .before .before .before .before .before .before .args .site in
+    let fine-here = fine (accepted at) in
+    let site = accepted at .before .before .before .args .site in
     let rows = at .before .before .before .before .before .clash-rows .result in
     let counted = at .before .before .before .loaded in
     sym (load-none site fine-here rows (at .before .before .before .before .before .clash-rows .ensures .1 fine-here) (counted .result) (counted .ensures)
-    (positions site) (sym (net-open site)) _ (at .first-over .ensures) (c .if1 .left))
+    (counting at .open-count .result) (is-room at) _ (at .first-over .ensures) (c .if1 .left))
 
 pub load-test-spec : {M : Type 1} → statement M
 load-test-spec =
@@ -112,17 +136,19 @@ load-test-spec =
     enum-told
     returns
     cast-cells
+    cast-n
+    cast-n-2
+    mul-n
+    open-count-requires
     cast-room
-    cast-room-2
-    mul-room
     clash-rows-requires
     loaded-requires
     first-over-requires
     mul-demand
     array-read-demand
     demand-requires
-    add-t18
-    sub-t21
-    cast-t22
+    add-t21
+    sub-t24
+    cast-t25
     returns-2
     returns-3)

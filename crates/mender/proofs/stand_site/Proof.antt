@@ -5,9 +5,9 @@ use mathlib.Core.List.{List}
 use Prim.Native.Nat.{ℕ, _≤_, _<_}
 use native.Mathlib.Omega.{arith}
 use lib.ListN.{length}
-use Rattle.theory.specs.Net.{Net, unblocked}
+use Rattle.theory.specs.Net.{Net}
 use Rattle.site.specs.Record.{faultOf, positions, size}
-use Rattle.site.specs.Reach.{netIn, netOf, netBy}
+use Rattle.site.specs.Reach.{isOpen, netIn, netOf, netBy}
 use Rattle.site.specs.declared.Site.{Site}
 use Rattle.site.specs.declared.Fault.the-variants.{Fine}
 use Rattle.site.proofs.Faults.{not-fine, fine-sized, few-positions, few-bytes}
@@ -59,12 +59,12 @@ returns-2 c =
 
 stand-all-requires : tie.Need-stand-all-requires
 stand-all-requires c κs =
-    let long = c .before .before .before .before .before .before in
+    let long = c .before .before .before .before .before .before .before .before in
     let told = long .before .before .before .before in
     let s = start told in
     let sized = fine-sized (s .args .site) (fine told) in
     let few = few-positions sized in
-    let rows = c .before .before .before .before .clash-rows in (
+    let rows = c .before .before .before .before .before .clash-rows in (
       (sized .cells-most, few, omega (arith, few, s .pre .0), omega (arith, sized .cells-most, s .pre .1), omega (arith, long .if1 .left)),
       ((λ k l. s .pre .2 k (omega (arith, few))), both-ways (s .args .site) (rows .result) (rows .ensures .1 (fine told))),
     )
@@ -72,7 +72,7 @@ stand-all-requires c κs =
 -- every cell has had its turn: how, for the site's own problem
 module _ (c : tie.After-stand-all) where
   abbrev long : tie.Else1
-  long = c .before .before .before .before .before .before .before
+  long = c .before .before .before .before .before .before .before .before .before
 
   abbrev told : tie.After-enum-told
   told = long .before .before .before .before
@@ -84,10 +84,10 @@ module _ (c : tie.After-stand-all) where
   table = start told .args .table .now
 
   abbrev rows : tie.After-clash-rows
-  rows = c .before .before .before .before .before
+  rows = c .before .before .before .before .before .before
 
-  net : netBy (site .cells) (positions site) (site .loads) (rows .clash-rows .result) unblocked ≡ netOf site
-  net = ap (λ clash. netIn (site .cells) (positions site) (site .loads) clash unblocked) (rows .clash-rows .ensures .1 (fine told))
+  net : netBy (site .cells) (positions site) (site .loads) (rows .clash-rows .result) (isOpen (site .blocked)) ≡ netOf site
+  net = ap (λ clash. netIn (site .cells) (positions site) (site .loads) clash (isOpen (site .blocked))) (rows .clash-rows .ensures .1 (fine told))
 
   fits : size site ≤ length table
   fits = omega (arith, long .if1 .left)

@@ -6,7 +6,8 @@ use native.Mathlib.Omega.{arith}
 use lib.ListN.{length}
 use lib.Seq.{sets}
 use denote.Ref.{now}
-use Rattle.planbits.specs.Bits.{bytesFor, packedFrom}
+use Rattle.records.specs.Bits.{bytesFor}
+use Rattle.planbits.specs.Bits.{packedFrom}
 use Rattle.planbits.proofs.Bits.{put-last}
 use Rattle.planbits.proofs.put_bits.Statement.{statement}
 use Rattle.planbits.proofs.put_bits.Tie as tie

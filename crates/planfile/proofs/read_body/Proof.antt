@@ -12,7 +12,8 @@ use Rattle.records.specs.Head.{entriesOfHead}
 use Rattle.records.specs.declared.Length.the-variants.{Exact}
 use Rattle.records.specs.declared.Opened.the-variants.{Body}
 use Rattle.records.specs.declared.ReadAnswer.the-variants.{Done, Refused}
-use Rattle.planbits.specs.Bits.{bytesFor, bitsFrom, leftOver}
+use Rattle.records.specs.Bits.{bytesFor, leftOver}
+use Rattle.planbits.specs.Bits.{bitsFrom}
 use Rattle.planfile.specs.Read.{planAt, bodyIn, endIn, refusedPlan}
 use Rattle.planfile.proofs.ReadLaws.{entries-are, few, due, body-stop, within, ends, body-is, body-long}
 use Rattle.planfile.proofs.ReadLaws.{left-stop, more-stop, short-stop, read-done, refuse, accept}

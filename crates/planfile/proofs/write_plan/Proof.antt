@@ -9,7 +9,7 @@ use Rattle.site.specs.Record.{isFine, faultOf}
 use Rattle.site.specs.declared.Fault.the-variants.{Fine}
 use Rattle.site.proofs.Faults.{not-fine, fine-sized, few-bytes}
 use Rattle.records.specs.Head.{headSize}
-use Rattle.planbits.specs.Bits.{bytesFor}
+use Rattle.records.specs.Bits.{bytesFor}
 use Rattle.planfile.specs.declared.PlanWritten.the-variants.{Refused}
 use Rattle.planfile.proofs.WriteLaws.{faulty, table-short, out-short, all-done}
 use Rattle.planfile.proofs.write_plan.Statement.{statement}

@@ -1,7 +1,6 @@
 -- `planner::mark_row` meets its contract. At each head of the loop the table is the one handed in, with row i as the first j cells leave it
 -- (`marks`). Assumes nothing.
 use mathlib.Core.Path.{_≡_, refl, sym, ap, _∙_}
-use mathlib.Core.List.{[]}
 use mathlib.Core.Logic.{⊎-elim}
 use Prim.Native.Nat.{_+_, _-_, _≤_}
 use native.Mathlib.Omega.{arith}
@@ -10,11 +9,9 @@ use Rattle.planner.proofs.Marked.{marks, marks-long, marks-none, marks-
 use Rattle.planner.proofs.mark_row.Statement.{statement}
 use Rattle.laws.specs.Bits.{bitIn}
 use Rattle.planner.proofs.mark_row.Tie as tie
-use Rattle.site.specs.Reach.{netIn}
-use Rattle.theory.specs.Net.{unblocked}
 
 abbrev Inv-loop : tie.InvT-loop
-Inv-loop table₀ n i clash j₀ table j = (j ≤ i) × (length table ≡ length table₀) × (table ≡ marks (netIn 0 n [] (bitIn clash) unblocked) i j table₀)
+Inv-loop table₀ n i clash j₀ table j = (j ≤ i) × (length table ≡ length table₀) × (table ≡ marks n (bitIn clash) i j table₀)
 
 abbrev μ-loop : tie.MeasureT-loop
 μ-loop table₀ n i clash j₀ table j = i - j
@@ -22,7 +19,7 @@ abbrev μ-loop : tie.MeasureT-loop
 loop-holds : tie.Need-loop-holds Inv-loop μ-loop
 loop-holds c =
     let start = c .before in
-    (omega arith, refl, marks-none (netIn 0 (start .args .n) [] (bitIn (start .args .clash .now)) unblocked) _ _ (start .pre .0 .1) (start .pre .1))
+    (omega arith, refl, marks-none (start .args .n) (bitIn (start .args .clash .now)) _ _ (start .pre .1))
 
 clashes-requires : tie.Need-clashes-requires Inv-loop μ-loop
 clashes-requires c κs = (omega arith, omega arith)
@@ -40,24 +37,25 @@ loop-less c = omega arith
 turned :
     (c : tie.Joined1 Inv-loop μ-loop) →
     let start = c .before .before .before .before .before in
-    c .if1 .table ≡ marks (netIn 0 (start .args .n) [] (bitIn (start .args .clash .now)) unblocked) (start .args .i) (c .before .before .before .loop .j + 1)
+    c .if1 .table ≡ marks (start .args .n) (bitIn (start .args .clash .now)) (start .args .i) (c .before .before .before .loop .j + 1)
     (start .args .table .now)
 turned c =
     let at = c .before .before .before in
     let start = at .before .before in
-    let net = netIn 0 (start .args .n) [] (bitIn (start .args .clash .now)) unblocked in
+    let n = start .args .n in
+    let clash = bitIn (start .args .clash .now) in
     let said = c .before .clashes .ensures in
     ⊎-elim
-    (λ w. marks-yes net _ _ (start .pre .0 .1) _ (at .loop .inv .2) (c .before .before .loop-test .taken) (sym (w .0 .taken) ∙ said) (w .5 ∙ w .2 .ensures))
-    (λ w. marks-no net _ _ (start .pre .0 .1) _ (at .loop .inv .2) (sym (w .0 .left) ∙ said) (w .1))
+    (λ w. marks-yes n clash _ _ (start .pre .1) _ (at .loop .inv .2) (c .before .before .loop-test .taken) (sym (w .0 .taken) ∙ said) (w .5 ∙ w .2 .ensures))
+    (λ w. marks-no n clash _ _ (start .pre .1) _ (at .loop .inv .2) (sym (w .0 .left) ∙ said) (w .1))
     (c .if1 .came)
 
 loop-again : tie.Need-loop-again Inv-loop μ-loop
 loop-again c =
     let start = c .before .before .before .before .before in (
       omega arith,
-      ap length (turned c) ∙ marks-long (netIn 0 (start .args .n) [] (bitIn (start .args .clash .now)) unblocked) (start .args .i) (start .args .table .now)
-          (start .pre .0 .1) (c .before .before .before .loop .j + 1),
+      ap length (turned c) ∙ marks-long (start .args .n) (bitIn (start .args .clash .now)) (start .args .i) (start .args .table .now)
+          (start .pre .1) (c .before .before .before .loop .j + 1),
       turned c,
     )
 

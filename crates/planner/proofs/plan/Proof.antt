@@ -6,10 +6,10 @@ use lib.ListN.{length}
 use native.Mathlib.Omega.{arith}
 use borrow.Author.Needs.{needs}
 use Rattle.laws.specs.Bits.{bitIn}
-use Rattle.theory.specs.Net.{Net, unblocked}
+use Rattle.theory.specs.Net.{Net}
 use Rattle.theory.specs.Greedy.{greedy}
 use Rattle.site.specs.Record.{positions, size, faultOf}
-use Rattle.site.specs.Reach.{netOf, netIn}
+use Rattle.site.specs.Reach.{netOf, netIn, isOpen}
 use Rattle.site.specs.declared.Fault.the-variants.{Fine}
 use Rattle.site.proofs.Faults.{not-fine, fine-sized, few-positions, few-bytes}
 use Rattle.planner.specs.Plan.{answerOf, leaves}
@@ -69,13 +69,14 @@ clash-rows-requires c κs = search needs
 
 plan-from-requires : tie.Need-plan-from-requires
 plan-from-requires c κs =
-    let long = c .before .before .before .before .before in
+    let long = c .before .before .before .before .before .before .before in
     let told = long .before .before .before .before in
     let args = told .before .before .before .before .args in
     let site = args .site in
     let sized = fine-sized site (fine told) in
-    let net = netIn (site .cells) (positions site) (site .loads) (bitIn (c .before .before .before .clash-rows .result)) unblocked in
-    ((omega arith, sized .cells-most, sized .channels-most), (omega (arith, long .if1 .left), no-rows net (args .table .now)))
+    let rows = c .before .before .before .before .before .clash-rows .result in
+    let net = netIn (site .cells) (positions site) (site .loads) (bitIn rows) (isOpen (site .blocked)) in
+    ((omega arith, sized .cells-most, sized .channels-most, few-positions sized), (omega (arith, long .if1 .left), no-rows net (args .table .now)))
 
 same-length : tie.Need-same-length
 same-length c = search needs
@@ -83,13 +84,13 @@ same-length c = search needs
 returns-3 : tie.Need-returns-3
 returns-3 c =
     let call = c .before .before .plan-from in
-    let rows = c .before .before .before .before .before .before .clash-rows in
-    let long = c .before .before .before .before .before .before .before .before in
+    let rows = c .before .before .before .before .before .before .before .before .clash-rows in
+    let long = c .before .before .before .before .before .before .before .before .before .before in
     let told = long .before .before .before .before in
     let start = told .before .before .before .before in
     let site = start .args .site in
-    let net : netIn (site .cells) (positions site) (site .loads) (bitIn (rows .result)) unblocked ≡ netOf site
-    = ap (λ clash. netIn (site .cells) (positions site) (site .loads) clash unblocked) (rows .ensures .1 (fine told)) in
+    let net : netIn (site .cells) (positions site) (site .loads) (bitIn (rows .result)) (isOpen (site .blocked)) ≡ netOf site
+    = ap (λ clash. netIn (site .cells) (positions site) (site .loads) clash (isOpen (site .blocked))) (rows .ensures .1 (fine told)) in
     let fits : size site ≤ length (start .args .table .now) = omega (arith, long .if1 .left) in (
       call .ensures .0 ∙ ap (λ (s : Net). answerOf (greedy s)) net ∙ sym (run-answer site (start .args .table .now) (fine told) fits),
       call .ensures .1 .0 ∙ ap (λ (s : Net). leaves s (start .args .table .now)) net ∙ sym (run-table site (start .args .table .now) (fine told) fits),

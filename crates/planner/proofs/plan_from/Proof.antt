@@ -1,160 +1,152 @@
--- `planner::plan_from` meets its contract. At each head of the loop the run of the first i cells has given the first i rows of the table, and
--- the bytes past the site's are as they were. A run that is done keeps the rows that were planned (`rows-kept`). Assumes nothing.
-use mathlib.Core.Path.{_≡_, refl, sym, ap, _∙_}
-use mathlib.Core.Bool.{Bool}
-use mathlib.Core.List.{List}
-use Prim.Native.Nat.{ℕ, _+_, _*_, _-_, _≤_}
+-- `planner::plan_from` meets its contract: where nothing is blocked no mask is needed, and else the mask bars what is blocked. Assumes nothing.
+use mathlib.Core.Path.{_≡_, sym, ap, subst, _∙_}
+use mathlib.Core.List.{List, [], _++_}
+use Prim.Native.Nat.{ℕ, _*_, _≤_, _<_}
 use native.Mathlib.Omega.{arith}
 use borrow.Author.Needs.{needs}
-use lib.ListN.{length, getD, drop}
+use lib.ListN.{length, take, drop, replicate, length-replicate}
 use lib.Seq.{length-take-le, length-front}
 use Rattle.laws.specs.Bits.{bitIn}
-use Rattle.laws.proofs.Grid.{row-before}
-use Rattle.planner.specs.Plan.{answerOf}
-use Rattle.planner.specs.Loop.{PlannedTo}
-use Rattle.planner.proofs.Cells.{more-long, more-drop, more-planned, more-short, end-done, end-short, rows-kept}
+use Rattle.laws.specs.Part.{listOf}
+use Rattle.positions.specs.Blocked.{barOf}
+use Rattle.site.specs.Reach.{isOpen}
+use Rattle.planner.specs.Loop.{opens}
+use Rattle.planner.proofs.Alike.{planned-alike, answer-alike, leaves-alike}
+use Rattle.planner.proofs.MaskLaws.{none-open, no-mask, mask-opens, mask-bars}
 use Rattle.planner.proofs.plan_from.Statement.{statement}
 use Rattle.planner.proofs.plan_from.Tie as tie
-use Rattle.site.specs.Reach.{netIn}
-use Rattle.theory.specs.Net.{unblocked}
 
-abbrev Inv-loop : tie.InvT-loop
-Inv-loop table₀ first cells slots channels loads clash i₀ table i =
-    (i ≤ cells)
-    × (length table ≡ length table₀)
-    × PlannedTo (netIn cells (slots * channels) loads (bitIn clash) unblocked) i table
-    × (drop (cells * (slots * channels)) table ≡ drop (cells * (slots * channels)) table₀)
+-- the mask before it is made
+abbrev zeros : List ℕ
+zeros = replicate 2048 0
 
-abbrev μ-loop : tie.MeasureT-loop
-μ-loop table₀ first cells slots channels loads clash i₀ table i = cells - i
+within : (n : ℕ) → n ≤ 2048 → n ≤ length zeros
+within n h = subst (λ (k : ℕ). n ≤ k) (sym (length-replicate {A = ℕ} 2048 0)) h
 
--- the arguments, the size of a row, and of the whole site; row i lies in the table
-abbrev start : tie.In-loop Inv-loop μ-loop → tie.Start Inv-loop μ-loop
-start c = c .before .before .before
+cut : (n : ℕ) → n ≤ 2048 → n ≡ length (take n zeros)
+cut n h = sym (length-take-le n zeros (within n h))
 
-abbrev size : tie.In-loop Inv-loop μ-loop → ℕ
-size c = start c .args .slots * start c .args .channels
+none-blocked-requires : tie.Need-none-blocked-requires
+none-blocked-requires c κs = search needs
 
-abbrev whole : tie.In-loop Inv-loop μ-loop → ℕ
-whole c = start c .args .cells * size c
+-- ---- nothing is blocked
 
-abbrev loads : tie.In-loop Inv-loop μ-loop → List ℕ
-loads c = start c .args .loads .now
+slice-aggregate-plan-rows : tie.Need-slice-aggregate-plan-rows
+slice-aggregate-plan-rows c = search needs
 
-abbrev clash : tie.In-loop Inv-loop μ-loop → ℕ → ℕ → Bool
-clash c = bitIn (start c .args .clash .now)
+module _ (c : tie.Then1) where
+  abbrev from : tie.Start
+  from = c .before .before .before
 
-inside : (c : tie.In-loop Inv-loop μ-loop) → c .before .loop .i * size c + size c ≤ whole c
-inside c = row-before (size c) (c .loop-test .taken)
+  all-open : (k : ℕ) → k < from .args .slots * from .args .channels → isOpen (from .args .blocked .now) k ≡ opens [] k
+  all-open = none-open (from .args .blocked .now) (from .args .slots * from .args .channels) (from .pre .0 .3)
+      (sym (c .before .none-blocked .ensures) ∙ c .if1 .taken)
 
-fits : (c : tie.In-loop Inv-loop μ-loop) → c .before .loop .i * size c + size c ≤ length (c .before .loop .table)
-fits c = omega (arith, inside c)
-
--- the row is planned
-module _ (c : tie.After-plan-row Inv-loop μ-loop) where
-  abbrev at : tie.In-loop Inv-loop μ-loop
-  at = c .before .before .before
-
-  own : c .before .before .load-of .result ≡ getD (loads at) (at .before .loop .i) 0
-  own = c .before .before .load-of .ensures
-
-  long : length (c .plan-row .last .0) ≡ length (at .before .loop .table)
-  long = more-long (start at .args .cells) (size at) (loads at) (clash at) (at .before .loop .i) (at .before .loop .table) (fits at) own
-      (c .plan-row .ensures .0)
-
-  holds : whole at ≤ length (c .plan-row .last .0)
-  holds = omega (arith, long, at .before .loop .inv .1, start at)
-
-  past : drop (whole at) (c .plan-row .last .0) ≡ drop (whole at) (start at .args .table .now)
-  past =
-      more-drop (start at .args .cells) (size at) (loads at) (clash at) (at .before .loop .i) (at .before .loop .table) (fits at) own (c .plan-row .ensures .0)
-      (whole at) (inside at)
-      ∙ at .before .loop .inv .3
-
-loop-holds : tie.Need-loop-holds Inv-loop μ-loop
-loop-holds c = (omega arith, refl, c .before .pre .1 .1, refl)
-
-load-of-requires : tie.Need-load-of-requires Inv-loop μ-loop
-load-of-requires c κs = omega arith
-
-cast-load : tie.Need-cast-load Inv-loop μ-loop
-cast-load c = search needs
-
-plan-row-requires : tie.Need-plan-row-requires Inv-loop μ-loop
-plan-row-requires c κs = (omega arith, start (c .before .before) .pre .0 .2, fits (c .before .before))
-
-mul-end : tie.Need-mul-end Inv-loop μ-loop
-mul-end c = omega (arith, inside (c .before .before .before .before .before .before), start (c .before .before .before .before .before .before))
-
-mul-end-2 : tie.Need-mul-end-2 Inv-loop μ-loop
-mul-end-2 c = omega (arith, inside (c .before .before .before .before .before .before), start (c .before .before .before .before .before .before))
-
-slice-relend-prefix-clear : tie.Need-slice-relend-prefix-clear Inv-loop μ-loop
-slice-relend-prefix-clear c = omega (arith, inside (c .before .before .before .before .before .before), holds (c .before .before .before))
-
-slice-aggregate-clear : tie.Need-slice-aggregate-clear Inv-loop μ-loop
-slice-aggregate-clear c =
-    sym (length-take-le _ (c .before .before .before .before .plan-row .last .0) (slice-relend-prefix-clear (c .before)))
-
-clear-requires : tie.Need-clear-requires Inv-loop μ-loop
-clear-requires c κs = tt
-
-add-cell : tie.Need-add-cell Inv-loop μ-loop
-add-cell c = omega arith
-
-same-length : tie.Need-same-length Inv-loop μ-loop
-same-length c =
-    let planned′ = c .before .before .before .before .before .before .before in
-    let lent = c .before .before .clear .kept .0 in
-    rw length-front (long planned′ ∙ at planned′ .before .loop .inv .1)
-
-returns : tie.Need-returns Inv-loop μ-loop
-returns c =
-    let branch = c .before .before .before .before in
-    let now′ = branch .before .before .before in
-    let in′ = at now′ in
-    let e = more-short (start in′ .args .cells) (size in′) (loads in′) (clash in′) (in′ .before .loop .i) (in′ .before .loop .table) (fits in′) (own now′)
-    (now′ .plan-row .ensures .0) (in′ .before .loop .inv .2) (now′ .plan-row .ensures .1) (omega (arith, branch .if1 .taken)) (start in′ .args .cells)
-    (in′ .loop-test .taken) in (
-      sym (ap answerOf e),
+plan-rows-requires : tie.Need-plan-rows-requires
+plan-rows-requires c κs =
+    let way = c .before .before in
+    let s = from way in
+    let a = s .args in
+    let n = a .slots * a .channels in (
+      (s .pre .0 .0, s .pre .0 .1, s .pre .0 .2),
       (
-        end-short (whole in′) (c .before .before .clear .last .0) (now′ .plan-row .last .0) (start in′ .args .table .now) e (holds now′)
-            (c .before .before .clear .ensures) (past now′),
-        λ done. let z : _≡_ {A = ℕ} 0 1 = cc in absurd (omega arith),
+        (s .pre .1 .0, no-mask n),
+        planned-alike (a .cells) n (a .loads .now) (bitIn (a .clash .now)) (isOpen (a .blocked .now)) (opens []) (all-open way) (a .first)
+            (a .table .now) (s .pre .1 .1),
       ),
     )
 
-add-i : tie.Need-add-i Inv-loop μ-loop
-add-i c = omega arith
+same-length : tie.Need-same-length
+same-length c = search needs
 
-loop-less : tie.Need-loop-less Inv-loop μ-loop
-loop-less c = omega arith
-
-loop-again : tie.Need-loop-again Inv-loop μ-loop
-loop-again c =
-    let now′ = c .before .before .before in
-    let in′ = at now′ in
-    let none : now′ .plan-row .result ≡ 0 = omega arith in (
-      omega arith,
-      long now′ ∙ in′ .before .loop .inv .1,
-      more-planned (start in′ .args .cells) (size in′) (loads in′) (clash in′) (in′ .before .loop .i) (in′ .before .loop .table) (fits in′) (own now′)
-          (now′ .plan-row .ensures .0) (in′ .before .loop .inv .2) (now′ .plan-row .ensures .1) none,
-      past now′,
+returns : tie.Need-returns
+returns c =
+    let call = c .before .before .plan-rows in
+    let way = c .before .before .before .before .before in
+    let a = from way .args in
+    let n = a .slots * a .channels in (
+      call .ensures .0 ∙ answer-alike (a .cells) n (a .loads .now) (bitIn (a .clash .now)) (isOpen (a .blocked .now)) (opens []) (all-open way),
+      (
+        call .ensures .1 .0
+            ∙ leaves-alike (a .cells) n (a .loads .now) (bitIn (a .clash .now)) (isOpen (a .blocked .now)) (opens []) (all-open way) (a .table .now),
+        call .ensures .1 .1,
+      ),
     )
 
-same-length-2 : tie.Need-same-length-2 Inv-loop μ-loop
-same-length-2 c = c .before .loop .inv .1
+-- ---- some position is blocked
 
-returns-2 : tie.Need-returns-2 Inv-loop μ-loop
-returns-2 c =
-    let args = c .before .before .before .args in
-    let last : c .before .loop .i ≡ args .cells = omega arith in
-    let e = rw last at (c .before .loop .inv .2) in (
-      sym (ap answerOf e),
+mul-n : tie.Need-mul-n
+mul-n c = omega (arith, c .before .before .before .pre .0 .3)
+
+array-borrow-prefix-mask : tie.Need-array-borrow-prefix-mask
+array-borrow-prefix-mask c = let s = c .before .before .before in within (s .args .slots * s .args .channels) (s .pre .0 .3)
+
+slice-aggregate-bars : tie.Need-slice-aggregate-bars
+slice-aggregate-bars c = let s = c .before .before .before .before in cut (s .args .slots * s .args .channels) (s .pre .0 .3)
+
+bars-requires : tie.Need-bars-requires
+bars-requires c κs =
+    let s = c .before .before .before .before in
+    subst (λ (k : ℕ). k ≤ 2048) (cut (s .args .slots * s .args .channels) (s .pre .0 .3)) (s .pre .0 .3)
+
+-- the mask, once it is made
+module _ (c : tie.After-bars) where
+  abbrev start : tie.Start
+  start = c .before .before .before .before .before
+
+  abbrev size : ℕ
+  size = start .args .slots * start .args .channels
+
+  abbrev words : List ℕ
+  words = start .args .blocked .now
+
+  abbrev front : List ℕ
+  front = c .bars .last .1 .0
+
+  abbrev mask : List ℕ
+  mask = front ++ drop size zeros
+
+  made : front ≡ listOf (barOf words) size
+  made = c .bars .ensures ∙ ap (listOf (barOf words)) (sym (cut size (start .pre .0 .3)))
+
+  whole : length mask ≡ 2048
+  whole = length-front zeros front size (c .bars .kept .1 .0) ∙ length-replicate {A = ℕ} 2048 0
+
+  wide : size ≤ length mask
+  wide = subst (λ (k : ℕ). size ≤ k) (sym whole) (start .pre .0 .3)
+
+  barred : (k : ℕ) → k < size → isOpen words k ≡ opens mask k
+  barred = mask-opens words front (drop size zeros) size made
+
+slice-aggregate-plan-rows-2 : tie.Need-slice-aggregate-plan-rows-2
+slice-aggregate-plan-rows-2 c = sym (whole (c .before .before .before))
+
+plan-rows-requires-2 : tie.Need-plan-rows-requires-2
+plan-rows-requires-2 c κs =
+    let way = c .before .before .before in
+    let s = start way in
+    let a = s .args in (
+      (s .pre .0 .0, s .pre .0 .1, s .pre .0 .2),
       (
-        end-done (args .cells * (args .slots * args .channels)) (c .before .loop .table) (args .table .now) e (c .before .loop .inv .3),
-        λ _. rows-kept (netIn (args .cells) (args .slots * args .channels) (args .loads .now) (bitIn (args .clash .now)) unblocked) (args .first)
-            (c .before .loop .table) (args .table .now) (c .before .before .before .pre .1 .1) e (c .before .before .before .pre .0 .0),
+        (s .pre .1 .0, λ _. (wide way, mask-bars (words way) (front way) (drop (size way) zeros) (size way) (made way))),
+        planned-alike (a .cells) (size way) (a .loads .now) (bitIn (a .clash .now)) (isOpen (words way)) (opens (mask way)) (barred way) (a .first)
+            (a .table .now) (s .pre .1 .1),
+      ),
+    )
+
+same-length-2 : tie.Need-same-length-2
+same-length-2 c = search needs
+
+returns-2 : tie.Need-returns-2
+returns-2 c =
+    let call = c .before .before .plan-rows2 in
+    let way = c .before .before .before .before .before .before in
+    let a = start way .args in (
+      call .ensures .0 ∙ answer-alike (a .cells) (size way) (a .loads .now) (bitIn (a .clash .now)) (isOpen (words way)) (opens (mask way)) (barred way),
+      (
+        call .ensures .1 .0
+            ∙ leaves-alike (a .cells) (size way) (a .loads .now) (bitIn (a .clash .now)) (isOpen (words way)) (opens (mask way)) (barred way) (a .table .now),
+        call .ensures .1 .1,
       ),
     )
 
@@ -162,22 +154,16 @@ pub plan-from-spec : {M : Type 1} → statement M
 plan-from-spec =
     tie.close
     (tie.spec
-    Inv-loop
-    μ-loop
-    loop-holds
-    load-of-requires
-    cast-load
-    plan-row-requires
-    mul-end
-    mul-end-2
-    slice-relend-prefix-clear
-    slice-aggregate-clear
-    clear-requires
-    add-cell
+    none-blocked-requires
+    slice-aggregate-plan-rows
+    plan-rows-requires
     same-length
     returns
-    add-i
-    loop-less
-    loop-again
+    mul-n
+    array-borrow-prefix-mask
+    slice-aggregate-bars
+    bars-requires
+    slice-aggregate-plan-rows-2
+    plan-rows-requires-2
     same-length-2
     returns-2)

@@ -1,85 +1,53 @@
--- `planner::plan_row` meets its contract: the row is lent and cleared, marked in the table, and lent again and filled. Assumes nothing.
-use mathlib.Core.List.{[]}
-use Prim.Native.Nat.{_*_}
-use borrow.Author.Needs.{needs}
-use Rattle.planner.proofs.Marked.{cleared-long, cleared-idle, row-filled, short-filled}
-use Rattle.planner.proofs.plan_row.Statement.{statement}
+-- `planner::plan_row` meets its contract: a mask without bytes leaves every position usable. Assumes nothing.
+use mathlib.Core.Path.{ap, _∙_}
+use mathlib.Core.Bool.{Bool}
+use native.Mathlib.Omega.{arith}
+use Prim.Native.Nat.{ℕ, _*_, _<_}
+use lib.ListN.{length}
 use Rattle.laws.specs.Bits.{bitIn}
+use Rattle.planner.specs.Loop.{rowPlanned, rowShort}
+use Rattle.planner.proofs.Marked.{bare}
+use borrow.Author.Needs.{needs}
+use Rattle.planner.proofs.plan_row.Statement.{statement}
 use Rattle.planner.proofs.plan_row.Tie as tie
-use Rattle.site.specs.Reach.{netIn}
-use Rattle.theory.specs.Net.{unblocked}
 
-mul-n : tie.Need-mul-n
-mul-n c = search needs
-
-mul-from : tie.Need-mul-from
-mul-from c = search needs
-
-add-to : tie.Need-add-to
-add-to c = search needs
-
-sub-clear : tie.Need-sub-clear
-sub-clear c = search needs
-
-part-clear-start : tie.Need-part-clear-start
-part-clear-start c = search needs
-
-part-clear-end : tie.Need-part-clear-end
-part-clear-end c = search needs
-
-clear-requires : tie.Need-clear-requires
-clear-requires c κs = search needs
-
-mark-row-requires : tie.Need-mark-row-requires
-mark-row-requires c κs =
-    let start = c .before .before .before .before .before .before in
-    let net = netIn 0 (start .args .slots * start .args .channels) [] (bitIn (start .args .clash .now)) unblocked in
-    let cleared = c .before .before .before .clear .ensures in (
-      (start .pre .0, rw (cleared-long net (start .args .i) (start .args .table .now) (start .pre .2) cleared) (start .pre .2)),
-      cleared-idle net (start .args .i) (start .args .table .now) (start .pre .2) cleared,
-    )
-
-sub-fill-row : tie.Need-sub-fill-row
-sub-fill-row c = search needs
-
-part-fill-row-start : tie.Need-part-fill-row-start
-part-fill-row-start c = search needs
-
-part-fill-row-end : tie.Need-part-fill-row-end
-part-fill-row-end c = search needs
-
-fill-row-requires : tie.Need-fill-row-requires
-fill-row-requires c κs = search needs
+plan-open-row-requires : tie.Need-plan-open-row-requires
+plan-open-row-requires c κs = search needs
 
 same-length : tie.Need-same-length
 same-length c = search needs
 
 returns : tie.Need-returns
 returns c =
-    let marking = c .before .before .before .before .before .before in
-    let start = marking .before .before .before .before .before .before .before in
-    let net = netIn 0 (start .args .slots * start .args .channels) [] (bitIn (start .args .clash .now)) unblocked in
-    let cleared = marking .before .before .before .before .clear .ensures in
-    let filled = c .before .before .fill-row .ensures in (
-      row-filled net (start .args .i) (start .args .table .now) (start .pre .2) cleared (marking .mark-row .ensures) (start .args .load) (filled .0),
-      short-filled net (start .args .i) (start .args .table .now) (start .pre .2) cleared (marking .mark-row .ensures) (start .args .load) (filled .1),
+    let call = c .before .before .plan-open-row in
+    let start = c .before .before .before .before .before .before .before in
+    let n = start .args .slots * start .args .channels in
+    let clash = bitIn (start .args .clash .now) in
+    let t = start .args .table .now in
+    let none = bare (start .args .mask .now) (omega (arith, c .before .before .before .before .if1 .taken)) in (
+      call .ensures .0 ∙ ap (λ (u : ℕ → Bool). rowPlanned n clash u (start .args .i) (start .args .load) t) none,
+      call .ensures .1 ∙ ap (λ (u : ℕ → Bool). rowShort n clash u (start .args .i) (start .args .load) t) none,
     )
+
+plan-barred-row-requires : tie.Need-plan-barred-row-requires
+plan-barred-row-requires c κs =
+    let start = c .before .before .before .before in
+    let some : 0 < length (start .args .mask .now) = omega (arith, c .before .if1 .left) in
+    (start .pre .0, (some, start .pre .1))
+
+same-length-2 : tie.Need-same-length-2
+same-length-2 c = search needs
+
+returns-2 : tie.Need-returns-2
+returns-2 c = let call = c .before .before .plan-barred-row in (call .ensures .0, call .ensures .1)
 
 pub plan-row-spec : {M : Type 1} → statement M
 plan-row-spec =
     tie.close
     (tie.spec
-    mul-n
-    mul-from
-    add-to
-    sub-clear
-    part-clear-start
-    part-clear-end
-    clear-requires
-    mark-row-requires
-    sub-fill-row
-    part-fill-row-start
-    part-fill-row-end
-    fill-row-requires
+    plan-open-row-requires
     same-length
-    returns)
+    returns
+    plan-barred-row-requires
+    same-length-2
+    returns-2)

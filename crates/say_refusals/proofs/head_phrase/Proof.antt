@@ -13,6 +13,8 @@ head-phrase-spec =
     (λ c. search needs)
     (λ c. search needs)
     (λ c. search needs)
+    (λ c. search needs)
+    (λ c. cc)
     (λ c. cc)
     (λ c. cc)
     (λ c. cc)

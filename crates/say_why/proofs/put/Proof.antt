@@ -1,19 +1,22 @@
--- `say_why::put` meets its contract: what is put is the phrase. Assumes nothing.
+-- `say_why::put` meets its contract: no row is longer than 150 bytes. Assumes nothing.
 use mathlib.Core.Path.{refl}
 use native.Mathlib.Omega.{arith}
 use borrow.Author.Needs.{needs}
-use Rattle.phrases.proofs.Table.{phrase-room, phrase-put}
+use Rattle.phrases.proofs.Put.{put-wide}
+use Rattle.phrases.proofs.Table.{phrase-room}
 use Rattle.say_why.specs.Lines.{whyLines}
 use Rattle.say_why.proofs.put.Statement.{statement}
 use Rattle.say_why.proofs.put.Tie as tie
 
-put-phrase-requires : tie.Need-put-phrase-requires
+put-line-requires : tie.Need-put-line-requires
 unfolding whyLines
-put-phrase-requires c κs = omega (arith, phrase-room 150 whyLines refl (c .before .before .before .args .what))
+put-line-requires c κs = let s = c .before .before in omega (arith, phrase-room 150 whyLines refl (s .args .what), s .pre)
 
 returns : tie.Need-returns
 unfolding whyLines
-returns c = let r = c .before .before in phrase-put 150 whyLines refl (r .before .before .before .before .args .what) (r .put-phrase .ensures)
+returns c =
+    let p = c .before .before in
+    put-wide 1500 (omega (arith, phrase-room 150 whyLines refl (p .before .before .before .args .what))) (p .put-line .ensures)
 
 pub put-spec : {M : Type 1} → statement M
-put-spec = tie.close (tie.spec (λ c. search needs) put-phrase-requires (λ c. search needs) returns)
+put-spec = tie.close (tie.spec put-line-requires (λ c. search needs) returns)

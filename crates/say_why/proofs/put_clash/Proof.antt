@@ -22,8 +22,8 @@ returns c =
     let q = a .before .before .before .before .before .before .before in
     let p = q .before .before .before .before .before in
     let s = p .before .before .before .before in
-    put-wide 51000 (omega (arith, fine-sized _ (s .pre .1 .0) .cells-most))
-    (put-both _ _ (rw (p .before .takes-phrase .ensures, s .pre .1 .1) at (p .put .ensures))
+    put-wide 9400 (omega (arith, fine-sized _ (s .pre .1 .0) .cells-most))
+    (put-both _ _ (rw (p .before .takes-phrase .ensures, s .pre .1 .1, s .pre .1 .2) at (p .put .ensures))
     (put-both _ _ (rw (q .before .set-phrase .ensures) at (q .put2 .ensures)) (a .put-cells .ensures)))
 
 pub put-clash-spec : {M : Type 1} → statement M

@@ -15,22 +15,39 @@ use Rattle.sitefile.proofs.put_site.Tie as tie
 cast-n : tie.Need-cast-n
 cast-n c = search needs
 
+cast-all : tie.Need-cast-all
+cast-all c = search needs
+
+cast-all-2 : tie.Need-cast-all-2
+cast-all-2 c = search needs
+
+mul-all : tie.Need-mul-all
+mul-all c = search needs
+
 pairs-len-requires : tie.Need-pairs-len-requires
 pairs-len-requires c κs = search needs
 
 size : (c : tie.Start) → length (c .args .s .loads) ≡ 32
 size c = search needs
 
+-- where the function begins
+abbrev begin : tie.After-blocks-len → tie.Start
+begin c = c .before .before .before .before .before .before .before .before .before
+
 few : (c : tie.After-pairs-len) → c .pairs-len .result ≤ 2048
 few c = rw (c .pairs-len .ensures) (pair-bytes-most _)
 
 need :
-    (c : tie.After-pairs-len) →
-    headSize + 4 + 2 * c .before .before .before .before .args .s .cells + 4 + c .pairs-len .result
-    ≡ length (siteBytes (c .before .before .before .before .args .s))
+    (c : tie.After-blocks-len) →
+    headSize + 4 + 2 * begin c .args .s .cells + 4 + c .before .before .pairs-len .result + c .blocks-len .result
+    ≡ length (siteBytes (begin c .args .s))
 need c =
-    let a = c .before .before .before .before in
-    rw (c .pairs-len .ensures) (sym (site-length (a .args .s) (a .pre) (size a)))
+    let a = begin c in
+    (λ j. headSize + 4 + 2 * a .args .s .cells + 4 + c .before .before .pairs-len .ensures j + c .blocks-len .ensures .0 j)
+    ∙ sym (site-length (a .args .s) (a .pre .0) (size a))
+
+blocks-len-requires : tie.Need-blocks-len-requires
+blocks-len-requires c κs = search needs
 
 add-from : tie.Need-add-from
 add-from c = search needs
@@ -41,11 +58,14 @@ mul-at c = search needs
 add-at : tie.Need-add-at
 add-at c = search needs
 
-add-need : tie.Need-add-need
-add-need c = search needs
+add-end : tie.Need-add-end
+add-end c = search needs
 
-add-need-2 : tie.Need-add-need-2
-add-need-2 c = omega (arith, few c)
+add-end-2 : tie.Need-add-end-2
+add-end-2 c = omega (arith, few (c .before .before))
+
+add-need : tie.Need-add-need
+add-need c = omega (arith, few (c .before .before), c .blocks-len .ensures .1)
 
 returns : tie.Need-returns
 returns c =
@@ -70,7 +90,11 @@ add-put-start-2 : tie.Need-add-put-start-2
 add-put-start-2 c = search needs
 
 cast-put-start : tie.Need-cast-put-start
-cast-put-start c = omega (arith, few (c .before .before .before .before .before .before .before .before .before .before .before .before .before .before))
+cast-put-start c =
+    let l = c .before .before .before in
+    let w = l .before .before .before .before in
+    let h = w .before .before .before .before in
+    omega (arith, few (h .before .before .before .before .before))
 
 put-start-requires-2 : tie.Need-put-start-requires-2
 put-start-requires-2 c κs = search needs
@@ -81,21 +105,41 @@ add-put-pairs c = search needs
 put-pairs-requires : tie.Need-put-pairs-requires
 put-pairs-requires c κs = search needs
 
+put-blocks-requires : tie.Need-put-blocks-requires
+put-blocks-requires c κs =
+    let p = c .before .before .before .before in
+    let r = p .before .before .before .before .before in
+    let l = r .before .before .before .before in
+    let w = l .before .before .before .before in
+    let h = w .before .before .before .before in
+    let k = h .before .before .before in
+    (begin k .pre .1, k .blocks-len .ensures .0, omega arith)
+
 same-length : tie.Need-same-length
 same-length c = search needs
 
 returns-2 : tie.Need-returns-2
 returns-2 c =
-    let p = c .before .before in
+    let q = c .before .before in
+    let p = q .before .before .before .before .before in
     let r = p .before .before .before .before .before in
     let l = r .before .before .before .before in
     let w = l .before .before .before .before in
     let h = w .before .before .before .before in
     let e = h .before .before in
-    let a = e .before .before .before .before .before in (
-      written-done _ _ _ (need (e .before)) (e .if1 .left),
-      rw (p .put-pairs .ensures, r .put-start2 .ensures, l .put-loads .ensures, w .put-start .ensures, h .put-head .ensures, e .before .pairs-len .ensures)
-          (site-put (a .args .s) (a .pre) (size a) (now (a .args .out)) ∙ laid-done _ _ (omega (arith, need (e .before)))),
+    let k = e .before in
+    let a = begin k in (
+      written-done _ _ _ (need k) (e .if1 .left),
+      rw (
+        q .put-blocks .ensures,
+        p .put-pairs .ensures,
+        r .put-start2 .ensures,
+        l .put-loads .ensures,
+        w .put-start .ensures,
+        h .put-head .ensures,
+        k .before .before .pairs-len .ensures,
+      )
+          (site-put (a .args .s) (a .pre .0) (size a) (now (a .args .out)) ∙ laid-done _ _ (omega (arith, need k))),
     )
 
 pub put-site-spec : {M : Type 1} → statement M
@@ -103,12 +147,17 @@ put-site-spec =
     tie.close
     (tie.spec
     cast-n
+    cast-all
+    cast-all-2
+    mul-all
     pairs-len-requires
+    blocks-len-requires
     add-from
     mul-at
     add-at
+    add-end
+    add-end-2
     add-need
-    add-need-2
     returns
     put-head-requires
     mul-put-start
@@ -120,5 +169,6 @@ put-site-spec =
     put-start-requires-2
     add-put-pairs
     put-pairs-requires
+    put-blocks-requires
     same-length
     returns-2)

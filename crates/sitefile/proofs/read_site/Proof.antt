@@ -1,5 +1,4 @@
--- `sitefile::read_site` meets its contract: the head, the opener and the last record decide the answer in turn, and the site is what the bodies state.
--- Assumes nothing.
+-- `sitefile::read_site` meets its contract: the head, the opener and what follows decide the answer in turn. Assumes nothing.
 use borrow.Author.Needs.{needs}
 use Prim.Native.Nat.{ℕ, _+_, _*_, _≤_}
 use mathlib.Core.Path.{_≡_, sym, ap, _∙_}
@@ -7,7 +6,6 @@ use mathlib.Core.List.{List}
 use native.Mathlib.Omega.{arith}
 use lib.ListN.{length-take}
 use denote.Ref.{now}
-use Rattle.site.specs.Record.{siteOf}
 use Rattle.records.specs.Opener.{openAt, openAnswer}
 use Rattle.records.specs.Reasons.{firstReason}
 use Rattle.records.specs.Head.{headSize, cellsOfHead, headAnswer}
@@ -15,11 +13,10 @@ use Rattle.records.specs.declared.Length.the-variants.{Exact}
 use Rattle.records.specs.declared.ReadAnswer.the-variants.{Done}
 use Rattle.records.proofs.Laws.{Opening, opened, opened-done, not-opened, within, exact, body-is, ends}
 use Rattle.records.proofs.Head.{head-read, head-sizes}
-use Rattle.sitefile.specs.Reasons.{loadsAt, reachAt, loadsReasons}
-use Rattle.sitefile.specs.Read.{loadsOfBody, refusedSite, siteOfFile}
-use Rattle.sitefile.specs.Loop.{reachRead}
-use Rattle.sitefile.proofs.Reasons.{refuse, accept}
-use Rattle.sitefile.proofs.ReadLaws.{head-stop, loads-stop, site-is, rows-are}
+use Rattle.sitefile.specs.Reasons.{loadsAt, loadsReasons}
+use Rattle.sitefile.specs.Read.{loadsOfBody, refusedSite}
+use Rattle.sitefile.proofs.Reasons.{refuse}
+use Rattle.sitefile.proofs.ReadLaws.{head-stop, loads-stop}
 use Rattle.sitefile.proofs.read_site.Statement.{statement}
 use Rattle.sitefile.proofs.read_site.Tie as tie
 
@@ -62,11 +59,11 @@ loads-open c =
 two-bytes-requires : tie.Need-two-bytes-requires
 two-bytes-requires c κs = omega (arith, head-read _ (done c) .long)
 
-mul-t13 : tie.Need-mul-t13
-mul-t13 c = omega (arith, few c)
+mul-t9 : tie.Need-mul-t9
+mul-t9 c = omega (arith, few c)
 
-add-t14 : tie.Need-add-t14
-add-t14 c = omega (arith, few c)
+add-t10 : tie.Need-add-t10
+add-t10 c = omega (arith, few c)
 
 open-requires : tie.Need-open-requires
 open-requires c κs = search needs
@@ -121,64 +118,20 @@ loads-of-requires c κs =
     let w = k .before .before .before .before in
     simp length-take (omega (arith, o .size, exact _ _ (o .fits), few w, w .two-bytes .ensures))
 
-read-reach-requires : tie.Need-read-reach-requires
-read-reach-requires c κs = few (c .before .before .before .before .before .before)
-
--- what the last record gave
-last : (c : tie.After-read-reach) → let s = S (c .before .before .before) in c .read-reach .result ≡ reachRead s (reachAt s) (cellsOfHead s)
-last c =
-    let k = c .before .before .before in
+read-rest-requires : tie.Need-read-rest-requires
+read-rest-requires c κs =
+    let k = c .before .before in
     let w = k .before .before .before .before in
-    c .read-reach .ensures ∙ (λ j. reachRead (S k) (ends _ _ _ _ _ _ (opening k) j) (w .two-bytes .ensures j))
-
-enum-told-4 : tie.Need-enum-told-4
-enum-told-4 c = search needs
-
-enum-told-5 : tie.Need-enum-told-5
-enum-told-5 c = search needs
-
-refused-requires-3 : tie.Need-refused-requires-3
-refused-requires-3 c κs = search needs
+    record {
+      head = done (w .before);
+      found = loads-found k;
+      place = ends _ _ _ _ _ _ (opening k);
+      cells-are = w .two-bytes .ensures;
+      loads-are = c .loads-of .ensures ∙ ap loadsOfBody (body-is _ _ _ _ _ _ (opening k));
+    }
 
 returns-3 : tie.Need-returns-3
-returns-3 c =
-    let t = c .before in
-    let p = t .before .before .before in
-    let k = p .before .before .before in
-    let h = k .before .before .before .before .before in
-    let e = t .enum-told5 .given .1 in
-    c .refused3 .ensures ∙ ap refusedSite e ∙ refuse _ _ _ (site-is _ (done h) (loads-found k) _ (last p) ∙ e)
-
-zeros-requires : tie.Need-zeros-requires
-zeros-requires c κs = search needs
-
-two-bytes-requires-2 : tie.Need-two-bytes-requires-2
-two-bytes-requires-2 c κs =
-    let k = c .before .before .before .before .before .before .before in
-    omega (arith, head-read _ (done (k .before .before .before .before .before)) .long)
-
-two-bytes-requires-3 : tie.Need-two-bytes-requires-3
-two-bytes-requires-3 c κs =
-    let k = c .before .before .before .before .before .before .before .before in
-    omega (arith, head-read _ (done (k .before .before .before .before .before)) .long)
-
-returns-4 : tie.Need-returns-4
-unfolding siteOfFile
-returns-4 c =
-    let t = c .before .before .before in
-    let p = t .before .before .before in
-    let l = p .before in
-    let k = l .before .before in
-    let w = k .before .before .before .before in
-    let h = w .before in
-    let e = t .enum-told4 .given .1 in
-    let loads : l .loads-of .result ≡ _ = l .loads-of .ensures ∙ ap loadsOfBody (body-is _ _ _ _ _ _ (opening k)) in
-    (λ j. record {
-      site = siteOf (w .two-bytes .ensures j) (c .before .two-bytes2 .ensures j) (c .two-bytes3 .ensures j) (loads j)
-          (rows-are _ (done h) (loads-found k) _ (last p) e j);
-      answer = e j;
-    })
-    ∙ accept (S k) (site-is _ (done h) (loads-found k) _ (last p) ∙ e)
+returns-3 c = c .read-rest .ensures
 
 pub read-site-spec : {M : Type 1} → statement M
 read-site-spec =
@@ -190,8 +143,8 @@ read-site-spec =
     refused-requires
     returns
     two-bytes-requires
-    mul-t13
-    add-t14
+    mul-t9
+    add-t10
     open-requires
     enum-known-o
     enum-told-3
@@ -203,12 +156,5 @@ read-site-spec =
     part-loads-of-start
     part-loads-of-end
     loads-of-requires
-    read-reach-requires
-    enum-told-4
-    enum-told-5
-    refused-requires-3
-    returns-3
-    zeros-requires
-    two-bytes-requires-2
-    two-bytes-requires-3
-    returns-4)
+    read-rest-requires
+    returns-3)

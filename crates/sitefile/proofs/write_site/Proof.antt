@@ -4,7 +4,7 @@ use mathlib.Core.Path.{_≡_, sym, _∙_}
 use borrow.Author.Needs.{needs}
 use Rattle.site.specs.Record.{faultOf}
 use Rattle.site.specs.declared.Fault.the-variants.{Fine}
-use Rattle.site.proofs.Faults.{not-fine, fine-sized}
+use Rattle.site.proofs.Faults.{not-fine, fine-sized, few-positions}
 use Rattle.sitefile.specs.Write.{siteWritten, siteOut}
 use Rattle.sitefile.proofs.write_site.Statement.{statement}
 use Rattle.sitefile.proofs.write_site.Tie as tie
@@ -25,7 +25,7 @@ fine : (c : tie.After-enum-told) → faultOf (c .before .before .before .before 
 fine c = sym (c .before .before .fault-in .ensures) ∙ c .enum-told .given .1
 
 put-site-requires : tie.Need-put-site-requires
-put-site-requires c κs = fine-sized _ (fine (c .before)) .cells-most
+put-site-requires c κs = let z = fine-sized _ (fine (c .before)) in (z .cells-most, few-positions z)
 
 same-length : tie.Need-same-length
 same-length c = search needs

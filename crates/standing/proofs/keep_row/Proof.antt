@@ -23,15 +23,15 @@ use Rattle.standing.proofs.keep_row.Statement.{statement}
 use Rattle.standing.proofs.keep_row.Tie as tie
 
 abbrev Inv-loop : tie.InvT-loop
-Inv-loop words₀ table from n load bit row left₀ gone₀ k₀ words left gone k =
+Inv-loop words₀ table from n load bit mask left₀ gone₀ k₀ words left gone k =
     (k ≤ n)
     × (length words ≡ length words₀)
-    × (words ≡ sets words₀ 0 (listOf (wordWith words₀ (keepAt (freeAt words₀ row) (λ q. sends (getD table (from + q) 0)) load n) bit) k))
-    × (left ≡ load - count (λ q. freeAt words₀ row q && sends (getD table (from + q) 0)) k)
-    × (gone ≡ count (λ q. sends (getD table (from + q) 0) && not (keepAt (freeAt words₀ row) (λ q. sends (getD table (from + q) 0)) load n q)) k)
+    × (words ≡ sets words₀ 0 (listOf (wordWith words₀ (keepAt (freeAt words₀ mask) (λ q. sends (getD table (from + q) 0)) load n) bit) k))
+    × (left ≡ load - count (λ q. freeAt words₀ mask q && sends (getD table (from + q) 0)) k)
+    × (gone ≡ count (λ q. sends (getD table (from + q) 0) && not (keepAt (freeAt words₀ mask) (λ q. sends (getD table (from + q) 0)) load n q)) k)
 
 abbrev μ-loop : tie.MeasureT-loop
-μ-loop words₀ table from n load bit row left₀ gone₀ k₀ words left gone k = n - k
+μ-loop words₀ table from n load bit mask left₀ gone₀ k₀ words left gone k = n - k
 
 -- position k is kept exactly where the rule keeps it
 module _ (c : tie.After-weight Inv-loop μ-loop) where
@@ -45,12 +45,12 @@ module _ (c : tie.After-weight Inv-loop μ-loop) where
   old q = sends (getD (start .args .table .now) (start .args .from + q) 0)
 
   abbrev rule : ℕ → Bool
-  rule q = freeAt (start .args .words .now) (start .args .row) q && old q
+  rule q = freeAt (start .args .words .now) (start .args .mask) q && old q
 
   does : c .before .keeps .result ≡ firstFew rule (start .args .load) (at .loop .k)
   does =
       c .before .keeps .ensures
-      ∙ ap (λ x. eqb (bitAnd x (start .args .row)) 0 && old (at .loop .k) && ltb 0 (at .loop .left))
+      ∙ ap (λ x. eqb (bitAnd x (start .args .mask)) 0 && old (at .loop .k) && ltb 0 (at .loop .left))
       (untouched rule (start .args .load) (start .args .bit) (at .loop .k) (start .args .words .now) (at .loop .words) (at .loop .inv .2) (at .loop .inv .3))
       ∙ few-test rule (start .args .load) (at .loop .k) (at .loop .inv .3)
 

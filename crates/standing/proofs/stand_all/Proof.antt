@@ -1,192 +1,72 @@
--- `standing::stand_all` meets its contract: at the head of the loop the words and counts are those of the run so far (`Standing`). Assumes nothing.
-use mathlib.Core.Path.{_≡_, refl, sym, ap, _∙_}
-use Prim.Native.Nat.{_+_, _-_, _*_, _≤_}
+-- `standing::stand_all` meets its contract: the words of the blocked positions have every bit before the turns, and none after them. Assumes nothing.
+use mathlib.Core.Path.{_≡_, sym, ap, subst, _∙_}
+use mathlib.Core.List.{List}
+use Prim.Native.Nat.{ℕ, _≤_}
 use native.Mathlib.Omega.{arith}
-use lib.ListN.{length, getD, length-set}
-use lib.Seq.{sets, length-sets}
+use lib.ListN.{length}
+use lib.Seq.{length-sets}
 use Rattle.laws.specs.Part.{listOf}
-use Rattle.laws.proofs.Grid.{row-before}
-use Rattle.laws.proofs.Sums.{count-most}
-use Rattle.theory.specs.Greedy.{reserved}
-use Rattle.mending.specs.Keep.{standAt}
-use Rattle.mending.specs.Changes.{differ}
-use Rattle.standing.specs.Stand.{stoodOf}
-use Rattle.standing.specs.Turns.{turnWords, turnChanges, turnsOf, metOf}
-use Rattle.standing.specs.Words.{freeAt}
-use Rattle.standing.proofs.Standing.{Standing, none-yet, turn-low, turn-stops, turn-goes, stood-all, stood-says, short-says}
-use Rattle.standing.proofs.Turns.{no-words, no-counts, turn-joins, turn-counts}
+use Rattle.standing.specs.Stand.{SaysBy}
+use Rattle.standing.specs.Turns.{turnedBy, countedBy}
+use Rattle.standing.specs.Words.{everyBit, wordLaid, wordsLaid, Starts}
+use Rattle.standing.proofs.Laid.{laid-starts}
 use borrow.Author.Needs.{needs}
 use Rattle.standing.proofs.stand_all.Statement.{statement}
 use Rattle.standing.proofs.stand_all.Tie as tie
-use Rattle.site.specs.Reach.{netBy}
-use Rattle.theory.specs.Net.{unblocked}
 
-abbrev Inv-loop : tie.InvT-loop
-Inv-loop words₀ counts₀ table n cells loads clash number₀ i₀ words counts number i =
-    (i ≤ cells)
-    × (length words ≡ length words₀)
-    × (length counts ≡ length counts₀)
-    × Standing (netBy cells n loads clash unblocked) table i words counts number
-    × (number ≤ i * 2048)
-    × (words ≡ turnWords n loads clash table words₀ i)
-    × (counts ≡ sets counts₀ 0 (listOf (turnChanges n loads clash table words₀) i))
+-- the words before the first turn
+module _ (c : tie.After-lay-blocked) where
+  abbrev start : tie.Start
+  start = c .before .before .before .before .before
 
-abbrev μ-loop : tie.MeasureT-loop
-μ-loop words₀ counts₀ table n cells loads clash number₀ i₀ words counts number i = cells - i
+  laid : c .lay-blocked .last .0 ≡ wordsLaid (start .args .words .now) (start .args .blocked .now) everyBit (start .args .n)
+  laid = c .lay-blocked .ensures
 
--- the cell's turn is over
-module _ (c : tie.After-stand-cell Inv-loop μ-loop) where
-  abbrev at : tie.At-loop Inv-loop μ-loop
-  at = c .before .before .before .before .before
+  laid-long : length (c .lay-blocked .last .0) ≡ length (start .args .words .now)
+  laid-long = ap length laid ∙ length-sets (start .args .words .now) 0 (listOf (wordLaid (start .args .words .now) (start .args .blocked .now) everyBit)
+      (start .args .n))
 
-  abbrev start : tie.Start Inv-loop μ-loop
-  start = c .before .before .before .before .before .before .before .before .before
+  starts : Starts (start .args .n) (start .args .blocked .now) (c .lay-blocked .last .0)
+  starts = subst (Starts (start .args .n) (start .args .blocked .now)) (sym laid)
+      (laid-starts (start .args .words .now) (start .args .blocked .now) (start .args .n) (start .pre .1 .0) (start .pre .0 .2))
 
-  own : c .before .before .before .load-of .result ≡ getD (start .args .loads .now) (at .loop .i) 0
-  own = c .before .before .before .load-of .ensures
+lay-blocked-requires : tie.Need-lay-blocked-requires
+lay-blocked-requires c κs = let s = c .before .before .before .before in (s .pre .0 .1, s .pre .0 .2)
 
-  long : length (c .stand-cell .last .0) ≡ length (at .loop .words)
-  long = ap length (c .stand-cell .ensures .0) ∙ simp length-sets
+stand-turns-requires : tie.Need-stand-turns-requires
+stand-turns-requires c κs =
+    let b = c .before .before .before .before in
+    let p = start b .pre .0 in
+    ((p .0, p .1, omega (arith, laid-long b, p .2), p .3, p .4), (starts b, start b .pre .1 .1))
 
-  few : c .stand-cell .result .changes ≤ start .args .n
-  few =
-      let a = start .args in
-      let i = at .loop .i in
-      let free = freeAt (at .loop .words) (getD (a .clash .now) i 0) in
-      let old = reserved (a .n) (a .table .now) i in
-      let load = c .before .before .before .load-of .result in
-      omega (arith, c .stand-cell .ensures .1 .1, count-most (λ k. differ (standAt free old load (a .n) k) (old k)) (a .n))
+lay-blocked-requires-2 : tie.Need-lay-blocked-requires-2
+lay-blocked-requires-2 c κs =
+    let turns = c .before .before .before .before .before in
+    let b = turns .before .before .before .before .before in
+    (start b .pre .0 .1, omega (arith, turns .stand-turns .kept .0, laid-long b, start b .pre .0 .2))
 
-  stored : c .stand-cell .last .0
-      ≡ turnWords (start .args .n) (start .args .loads .now) (start .args .clash .now) (start .args .table .now) (start .args .words .now) (at .loop .i + 1)
-  stored =
-      let a = start .args in
-      turn-joins (a .n) (a .loads .now) (a .clash .now) (a .table .now) (a .words .now) (a .counts .now) (at .loop .i) (at .loop .words) (at .loop .inv .5) own
-      (c .stand-cell .last .0) (c .stand-cell .ensures .0)
+same-length : tie.Need-same-length
+same-length c = search needs
 
-loop-holds : tie.Need-loop-holds Inv-loop μ-loop
-loop-holds c =
-    let b = c .before .before .before in
-    let a = b .args in (
-      omega arith,
-      refl,
-      refl,
-      none-yet (netBy (a .cells) (a .n) (a .loads .now) (a .clash .now) unblocked) (a .table .now) (a .words .now) (a .counts .now) (b .pre .1 .0),
-      omega arith,
-      no-words (a .n) (a .loads .now) (a .clash .now) (a .table .now) (a .words .now) (a .counts .now),
-      no-counts (a .n) (a .loads .now) (a .clash .now) (a .table .now) (a .words .now) (a .counts .now),
-    )
+same-length-2 : tie.Need-same-length-2
+same-length-2 c = search needs
 
-load-of-requires : tie.Need-load-of-requires Inv-loop μ-loop
-load-of-requires c κs = search needs
-
-cast-load : tie.Need-cast-load Inv-loop μ-loop
-cast-load c = search needs
-
-mul-stand-cell : tie.Need-mul-stand-cell Inv-loop μ-loop
-mul-stand-cell c = search needs
-
-element-copy-out-stand-cell : tie.Need-element-copy-out-stand-cell Inv-loop μ-loop
-element-copy-out-stand-cell c = search needs
-
-stand-cell-requires : tie.Need-stand-cell-requires Inv-loop μ-loop
-stand-cell-requires c κs =
-    let l = c .before .before .before .before .loop in
-    let b = c .before .before .before .before .before .before .before .before in
-    let a = b .args in
-    let row = row-before (a .n) (c .before .before .before .loop-test .taken) in (
-      (omega arith, b .pre .0 .1, omega (arith, b .pre .0 .2, l .inv .1), omega (arith, row, b .pre .0 .4)),
-      turn-low (a .cells) (a .n) (a .loads .now) (a .clash .now) (a .table .now) (b .pre .1 .1) (l .i) (l .words) (l .counts) (l .number) (l .inv .3),
-    )
-
-add-t22 : tie.Need-add-t22 Inv-loop μ-loop
-add-t22 c = let b = c .before .before .before in omega (arith, start b .pre .0 .0, at b .loop .inv .0)
-
-same-length : tie.Need-same-length Inv-loop μ-loop
-same-length c = let b = c .before .before .before in long b ∙ at b .loop .inv .1
-
-same-length-2 : tie.Need-same-length-2 Inv-loop μ-loop
-same-length-2 c = let b = c .before .before .before in at b .loop .inv .2
-
-returns : tie.Need-returns Inv-loop μ-loop
+returns : tie.Need-returns
 returns c =
-    let b = c .before .before .before in
-    let l = at b .loop in
+    let last = c .before .before in
+    let turns = last .before .before .before .before .before .before in
+    let b = turns .before .before .before .before .before in
     let a = start b .args in
-    let net = netBy (a .cells) (a .n) (a .loads .now) (a .clash .now) unblocked in
-    let e = turn-stops (a .cells) (a .n) (a .loads .now) (a .clash .now) (a .table .now) (start b .pre .1 .1) (l .i) (l .words) (l .counts) (l .number)
-    (l .inv .3) (own b) (b .stand-cell .ensures .1 .0) (omega (arith, c .if1 .taken)) (a .cells) (b .before .before .before .before .loop-test .taken) in
-    let f = turnChanges (a .n) (a .loads .now) (a .clash .now) (a .table .now) (a .words .now) in (
-      sym (ap (stoodOf net (a .table .now)) e),
+    let e = turns .stand-turns .ensures in (
+      e .0,
       (
-        stored b ∙ sym (ap (λ o. turnWords (a .n) (a .loads .now) (a .clash .now) (a .table .now) (a .words .now) (turnsOf (a .cells) o)) e),
+        last .lay-blocked2 .ensures ∙ ap (λ (w : List ℕ). wordsLaid w (a .blocked .now) 0 (a .n)) (e .1 .0
+            ∙ ap (turnedBy (a .cells) (a .n) (a .loads .now) (a .clash .now) (a .blocked .now) (a .table .now)) (laid b)),
         (
-          l .inv .6 ∙ sym (ap (λ o. sets (a .counts .now) 0 (listOf f (metOf (a .cells) o))) e),
-          short-says net (a .table .now) (b .stand-cell .last .0) (l .counts) (l .i) (b .stand-cell .result .short) e,
-        ),
-      ),
-    )
-
-mul-counts : tie.Need-mul-counts Inv-loop μ-loop
-mul-counts c = search needs
-
-slice-write-counts : tie.Need-slice-write-counts Inv-loop μ-loop
-slice-write-counts c = let b = c .before .before .before in omega (
-  arith,
-  b .before .before .before .before .loop-test .taken,
-  start b .pre .0 .3,
-  at b .loop .inv .2,
-)
-
-add-number : tie.Need-add-number Inv-loop μ-loop
-add-number c = let b = c .before .before .before in omega (arith, few b, at b .loop .inv .4, start b .pre .0 .0, start b .pre .0 .1, at b .loop .inv .0)
-
-add-i : tie.Need-add-i Inv-loop μ-loop
-add-i c = search needs
-
-loop-less : tie.Need-loop-less Inv-loop μ-loop
-loop-less c = search needs
-
-loop-again : tie.Need-loop-again Inv-loop μ-loop
-loop-again c =
-    let b = c .before .before .before in
-    let l = at b .loop in
-    let a = start b .args in
-    let none : b .stand-cell .result .short ≡ 0 = omega (arith, c .if1 .left) in
-    let inside = b .before .before .before .before .loop-test .taken in (
-      omega (arith, inside),
-      long b ∙ l .inv .1,
-      length-set (l .counts) (l .i) _ ∙ l .inv .2,
-      turn-goes (a .cells) (a .n) (a .loads .now) (a .clash .now) (a .table .now) (start b .pre .1 .1) (l .i) (l .words) (l .counts) (l .number) (l .inv .3)
-          (own b) (b .stand-cell .ensures .1 .0) none (b .stand-cell .last .0) (b .stand-cell .ensures .0) (omega (arith, start b .pre .0 .2, l .inv .1))
-          (b .stand-cell .ensures .1 .1) (omega (arith, inside, start b .pre .0 .3, l .inv .2)),
-      omega (arith, few b, l .inv .4, start b .pre .0 .1),
-      stored b,
-      turn-counts (a .n) (a .loads .now) (a .clash .now) (a .table .now) (a .words .now) (a .counts .now) (l .i) (l .words) (l .inv .5) (own b)
-          (b .stand-cell .ensures .1 .1) (l .counts) (l .inv .6),
-    )
-
-same-length-3 : tie.Need-same-length-3 Inv-loop μ-loop
-same-length-3 c = c .before .loop .inv .1
-
-same-length-4 : tie.Need-same-length-4 Inv-loop μ-loop
-same-length-4 c = c .before .loop .inv .2
-
-returns-2 : tie.Need-returns-2 Inv-loop μ-loop
-returns-2 c =
-    let l = c .before .loop in
-    let a = c .before .before .before .before .before .args in
-    let net = netBy (a .cells) (a .n) (a .loads .now) (a .clash .now) unblocked in
-    let e : l .i ≡ a .cells = omega arith in
-    let st : Standing net (a .table .now) (a .cells) (l .words) (l .counts) (l .number) = rw e at (l .inv .3) in
-    let f = turnChanges (a .n) (a .loads .now) (a .clash .now) (a .table .now) (a .words .now) in
-    let w = turnWords (a .n) (a .loads .now) (a .clash .now) (a .table .now) (a .words .now) in (
-      stood-all net (a .table .now) (l .words) (l .counts) (l .number) st,
-      (
-        l .inv .5 ∙ ap w e ∙ sym (ap (λ o. w (turnsOf (a .cells) o)) (st .runs)),
-        (
-          l .inv .6 ∙ ap (λ m. sets (a .counts .now) 0 (listOf f m)) e ∙ sym (ap (λ o. sets (a .counts .now) 0 (listOf f (metOf (a .cells) o))) (st .runs)),
-          stood-says net (a .table .now) (l .words) (l .counts) (l .number) st,
+          e .1 .1 .0
+              ∙ ap (λ (w : List ℕ). countedBy (a .cells) (a .n) (a .loads .now) (a .clash .now) (a .blocked .now) (a .table .now) w (a .counts .now)) (laid b),
+          subst (λ (w : List ℕ). SaysBy (a .cells) (a .n) (a .loads .now) (a .clash .now) (a .blocked .now) (a .table .now) w (turns .stand-turns .last .1 .0))
+              (sym (last .lay-blocked2 .ensures)) (e .1 .1 .1),
         ),
       ),
     )
@@ -195,24 +75,9 @@ pub stand-all-spec : {M : Type 1} → statement M
 stand-all-spec =
     tie.close
     (tie.spec
-    Inv-loop
-    μ-loop
-    loop-holds
-    load-of-requires
-    cast-load
-    mul-stand-cell
-    element-copy-out-stand-cell
-    stand-cell-requires
-    add-t22
+    lay-blocked-requires
+    stand-turns-requires
+    lay-blocked-requires-2
     same-length
     same-length-2
-    returns
-    mul-counts
-    slice-write-counts
-    add-number
-    add-i
-    loop-less
-    loop-again
-    same-length-3
-    same-length-4
-    returns-2)
+    returns)

@@ -2,7 +2,7 @@
 use Prim.Native.Nat.{_≤_}
 use native.Mathlib.Omega.{arith}
 use lib.ListN.{length}
-use Rattle.theory.specs.Net.{unblocked}
+use Rattle.site.specs.Reach.{isOpen}
 use Rattle.stretches.proofs.Ends.{refused, cleared, stood, laid-down}
 use borrow.Author.Needs.{needs}
 use Rattle.stretches.proofs.plan_stretches.Statement.{statement}
@@ -45,12 +45,12 @@ returns c =
       slice-aggregate-lay-all (c .before .before .before .before .before .before .before .before .before .before .before .before),
     ) in
     let room : a .n ≤ length (a .words .now) = omega arith in (
-      refused unblocked (a .clash .now) (a .loads) (a .cells) (a .n) fits (a .words .now) (S .last .0) (S .last .1 .0) room (S .ensures .1 .0)
-          (S .ensures .1 .1)
+      refused (isOpen (a .blocked .now)) (a .clash .now) (a .loads) (a .cells) (a .n) fits (a .words .now) (S .last .0) (S .last .1 .0) room
+          (S .ensures .1 .0) (S .ensures .1 .1)
           (S .result) (S .ensures .0) (L .result) (L .ensures) (c .before .before .before .before .before .before .if1 .taken) (c .left-of .result)
           (c .left-of .ensures),
-      cleared unblocked (a .clash .now) (a .loads) (a .cells) (a .n) fits (a .words .now) (S .last .0) (S .last .1 .0) room (S .ensures .1 .0)
-          (S .ensures .1 .1)
+      cleared (isOpen (a .blocked .now)) (a .clash .now) (a .loads) (a .cells) (a .n) fits (a .words .now) (S .last .0) (S .last .1 .0) room
+          (S .ensures .1 .0) (S .ensures .1 .1)
           (S .result) (S .ensures .0) (L .result) (L .ensures) (c .before .before .before .before .before .before .if1 .taken)
           (c .before .before .before .before .lay .last .0) (c .before .before .before .before .lay .ensures),
     )
@@ -65,10 +65,11 @@ returns-2 c =
     let L = c .before .lowest in
     let fits : a .cells ≤ length (a .loads) = omega (arith, slice-aggregate-lay-all (c .before .before .before .before .before .before)) in
     let room : a .n ≤ length (a .words .now) = omega arith in (
-      stood unblocked (a .clash .now) (a .loads) (a .cells) (a .n) fits (a .words .now) (S .last .0) (S .last .1 .0) room (S .ensures .1 .0) (S .ensures .1 .1)
+      stood (isOpen (a .blocked .now)) (a .clash .now) (a .loads) (a .cells) (a .n) fits (a .words .now) (S .last .0) (S .last .1 .0) room
+          (S .ensures .1 .0) (S .ensures .1 .1)
           (S .result) (S .ensures .0) (L .result) (L .ensures) (c .if1 .left),
-      laid-down unblocked (a .clash .now) (a .loads) (a .cells) (a .n) fits (a .words .now) (S .last .0) (S .last .1 .0) room (S .ensures .1 .0)
-          (S .ensures .1 .1)
+      laid-down (isOpen (a .blocked .now)) (a .clash .now) (a .loads) (a .cells) (a .n) fits (a .words .now) (S .last .0) (S .last .1 .0) room
+          (S .ensures .1 .0) (S .ensures .1 .1)
           (S .result) (S .ensures .0) (L .result) (L .ensures) (c .if1 .left),
     )
 

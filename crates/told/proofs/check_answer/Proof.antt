@@ -8,5 +8,6 @@ pub check-answer-spec : {M : Type 1} → statement M
 check-answer-spec =
     tie.close
     (tie.spec (λ c. search) (λ c κs. tt) (λ c. search) (λ c κs. tt) (λ c. search) (λ c κs. tt) (λ c. search) (λ c κs. tt) (λ c. search) (λ c κs. tt)
+    (λ c. search) (λ c κs. tt)
     (λ c. search (tells checkGiven)) (λ c. search (tells checkGiven)) (λ c. search (tells checkGiven)) (λ c. search (tells checkGiven))
-    (λ c. search (passes checkGiven)))
+    (λ c. search (tells checkGiven)) (λ c. search (passes checkGiven)))

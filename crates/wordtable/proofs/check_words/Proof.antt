@@ -43,17 +43,17 @@ returns-2 c =
 
 judge-requires : tie.Need-judge-requires
 judge-requires c κs =
-    let e = c .before .before .before in
+    let e = c .before .before .before .before .before in
     let z = sizes (e .before .before .before .before) in
     (z .cells-most, few-positions z, e .if1 .left)
 
 returns-3 : tie.Need-returns-3
 unfolding checkWordsAnswer
 returns-3 c =
-    let e = c .before .before .before .before in
+    let e = c .before .before .before .before .before .before in
     let told = e .before .before .before .before in
     let a = start told .args in
-    let rows = c .before .before .before .clash-rows in
+    let rows = c .before .before .before .before .before .clash-rows in
     c .judge .ensures
     ∙ rows-by (a .site) (sendsAt (a .words .now)) (length (a .words .now)) (positions (a .site))
     (fine told) (e .if1 .left) (rows .result) (rows .ensures .1 (fine told))

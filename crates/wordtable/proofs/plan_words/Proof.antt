@@ -53,20 +53,20 @@ clash-rows-requires c κs = search needs
 
 plan-stretches-requires : tie.Need-plan-stretches-requires
 plan-stretches-requires c κs =
-    let e = c .before .before .before .before in
+    let e = c .before .before .before .before .before .before in
     let z = sizes (e .before .before .before .before) in
-    (z .cells-most, e .if1 .left)
+    (z .cells-most, e .if1 .left, few-positions z)
 
 same-length : tie.Need-same-length
 same-length c = search needs
 
 returns-3 : tie.Need-returns-3
 returns-3 c =
-    let e = c .before .before .before .before .before .before .before in
+    let e = c .before .before .before .before .before .before .before .before .before in
     let a = e .before .before .before .before .before .before .before .before .args in
     let P = c .before .before .plan-stretches in
     let ok = fine (e .before .before .before .before) in
-    let rows = c .before .before .before .before .before .before .clash-rows in (
+    let rows = c .before .before .before .before .before .before .before .before .clash-rows in (
       is-answer (a .site) (a .words .now) ok (e .if1 .left) (rows .result) (rows .ensures .1 ok) (P .result) (P .ensures .0),
       are-words (a .site) (a .words .now) ok (e .if1 .left) (rows .result) (rows .ensures .1 ok) (P .last .0) (P .ensures .1),
     )

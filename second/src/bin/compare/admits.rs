@@ -47,7 +47,7 @@ fn list(random: &mut Random, site: &Site, count: usize) -> Vec<Flow> {
 
 /// Burst, period and repeats whose share is small, or about the room that there is, or any.
 fn wish(random: &mut Random, site: &Site, kind: usize) -> (u16, u16, u16) {
-    let (slots, room) = (site.slots, site.positions());
+    let (slots, room) = (site.slots, (site.room() as usize).max(1));
     let repeats = if random.once_in(3) { random.between(1, 4) as u16 } else { 1 };
     match kind {
         // With a period of T the share is the burst times the repeats.

@@ -5,7 +5,7 @@
 use crate::admit_limits::small_flows;
 use crate::case::{Call, Case};
 use crate::run::Run;
-use second::site::Site;
+use second::site::{set_of, Site};
 
 pub const CELLS: [u16; 6] = [0, 1, 31, 32, 33, 65_535];
 pub const SLOTS: [u16; 6] = [0, 1, 127, 128, 129, 65_535];
@@ -55,13 +55,16 @@ pub fn tunnel(cells: u16, slots: u16, channels: u16) -> Site {
     site
 }
 
-/// A site of three cells with each fault of a record: a load and a reach too many, a size out of range in three ways.
-pub fn wrong_sites(three_cells: Site) -> [Site; 5] {
+/// A site of three cells with each fault of a record: a load, a reach and a blocked position too many, a size out of range
+/// in three ways.
+pub fn wrong_sites(three_cells: Site) -> [Site; 6] {
     let mut load = three_cells;
     load.loads[3] = 1;
     let mut reach = three_cells;
     reach.reach[2] |= 1 << 2;
-    [load, reach, Site { slots: 129, ..three_cells }, Site { cells: 0, ..three_cells }, Site::default()]
+    let n = three_cells.positions();
+    let past = Site { blocked: set_of(n..n + 1), ..three_cells };
+    [load, reach, past, Site { slots: 129, ..three_cells }, Site { cells: 0, ..three_cells }, Site::default()]
 }
 
 /// All cells clash and have the greatest load, so that sums of loads go far above 65,535.

@@ -4,7 +4,7 @@ use crate::calls::Calls;
 use crate::lent::Lent;
 use second::admit::Flow;
 use second::answer::Answer;
-use second::capi::{Edited, PlanRead};
+use second::capi::{Blocked, Edited, PlanRead};
 use second::site::Site;
 
 #[derive(Clone, Copy, Debug, PartialEq, Eq)]
@@ -36,7 +36,8 @@ pub enum Call {
     Mend,
 }
 
-/// A call and what it is given. What a call does not take is left zero or empty.
+/// A call and what it is given. What a call does not take is left zero or empty. The sheet reader takes of the site its
+/// blocked positions.
 #[derive(Clone)]
 pub struct Case {
     pub call: Call,
@@ -134,7 +135,7 @@ impl Case {
                 Call::WriteSite => alone((calls.write_site)(site, out, olen)),
                 Call::ReadPlan => sizes((calls.read_plan)(inp, ilen, out, olen)),
                 Call::WritePlan => alone((calls.write_plan)(site, inp, ilen, out, olen)),
-                Call::ReadSheet => pair((calls.read_sheet)(inp, ilen, x, y)),
+                Call::ReadSheet => pair((calls.read_sheet)(inp, ilen, x, y, Blocked { bits: site.blocked })),
                 Call::WriteSheet => alone((calls.write_sheet)(site, out, olen)),
                 Call::Admit => alone((calls.admit)(site, flows.pointer(), flows.len())),
                 Call::PlanWords => alone((calls.plan_words)(site, write, count)),
@@ -189,6 +190,7 @@ impl Case {
         println!("site cells {} slots {} channels {}", self.site.cells, self.site.slots, self.site.channels);
         println!("  loads {:?}", self.site.loads);
         println!("  reach {:08x?}", self.site.reach);
+        println!("  blocked {:016x?}", self.site.blocked);
         println!("numbers {:?}", self.numbers);
         println!("lent to read, {} bytes: {}", self.input.len(), hex(self.input.part()));
         println!("lent to write, {} bytes: {}", self.output.len(), hex(self.output.part()));
@@ -204,6 +206,7 @@ impl Seen {
         println!("  site cells {} slots {} channels {}", self.site.cells, self.site.slots, self.site.channels);
         println!("  loads {:?}", self.site.loads);
         println!("  reach {:08x?}", self.site.reach);
+        println!("  blocked {:016x?}", self.site.blocked);
         println!("  to read, with guards: {}", hex(self.input.whole()));
         println!("  to write, with guards: {}", hex(self.output.whole()));
         println!("  words, with guards: {:08x?}", self.words.whole());

@@ -41,7 +41,9 @@ pub fn site_file(random: &mut Random) -> Vec<u8> {
             damage_pairs(random, &mut pairs, site.count());
         }
     }
-    let mut records = [head(random, &site), record(2, &words(&site.loads[..site.count()])), record(3, &pairs.concat())];
+    let mut records =
+        vec![head(random, &site), record(2, &words(&site.loads[..site.count()])), record(3, &pairs.concat())];
+    records.extend(blocked_records(random, &site));
     if random.once_in(6) {
         damage_record(random, &mut records);
     }
@@ -50,6 +52,21 @@ pub fn site_file(random: &mut Random) -> Vec<u8> {
         damage_bytes(random, &mut file);
     }
     file
+}
+
+/// Kind 6 where something is blocked. Now and then it is there though nothing is, or twice, or a left-over bit is set.
+fn blocked_records(random: &mut Random, site: &Site) -> Vec<Vec<u8>> {
+    let bits = site.positions();
+    let mut body = vec![0; bits.div_ceil(8)];
+    for k in (0..bits).filter(|&k| !site.is_open(k)) {
+        body[k / 8] |= 1 << (k % 8);
+    }
+    if bits % 8 != 0 && random.once_in(12) {
+        *body.last_mut().expect("a site has a position") |= random.pick(&[128, 128, 1 << (bits % 8), 255]);
+    }
+    let due = body.iter().any(|&byte| byte != 0) || random.once_in(10);
+    let times = if due && random.once_in(16) { 2 } else { due as usize };
+    vec![record(6, &body); times]
 }
 
 /// Swaps, doubles, adds or changes a pair.
@@ -92,7 +109,7 @@ fn damage_record(random: &mut Random, records: &mut [Vec<u8>]) {
     let by = random.pick(&[1, 2, 4, 65_535, 65_534, 256]);
     match random.below(8) {
         0 => record.clear(),
-        1 => record[2] = random.pick(&[0, 1, 2, 3, 4, 5]),
+        1 => record[2] = random.pick(&[0, 1, 2, 3, 4, 5, 6, 7]),
         2 => record[3] = 1,
         3 | 4 => record[..2].copy_from_slice(&length.wrapping_add(by).to_le_bytes()),
         5 => record[..2].copy_from_slice(&random.pick(&[0u16, 1, 2, 3, 65_535]).to_le_bytes()),

@@ -6,6 +6,7 @@
 
 mod admit_limits;
 mod admits;
+mod blocked_limits;
 mod boundary;
 mod calls;
 mod case;
@@ -61,6 +62,7 @@ fn fixed(dir: &Path) -> ExitCode {
     word_limits::compare(&mut run);
     mend_limits::compare(&mut run);
     heaviest_limits::compare(&mut run);
+    blocked_limits::compare(&mut run);
     println!("boundaries: {} cases", run.cases);
     let before = run.cases;
     spares::compare(&mut run);
@@ -74,6 +76,9 @@ fn fixed(dir: &Path) -> ExitCode {
     let before = run.cases;
     mend_limits::every_small_table(&mut run);
     println!("small tables mended: {} cases", run.cases - before);
+    let before = run.cases;
+    blocked_limits::every_small_table(&mut run);
+    println!("small tables, whatever is blocked: {} cases", run.cases - before);
     let before = run.cases;
     match samples::compare(&mut run, dir) {
         Ok(files) if files > 0 => println!("{files} sample files, cut and changed: {} cases", run.cases - before),

@@ -60,8 +60,8 @@ pub fn compare(run: &mut Run, random: &mut Random) {
             run.read_plan(&file, near(random, due), mark);
         }
         Call::ReadSheet => {
-            let (bytes, slots, channels) = sheet(random);
-            run.read_sheet(&bytes, slots, channels, mark);
+            let (bytes, slots, channels, blocked) = sheet(random);
+            run.read_sheet(&bytes, slots, channels, &blocked, mark);
         }
         Call::Share => {
             let flow = [near_number(random, 128), flow_number(random), flow_number(random)];
@@ -114,7 +114,8 @@ fn with_site(random: &mut Random, call: Call) -> Case {
         Call::Check => case.input(&resized(random, table, due), mark),
         Call::WriteSite => {
             let pairs: u32 = site.reach.iter().map(|row| row.count_ones()).sum();
-            let len = near(random, 18 + 2 * site.count().min(33) + 2 * pairs as usize);
+            let bits = if site.has_blocked() { 4 + site.positions().min(2048).div_ceil(8) } else { 0 };
+            let len = near(random, 18 + 2 * site.count().min(33) + 2 * pairs as usize + bits);
             case.output(&random.bytes(len), mark)
         }
         Call::WriteSheet => {

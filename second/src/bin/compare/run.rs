@@ -2,13 +2,13 @@
 
 use crate::calls::{LIBRARY, SECOND};
 use crate::case::{Call, Case, Seen};
-use second::site::Site;
+use second::site::{Positions, Site};
 
 /// How many cases were compared, and how often each number was the answer.
 #[derive(Default)]
 pub struct Run {
     pub cases: u64,
-    pub given: [u64; 20],
+    pub given: [u64; 23],
 }
 
 impl Run {
@@ -57,8 +57,9 @@ impl Run {
     }
 
     /// Reads bytes as a sheet; a site that is accepted is judged, and written back with room and without.
-    pub fn read_sheet(&mut self, bytes: &[u8], slots: u16, channels: u16, mark: u64) {
-        let read = Case::of(Call::ReadSheet, Site::default()).numbers([slots, channels, 0]).input(bytes, mark);
+    pub fn read_sheet(&mut self, bytes: &[u8], slots: u16, channels: u16, blocked: &Positions, mark: u64) {
+        let beside = Site { blocked: *blocked, ..Site::default() };
+        let read = Case::of(Call::ReadSheet, beside).numbers([slots, channels, 0]).input(bytes, mark);
         let seen = self.compare(&read);
         if seen.answer.number != 0 {
             return;
@@ -70,7 +71,7 @@ impl Run {
         self.compare(&write.output(&vec![0xA5; bytes.len() - 1], mark));
     }
 
-    /// Prints how often each number was given, and says whether each of 0 to 19 was.
+    /// Prints how often each number was given, and says whether each of 0 to 22 was.
     pub fn report(&self) -> bool {
         for (number, times) in self.given.iter().enumerate() {
             println!("number {number} was given {times} times");

@@ -4,7 +4,7 @@
 use crate::case::{Call, Case};
 use crate::run::Run;
 use crate::sheets::lines;
-use second::site::Site;
+use second::site::{set_of, Site};
 
 pub fn compare(run: &mut Run) {
     for cells in [1, 2, 9, 10, 31, 32] {
@@ -13,21 +13,28 @@ pub fn compare(run: &mut Run) {
         beside(run, &sheet);
         written(run, &site, sheet.len());
         for other in damaged(&sheet) {
-            run.read_sheet(other.as_bytes(), 3, 2, cells as u64);
+            read(run, other.as_bytes(), 3, 2, cells as u64);
         }
         for load in ["0", "00", "9", "10", "99", "100", "999", "1000", "9999", "10000", "65535", "65536", "065535"] {
-            run.read_sheet(sheet.replace("\r\n1,1,", &format!("\r\n1,{load},")).as_bytes(), 3, 2, 5);
+            read(run, sheet.replace("\r\n1,1,", &format!("\r\n1,{load},")).as_bytes(), 3, 2, 5);
         }
     }
     for text in alone() {
         for cut in 0..=text.len().min(40) {
-            run.read_sheet(&text[..cut], 1, 1, cut as u64);
+            read(run, &text[..cut], 1, 1, cut as u64);
         }
-        run.read_sheet(&text, 1, 1, 7);
-        run.read_sheet(&text, 0, 17, 8);
+        read(run, &text, 1, 1, 7);
+        read(run, &text, 0, 17, 8);
     }
     for cells in 33..=35 {
-        run.read_sheet(wide(cells).as_bytes(), 3, 2, cells as u64);
+        read(run, wide(cells).as_bytes(), 3, 2, cells as u64);
+    }
+}
+
+/// Reads a sheet with nothing blocked, with position 0, and with the last position of any site.
+fn read(run: &mut Run, bytes: &[u8], slots: u16, channels: u16, mark: u64) {
+    for positions in [&[][..], &[0], &[2047]] {
+        run.read_sheet(bytes, slots, channels, &set_of(positions.iter().copied()), mark);
     }
 }
 
@@ -52,7 +59,7 @@ fn wide(cells: usize) -> String {
 fn beside(run: &mut Run, sheet: &str) {
     for slots in [0, 1, 127, 128, 129, 65_535] {
         for channels in [0, 1, 15, 16, 17, 65_535] {
-            run.read_sheet(sheet.as_bytes(), slots, channels, slots as u64);
+            read(run, sheet.as_bytes(), slots, channels, slots as u64);
         }
     }
 }

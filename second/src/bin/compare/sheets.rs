@@ -3,8 +3,8 @@
 use crate::files::damage_bytes;
 use crate::make::near_number;
 use crate::random::Random;
-use crate::sites::sound_site;
-use second::site::Site;
+use crate::sites::{block_past, sound_site};
+use second::site::{Positions, Site};
 
 /// What no field of a sheet may be, or only some may.
 const FIELDS: [&str; 24] = [
@@ -50,8 +50,8 @@ pub fn lines(site: &Site) -> Vec<String> {
     lines.iter().map(|line| format!("{line}\r\n")).collect()
 }
 
-/// A sheet, valid as often as not, and the slots and channels beside it.
-pub fn sheet(random: &mut Random) -> (Vec<u8>, u16, u16) {
+/// A sheet, valid as often as not, and the slots, channels and blocked positions beside it.
+pub fn sheet(random: &mut Random) -> (Vec<u8>, u16, u16, Positions) {
     let mut site = sound_site(random);
     if random.once_in(8) {
         let cell = random.below(site.count());
@@ -73,8 +73,11 @@ pub fn sheet(random: &mut Random) -> (Vec<u8>, u16, u16) {
     }
     let beside =
         |random: &mut Random, number, most| if random.once_in(12) { near_number(random, most) } else { number };
-    let slots = beside(random, site.slots, 128);
-    (bytes, slots, beside(random, site.channels, 16))
+    let (slots, channels) = (beside(random, site.slots, 128), beside(random, site.channels, 16));
+    if random.once_in(10) {
+        block_past(random, &mut site);
+    }
+    (bytes, slots, channels, site.blocked)
 }
 
 /// Changes, adds or drops a field.

@@ -2,7 +2,7 @@
 
 use crate::random::Random;
 use second::planner::plan;
-use second::site::Site;
+use second::site::{set_of, Site, MOST_POSITIONS};
 
 /// A site whose record has no fault; small ones are most frequent.
 pub fn sound_site(random: &mut Random) -> Site {
@@ -19,8 +19,46 @@ pub fn sound_site(random: &mut Random) -> Site {
 pub fn sized_site(random: &mut Random, cells: usize, slots: usize, channels: usize) -> Site {
     let mut site = Site::sized(cells, slots, channels);
     set_reach(random, &mut site);
+    set_blocked(random, &mut site);
     set_loads(random, &mut site);
     site
+}
+
+/// On half of the sites nothing is blocked; on the others few positions, some channels in every slot, the last position
+/// alone, about half of all, all but few, or everything.
+fn set_blocked(random: &mut Random, site: &mut Site) {
+    let (n, channels) = (site.positions(), site.channels as usize);
+    let (one_in, any) = (random.between(2, 6), random.next());
+    let some = |random: &mut Random, one_in: usize| set_of((0..n).filter(|_| random.once_in(one_in)));
+    site.blocked = match random.below(16) {
+        0 => set_of(0..n),
+        1 => set_of(n - 1..n),
+        2 => set_of((0..n).filter(|k| any >> (k % channels) & 1 == 1)),
+        3 => some(random, 2),
+        4 | 5 => some(random, one_in),
+        6 => set_of((0..n).filter(|_| !random.once_in(one_in))),
+        7 => set_of(std::iter::once(random.below(n))),
+        _ => [0; 32],
+    };
+}
+
+/// Blocks a position that the site does not have: the next, one far past it, or many.
+pub fn block_past(random: &mut Random, site: &mut Site) {
+    let n = site.positions();
+    if n >= MOST_POSITIONS {
+        return;
+    }
+    let (past, one_in) = (random.between(n, MOST_POSITIONS - 1), random.between(1, 200));
+    let more = match random.below(5) {
+        0 => set_of(n..n + 1),
+        1 => set_of(2047..2048),
+        2 => set_of(n..MOST_POSITIONS),
+        3 => set_of((n..MOST_POSITIONS).filter(|_| random.once_in(one_in))),
+        _ => set_of(past..past + 1),
+    };
+    for (word, more) in site.blocked.iter_mut().zip(more) {
+        *word |= more;
+    }
 }
 
 /// Clashes that are scattered, or lie along a tunnel (and so are chained), each in one direction or in both.
@@ -46,7 +84,7 @@ fn set_reach(random: &mut Random, site: &mut Site) {
 /// Loads that just fit, cell by cell, or are small, or are any; on some sites few cells, many or all are spare; now and
 /// then one load is far too large.
 fn set_loads(random: &mut Random, site: &mut Site) {
-    let (style, most) = (random.below(4), site.positions());
+    let (style, most) = (random.below(4), site.room() as usize);
     let spare_one_in = if random.once_in(3) { random.pick(&[1, 2, 2, 3, 8]) } else { 0 };
     for cell in 1..=site.count() {
         let lower: u64 = (1..cell).filter(|&b| site.clash(b, cell)).map(|b| site.load(b)).sum();
@@ -70,7 +108,7 @@ fn set_loads(random: &mut Random, site: &mut Site) {
 pub fn damage(random: &mut Random, site: &mut Site) {
     for _ in 0..random.between(1, 3) {
         let (any, cell) = (random.below(32), random.below(site.count().clamp(1, 32)));
-        match random.below(10) {
+        match random.below(12) {
             0 => site.cells = random.pick(&[0, 33, 65_535, random_size(any)]),
             1 => site.slots = random.pick(&[0, 129, 65_535, random_size(any)]),
             2 => site.channels = random.pick(&[0, 17, 65_535, random_size(any)]),
@@ -79,6 +117,7 @@ pub fn damage(random: &mut Random, site: &mut Site) {
             6 => site.reach[cell] |= 1 << cell,
             7 => site.reach[cell] |= 1u32.checked_shl(site.cells as u32).unwrap_or(0),
             8 => site.reach[any] |= 1 << 31,
+            9 | 10 => block_past(random, site),
             _ => site.cells = site.cells.saturating_sub(1).max(1),
         }
     }
@@ -88,11 +127,13 @@ fn random_size(any: usize) -> u16 {
     [17, 18, 34, 130, 256, 257, 32_768][any % 7]
 }
 
-/// A table for the site: its plan, or a random one; then perhaps a few bytes changed, and loads made to agree or not.
+/// A table for the site: its plan, perhaps one that knows of nothing blocked, or a random one; then perhaps a few bytes
+/// changed, and loads made to agree or not.
 pub fn table(random: &mut Random, site: &mut Site) -> Vec<u8> {
     let len = site.table_len();
     let mut table = vec![0; len];
-    let planned = plan(site, &mut table).is_ok();
+    let known = if random.once_in(6) { [0; 32] } else { site.blocked };
+    let planned = plan(&Site { blocked: known, ..*site }, &mut table).is_ok();
     if !planned && random.once_in(2) {
         let one_in = random.between(2, 20);
         for byte in &mut table {

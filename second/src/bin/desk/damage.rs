@@ -8,25 +8,42 @@ const SECOND: usize = 10;
 
 pub fn site_file(random: &mut Random, seed: u64, file: &mut Vec<u8>, site: &Site) {
     let reach = SECOND + 4 + 2 * site.count();
+    let end = reach + 2 + u16::from_le_bytes([file[reach], file[reach + 1]]) as usize;
     match seed % 8 {
         1 => {
             let own = random.between(0, site.count() + 1) as u8;
-            add_pair(file, reach, [own, own]);
+            add_pair(file, reach, end, [own, own]);
         }
-        5 => {
+        5 if seed / 8 % 2 == 0 => {
             // The second time it does not rise.
-            add_pair(file, reach, [2, 1]);
-            add_pair(file, reach, [2, 1]);
+            add_pair(file, reach, end, [2, 1]);
+            add_pair(file, reach, end + 2, [2, 1]);
         }
+        5 => blocked(random, file, end, site.positions()),
+        _ if end < file.len() => records(random, seed, file, &[0, SECOND, reach, end]),
         _ => records(random, seed, file, &[0, SECOND, reach]),
     }
 }
 
 /// Adds a pair at the end of the reach record, and to its length.
-fn add_pair(file: &mut Vec<u8>, reach: usize, pair: [u8; 2]) {
-    file.extend(pair);
-    let length = (file.len() - reach - 2) as u16;
+fn add_pair(file: &mut Vec<u8>, reach: usize, end: usize, pair: [u8; 2]) {
+    file.splice(end..end, pair);
+    let length = (end - reach) as u16;
     file[reach..reach + 2].copy_from_slice(&length.to_le_bytes());
+}
+
+/// After the reach, a record of blocked positions that blocks none, that has a left-over bit if there is room for one, or
+/// that is there twice.
+fn blocked(random: &mut Random, file: &mut Vec<u8>, reach_end: usize, positions: usize) {
+    file.truncate(reach_end);
+    let bytes = positions.div_ceil(8);
+    let mut record = (2 + bytes as u16).to_le_bytes().to_vec();
+    record.extend([6, 0]);
+    record.resize(4 + bytes, 0);
+    let last = record.last_mut().expect("a record has bytes");
+    let times = random.between(1, 2);
+    *last = random.pick(&[0, 1, if positions % 8 == 0 { 0 } else { 128 }]);
+    file.extend(record.repeat(times));
 }
 
 pub fn plan_file(random: &mut Random, seed: u64, file: &mut Vec<u8>) {
@@ -45,7 +62,7 @@ fn records(random: &mut Random, seed: u64, file: &mut Vec<u8>, begin: &[usize]) 
             let (size, wrong) = random.pick(&[(4, 0u16), (4, 33), (6, 0), (6, 129), (8, 0), (8, 17), (8, 65_535)]);
             file[size..size + 2].copy_from_slice(&wrong.to_le_bytes());
         }
-        3 => file[at + 2] = random.pick(&[0, 5, file[at + 2] % 4 + 1]),
+        3 => file[at + 2] = random.pick(&[0, 5, 6, file[at + 2] % 4 + 1]),
         4 => file[at] = file[at].wrapping_add(random.pick(&[1, 2, 254, 255])),
         _ => bytes(random, seed, file),
     }

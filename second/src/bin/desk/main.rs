@@ -23,15 +23,24 @@ fn main() -> ExitCode {
         _ => said(&words),
     };
     match told {
-        Ok(Some(Ok(Done { result, words }))) => print(&result, &words, ExitCode::SUCCESS),
-        Ok(Some(Err(no))) => print(&[], &no, ExitCode::FAILURE),
-        Ok(None) => print(&[], "usage: second-desk COMMAND ..; second-desk make KIND SEED\n", ExitCode::from(2)),
+        Ok(Said::Told(Ok(Done { result, words }))) => print(&result, &words, ExitCode::SUCCESS),
+        Ok(Said::Told(Err(no))) => print(&[], &no, ExitCode::FAILURE),
+        Ok(Said::Wrong(line)) => print(&[], &line, ExitCode::from(2)),
         Err(error) => print(&[], &format!("second-desk: {error}\n"), ExitCode::from(2)),
     }
 }
 
-/// What a command says; nothing if it is used wrongly.
-fn said(words: &[&str]) -> io::Result<Option<Told>> {
+/// What a command says, or the line for one that is used wrongly.
+enum Said {
+    Told(Told),
+    Wrong(String),
+}
+
+fn wrong() -> Said {
+    Said::Wrong(String::from("usage: second-desk COMMAND ..; second-desk make KIND SEED\n"))
+}
+
+fn said(words: &[&str]) -> io::Result<Said> {
     let mut files = Vec::new();
     let count = match words.first() {
         Some(&("check" | "mend" | "admit")) => 2,
@@ -42,19 +51,28 @@ fn said(words: &[&str]) -> io::Result<Option<Told>> {
         files.push(fs::read(name)?);
     }
     let file = |k: usize| Input { name: words[k + 1], bytes: &files[k] };
-    Ok(Some(match *words {
+    Ok(Said::Told(match *words {
         ["plan", _] => desk::plan(file(0)),
         ["check", _, _] => desk::check(file(0), file(1)),
         ["mend", _, _] => desk::mend(file(0), file(1)),
         ["why", _] => desk::why(file(0)),
         ["sheet", _] => desk::sheet(file(0)),
-        ["site", _, "--slots", slots, "--channels", channels] => desk::site(file(0), number(slots), number(channels)),
+        ["site", _, "--slots", slots, "--channels", channels] => {
+            desk::site(file(0), number(slots), number(channels), &[0; 32])
+        }
+        ["site", _, "--slots", slots, "--channels", channels, "--blocked", list] => {
+            let (slots, channels) = (number(slots), number(channels));
+            match desk::blocked(list.as_bytes(), slots, channels) {
+                Ok(blocked) => desk::site(file(0), slots, channels, &blocked),
+                Err(line) => return Ok(Said::Wrong(line)),
+            }
+        }
         ["share", slots, burst, period] => desk::share(number(slots), number(burst), number(period), None),
         ["share", slots, burst, period, repeats] => {
             desk::share(number(slots), number(burst), number(period), Some(number(repeats)))
         }
         ["admit", _, _] => desk::admit(file(0), file(1)),
-        _ => return Ok(None),
+        _ => return Ok(wrong()),
     }))
 }
 
@@ -63,9 +81,9 @@ fn number(word: &str) -> u16 {
     word.parse().unwrap_or(0)
 }
 
-fn made(kind: &str, seed: &str) -> io::Result<Option<Told>> {
+fn made(kind: &str, seed: &str) -> io::Result<Said> {
     let file = seed.parse().ok().and_then(|seed| make::make(kind, seed));
-    Ok(file.map(|result| Ok(Done { result, words: String::new() })))
+    Ok(file.map_or_else(wrong, |result| Said::Told(Ok(Done { result, words: String::new() }))))
 }
 
 fn print(result: &[u8], words: &str, status: ExitCode) -> ExitCode {

@@ -1,10 +1,11 @@
 //! Random cases for the desk's command. Each seed has a site, a plan for it, its range sheet and a sheet of flows, all in
-//! order; each of them damaged (`bad-site` and so on); and the numbers of `site` and of `share`.
+//! order; each of them damaged (`bad-site` and so on); what is given beside the sheet; and the numbers of `share`.
 
 use crate::damage;
 use crate::random::Random;
 use crate::sites::{sized_site, table};
 use second::answer::Outcome;
+use second::blocklist::write_list;
 use second::files::{write_plan, write_site};
 use second::sheet::write_sheet;
 use second::site::Site;
@@ -22,7 +23,7 @@ pub fn make(kind: &str, seed: u64) -> Option<Vec<u8>> {
         "plan" => plan_file(random, seed, &site, &table),
         "sheet" => written(|out| write_sheet(&site, out)),
         "flows" => flow_sheet(random, seed, &site),
-        "sizes" => sizes(random, &site),
+        "beside" => beside(random, &site),
         "share" => share(random, seed),
         _ => return None,
     };
@@ -94,15 +95,23 @@ fn flow_sheet(random: &mut Random, seed: u64, site: &Site) -> Vec<u8> {
     sheet.into_bytes()
 }
 
-/// The site's slots and channels as they are given beside its sheet; one in five of them is out of range.
-fn sizes(random: &mut Random, site: &Site) -> Vec<u8> {
+/// The site's slots, channels and blocked positions as they are given beside its sheet; one in five of the numbers is out
+/// of range, and one list in eight is damaged.
+fn beside(random: &mut Random, site: &Site) -> Vec<u8> {
     let mut near = |number: u16, beyond: &str| match random.below(25) {
         0..=2 => beyond.to_string(),
         3 => random.pick(&["65535", "65536", "65537", "99999999999999999999999"]).to_string(),
         4 => String::from("0"),
         _ => number.to_string(),
     };
-    format!("--slots {} --channels {}\n", near(site.slots, "129"), near(site.channels, "17")).into_bytes()
+    let sizes = format!("--slots {} --channels {}", near(site.slots, "129"), near(site.channels, "17"));
+    let mut list = write_list(site);
+    if random.once_in(8) {
+        let at = random.between(0, list.len());
+        list.insert(at, random.pick(&['0', '1', '9', '.', ',', '-', '*', ';']));
+    }
+    let option = if list.is_empty() { "" } else { " --blocked " };
+    format!("{sizes}{option}{list}\n").into_bytes()
 }
 
 /// Slots, burst and period, and mostly the repeats; one flow in four is a large one.

@@ -1,12 +1,12 @@
--- `planfile::left_over` meets its contract: only the last byte has left-over bits, and they are its bits from n % 8 on. Assumes nothing.
+-- `records::left_over` meets its contract: only the last byte has left-over bits, and they are its bits from n % 8 on. Assumes nothing.
 use borrow.Author.Needs.{needs}
 use Prim.Native.Nat.{_/_}
 use mathlib.Core.Path.{sym}
 use native.Mathlib.Omega.{arith}
 use denote.Ref.{now}
-use Rattle.planbits.proofs.Bits.{no-rest, some-rest}
-use Rattle.planfile.proofs.left_over.Statement.{statement}
-use Rattle.planfile.proofs.left_over.Tie as tie
+use Rattle.records.proofs.Bits.{no-rest, some-rest}
+use Rattle.records.proofs.left_over.Statement.{statement}
+use Rattle.records.proofs.left_over.Tie as tie
 
 returns : tie.Need-returns
 returns c = sym (no-rest (now (c .before .args .body)) (c .before .args .n) (c .before .pre) (c .if1 .taken))

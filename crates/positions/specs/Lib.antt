@@ -1,0 +1,2 @@
+-- The definitions of crate `positions`, module by module.
+pub mod Blocked

@@ -1,0 +1,3 @@
+-- The definitions of crate `putblocks`, module by module.
+pub mod Canon
+pub mod Loop

@@ -1,0 +1,2 @@
+-- The definitions of crate `rows`, module by module.
+pub mod Bars

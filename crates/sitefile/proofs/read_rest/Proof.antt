@@ -1,0 +1,176 @@
+-- `sitefile::read_rest` meets its contract: kind 3 and then kind 6 decide the answer, and the site is what the bodies state. Assumes nothing.
+use Prim.Native.Nat.{ℕ, _+_, _-_, _*_, _≤_}
+use mathlib.Core.Path.{_≡_, ap, _∙_}
+use mathlib.Core.List.{List}
+use native.Mathlib.Omega.{arith}
+use denote.Ref.{now}
+use Rattle.positions.specs.Blocked.{mostPositions}
+use Rattle.records.specs.Bytes.{le16}
+use Rattle.records.specs.Head.{cellsOfHead}
+use Rattle.records.specs.declared.Length.the-variants.{Pairs}
+use Rattle.records.proofs.Laws.{Opening}
+use Rattle.records.proofs.Head.{head-read, head-sizes}
+use Rattle.site.specs.Record.{siteOf}
+use Rattle.site.proofs.Faults.{few-positions}
+use Rattle.sitefile.specs.Reasons.{reachAt, lastAt, positionsOfHead}
+use Rattle.sitefile.specs.Read.{refusedSite, siteOfFile, siteAnswer}
+use Rattle.sitefile.specs.Loop.{reachRead, blocksRead, LoadsRead}
+use Rattle.sitefile.proofs.Reasons.{refuse, accept}
+use Rattle.sitefile.proofs.ReadLaws.{rows-stop, rows-are, reach-open, site-is, blocks-given}
+use borrow.Author.Needs.{needs}
+use Rattle.sitefile.proofs.read_rest.Statement.{statement}
+use Rattle.sitefile.proofs.read_rest.Tie as tie
+
+-- what kind 3 gave
+rows : (c : tie.After-read-reach) → let s = now (c .before .before .args .bytes) in c .read-reach .result ≡ reachRead s (reachAt s) (cellsOfHead s)
+rows c =
+    let g = c .before .before .pre in
+    c .read-reach .ensures ∙ (λ j. reachRead (now (c .before .before .args .bytes)) (g .place j) (g .cells-are j))
+
+read-reach-requires : tie.Need-read-reach-requires
+read-reach-requires c κs = omega (arith, c .before .pre .cells-are, head-sizes _ (c .before .pre .head) .cells-most)
+
+enum-told : tie.Need-enum-told
+enum-told c = search needs
+
+enum-told-2 : tie.Need-enum-told-2
+enum-told-2 c = search needs
+
+refused-requires : tie.Need-refused-requires
+refused-requires c κs = search needs
+
+returns : tie.Need-returns
+returns c =
+    let t = c .before in
+    let p = t .before .before .before in
+    let g = p .before .before .pre in
+    let e = t .enum-told2 .given .1 in
+    c .refused .ensures ∙ ap refusedSite e ∙ refuse _ _ _ (rows-stop _ (g .head) (g .found) _ (rows p) _ _ e)
+
+-- past kind 3
+module _ (c : tie.After-enum-told) where
+  abbrev S : List ℕ
+  S = now (c .before .before .before .before .before .args .bytes)
+
+  given : LoadsRead S (c .before .before .before .before .before .args .at) (c .before .before .before .before .before .args .cells)
+      (c .before .before .before .before .before .args .loads)
+  given = c .before .before .before .before .before .pre
+
+  opening : Opening S (reachAt S) 3 Pairs (reachAt S + 4) (le16 S (reachAt S) - 2)
+  opening = reach-open S (given .head) (given .found) _ (rows (c .before .before .before)) (c .enum-told .given .1)
+
+two-bytes-requires : tie.Need-two-bytes-requires
+two-bytes-requires c κs = omega (arith, head-read _ (given c .head) .long)
+
+two-bytes-requires-2 : tie.Need-two-bytes-requires-2
+two-bytes-requires-2 c κs = omega (arith, head-read _ (given (c .before) .head) .long)
+
+add-end : tie.Need-add-end
+add-end c = omega (arith, opening (c .before .before) .four, given (c .before .before) .place)
+
+two-bytes-requires-3 : tie.Need-two-bytes-requires-3
+two-bytes-requires-3 c κs = omega (arith, opening (c .before .before) .four, given (c .before .before) .place)
+
+cast-end : tie.Need-cast-end
+cast-end c = search needs
+
+-- where kind 6 is due, and for how many positions
+module _ (c : tie.After-two-bytes3) where
+  abbrev T : List ℕ
+  T = S (c .before .before .before)
+
+  end-is : c .before .before .before .before .before .before .before .before .args .at + 2 + c .two-bytes3 .result ≡ lastAt T
+  end-is =
+      let at = c .before .before .before .before .before .before .before .before .args .at in
+      ap (λ (x : ℕ). at + 2 + x) (c .two-bytes3 .ensures) ∙ ap (λ (k : ℕ). k + 2 + le16 T k) (given (c .before .before .before) .place)
+
+  positions-are : c .before .before .two-bytes .result * c .before .two-bytes2 .result ≡ positionsOfHead T
+  positions-are = λ j. c .before .before .two-bytes .ensures j * c .before .two-bytes2 .ensures j
+
+  many : positionsOfHead T ≤ mostPositions
+  many = few-positions (head-sizes T (given (c .before .before .before) .head))
+
+add-end-2 : tie.Need-add-end-2
+add-end-2 c = omega (arith, end-is c, opening (c .before .before .before) .«end»)
+
+cast-read-blocks : tie.Need-cast-read-blocks
+cast-read-blocks c = search needs
+
+cast-read-blocks-2 : tie.Need-cast-read-blocks-2
+cast-read-blocks-2 c = search needs
+
+mul-read-blocks : tie.Need-mul-read-blocks
+mul-read-blocks c = omega (arith, positions-are c, many c)
+
+read-blocks-requires : tie.Need-read-blocks-requires
+read-blocks-requires c κs = omega (arith, positions-are c, many c)
+
+-- what kind 6 gave
+last : (c : tie.After-read-blocks) → let s = T (c .before) in c .read-blocks .result ≡ blocksRead s (lastAt s) (positionsOfHead s)
+last c = c .read-blocks .ensures ∙ (λ j. blocksRead (T (c .before)) (end-is (c .before) j) (positions-are (c .before) j))
+
+-- so the answer is that of kind 6
+told : (c : tie.After-read-blocks) → siteAnswer (T (c .before)) ≡ c .read-blocks .result .answer
+told c =
+    let k = c .before .before .before .before in
+    site-is _ (given k .head) (given k .found) _ (rows (k .before .before .before)) (k .enum-told .given .1) (c .read-blocks .result) (last c)
+
+enum-told-3 : tie.Need-enum-told-3
+enum-told-3 c = search needs
+
+enum-told-4 : tie.Need-enum-told-4
+enum-told-4 c = search needs
+
+refused-requires-2 : tie.Need-refused-requires-2
+refused-requires-2 c κs = search needs
+
+returns-2 : tie.Need-returns-2
+returns-2 c =
+    let t = c .before in
+    let e = t .enum-told4 .given .1 in
+    c .refused2 .ensures ∙ ap refusedSite e ∙ refuse _ _ _ (told (t .before .before .before) ∙ e)
+
+zeros-requires : tie.Need-zeros-requires
+zeros-requires c κs = search needs
+
+returns-3 : tie.Need-returns-3
+unfolding siteOfFile
+returns-3 c =
+    let t = c .before in
+    let q = t .before .before .before in
+    let k = q .before .before .before .before in
+    let g = given k in
+    let e = t .enum-told3 .given .1 in
+    (λ j. record {
+      site = siteOf (g .cells-are j) (q .before .before .before .two-bytes .ensures j) (q .before .before .two-bytes2 .ensures j) (g .loads-are j)
+          (rows-are _ (g .head) (g .found) _ (rows (k .before .before .before)) (k .enum-told .given .1) j)
+          (blocks-given _ _ _ (q .read-blocks .result) (last q) e j);
+      answer = e j;
+    })
+    ∙ accept (S k) (told q ∙ e)
+
+pub read-rest-spec : {M : Type 1} → statement M
+read-rest-spec =
+    tie.close
+    (tie.spec
+    read-reach-requires
+    enum-told
+    enum-told-2
+    refused-requires
+    returns
+    two-bytes-requires
+    two-bytes-requires-2
+    add-end
+    two-bytes-requires-3
+    cast-end
+    add-end-2
+    cast-read-blocks
+    cast-read-blocks-2
+    mul-read-blocks
+    read-blocks-requires
+    enum-told-3
+    enum-told-4
+    refused-requires-2
+    returns-2
+    zeros-requires
+    returns-3)
