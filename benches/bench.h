@@ -21,6 +21,7 @@ typedef struct {
     dugg_answer (*check)(dugg_site, const uint8_t *, size_t);
     dugg_answer (*load_test)(dugg_site);
     dugg_answer (*chain)(dugg_site);
+    dugg_answer (*class)(dugg_site);
     dugg_answer (*least)(dugg_site);
     dugg_edited (*read_site)(const uint8_t *, size_t);
     dugg_answer (*write_site)(dugg_site, uint8_t *, size_t);

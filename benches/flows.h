@@ -11,13 +11,14 @@ typedef struct {
     unsigned count;
 } flow_list;
 
-/* Is the site chained, all cells counted as loaded? */
-static inline bool all_chained(const uint32_t mask[CELLS], unsigned cells)
+/* Is the site nested, all cells counted as loaded? */
+static inline bool all_nested(const uint32_t mask[CELLS], unsigned cells)
 {
-    for (unsigned a = 0; a < cells; a++) {
-        uint32_t later = first_cells(cells) & ~first_cells(a + 1), gaps = ~mask[a] & later;
-        if (gaps != 0 && (mask[a] & ~first_cells(__builtin_ctz(gaps))) != 0)
-            return false;
+    for (unsigned i = 0; i < cells; i++) {
+        for (uint32_t near = mask[i] & first_cells(i); near != 0; near &= near - 1) {
+            if ((near & (near - 1) & ~mask[__builtin_ctz(near)]) != 0)
+                return false;
+        }
     }
     return true;
 }
@@ -28,7 +29,7 @@ static inline dugg_answer read_flows(const dugg_site *s, const uint32_t mask[CEL
 {
     if (count > FLOWS)
         return answer(18, 0, 0, 0);
-    if (!all_chained(mask, s->cells))
+    if (!all_nested(mask, s->cells))
         return answer(19, 0, 0, 0);
     for (unsigned k = 0; k < count; k++) {
         if (flows[k].cell < 1 || flows[k].cell > s->cells)

@@ -11,7 +11,7 @@ enum { SITES = 5 };
 static const int sites[SITES] = {P1, MIDDLE_TUNNEL, MIDDLE_ALL, TUNNEL, ALL_CLASH};
 
 #define MAKER(name, P)                                                                                                \
-    {name,              P##plan,       P##check,      P##load_test,   P##chain,      P##least,                        \
+    {name,              P##plan,       P##check,      P##load_test,   P##chain,      P##class,       P##least,        \
      P##read_site,      P##write_site, P##read_plan,  P##write_plan,  P##read_sheet, P##write_sheet,                  \
      P##share_repeated, P##admit,      P##plan_words, P##check_words, P##to_words,   P##to_bytes,                     \
      P##mend,           P##heaviest}
@@ -25,12 +25,12 @@ const maker makers[MAKERS] = {
 };
 
 enum {
-    PLAN, CHECK, LOAD_TEST, CHAIN, LEAST, READ_SITE, WRITE_SITE, READ_PLAN, WRITE_PLAN, READ_SHEET, WRITE_SHEET, SHARE,
-    OPERATIONS
+    PLAN, CHECK, LOAD_TEST, CHAIN, CLASS, LEAST, READ_SITE, WRITE_SITE, READ_PLAN, WRITE_PLAN, READ_SHEET, WRITE_SHEET,
+    SHARE, OPERATIONS
 };
 
 static const char *const operations[OPERATIONS] = {
-    "plan", "check", "load test", "chain", "least", "read site", "write site", "read plan", "write plan",
+    "plan", "check", "load test", "chain", "nested", "least", "read site", "write site", "read plan", "write plan",
     "read sheet", "write sheet", "share with repeats",
 };
 
@@ -58,6 +58,7 @@ static bool has(const maker *m, int operation)
     case CHECK: return m->check != NULL;
     case LOAD_TEST: return m->load_test != NULL;
     case CHAIN: return m->chain != NULL;
+    case CLASS: return m->class != NULL;
     case LEAST: return m->least != NULL;
     case READ_SITE: return m->read_site != NULL;
     case WRITE_SITE: return m->write_site != NULL;
@@ -89,6 +90,7 @@ static void run(const maker *m, int operation, const work *w, left *l)
     case CHECK: l->answer = m->check(w->site, w->table, w->table_len); break;
     case LOAD_TEST: l->answer = m->load_test(w->site); break;
     case CHAIN: l->answer = m->chain(w->site); break;
+    case CLASS: l->answer = m->class(w->site); break;
     case LEAST: l->answer = m->least(w->site); break;
     case READ_SITE: keep(l, m->read_site(w->site_file, w->site_len)); break;
     case WRITE_SITE: l->answer = m->write_site(w->site, l->bytes, sizeof l->bytes); break;
@@ -228,6 +230,7 @@ static void print_size(int operation, const work *w)
     case CHECK: printf("table of %zu bytes", w->table_len); break;
     case LOAD_TEST:
     case CHAIN:
+    case CLASS:
     case LEAST: printf("%u cells", w->site.cells); break;
     case READ_SITE:
     case WRITE_SITE: printf("file of %zu bytes", w->site_len); break;

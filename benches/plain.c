@@ -58,7 +58,7 @@ dugg_edited NAME(clear_reach)(dugg_site site, uint16_t from, uint16_t to)
     return (dugg_edited){site, f};
 }
 
-/* ---- load test, chain and how many channel-slots do, about the cells with load above 0 ---- */
+/* ---- load test, chain, nested sites and how many channel-slots do, about the cells with load above 0 ---- */
 
 static uint32_t loaded_cells(const dugg_site *s)
 {
@@ -129,6 +129,30 @@ dugg_answer NAME(chain)(dugg_site site)
     return first_gap(mask, loaded_cells(&site));
 }
 
+/* The first a, b, i where a and b are lower cells that clash with i and not with one another, or three zeros. */
+static dugg_answer first_split(const uint32_t mask[CELLS], uint32_t loaded)
+{
+    for (uint32_t left = loaded; left != 0; left &= left - 1) {
+        unsigned i = __builtin_ctz(left);
+        for (uint32_t near = loaded & mask[i] & first_cells(i); near != 0; near &= near - 1) {
+            unsigned a = __builtin_ctz(near);
+            uint32_t apart = near & (near - 1) & ~mask[a];
+            if (apart != 0)
+                return answer(0, a + 1, __builtin_ctz(apart) + 1, i + 1);
+        }
+    }
+    return answer(0, 0, 0, 0);
+}
+
+dugg_answer NAME(class)(dugg_site site)
+{
+    uint32_t mask[CELLS];
+    dugg_answer f = judged(&site, mask);
+    if (f.number != 0)
+        return f;
+    return first_split(mask, loaded_cells(&site));
+}
+
 dugg_answer NAME(least)(dugg_site site)
 {
     uint32_t mask[CELLS];
@@ -140,7 +164,7 @@ dugg_answer NAME(least)(dugg_site site)
         uint32_t sum = sum_at(&site, mask, __builtin_ctz(left));
         most = sum > most ? sum : most;
     }
-    return answer(0, most, first_gap(mask, loaded).value[0] != 0, 0);
+    return answer(0, most, first_split(mask, loaded).value[0] != 0, 0);
 }
 
 /* ---- planner and checker ---- */

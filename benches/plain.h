@@ -13,6 +13,7 @@
     dugg_edited P##clear_reach(dugg_site site, uint16_t from, uint16_t to);                                           \
     dugg_answer P##load_test(dugg_site site);                                                                         \
     dugg_answer P##chain(dugg_site site);                                                                             \
+    dugg_answer P##class(dugg_site site);                                                                             \
     dugg_answer P##least(dugg_site site);                                                                             \
     dugg_answer P##heaviest(dugg_site site);                                                                          \
     dugg_answer P##plan(dugg_site site, uint8_t *table, size_t len);                                                  \

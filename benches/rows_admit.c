@@ -101,7 +101,7 @@ static int agree(const offer *o)
 
 static offer offers[ROWS];
 
-/* The lists, and each made wrong: a flow too many, a cell that is not there, no repeats, a chain that is broken. */
+/* The lists, and each made wrong: a flow too many, a cell that is not there, no repeats, a site that is not nested. */
 int admit_agree(void)
 {
     int fine = 1;
@@ -114,7 +114,7 @@ int admit_agree(void)
         wrong.flows[1].cell = wrong.site.cells + 1;
         fine &= agree(&wrong);
         wrong.site.reach[0] = 4;
-        wrong.site.reach[1] = 0;
+        wrong.site.reach[1] = 4;
         fine &= agree(&wrong);
         wrong.count = FLOWS + 1;
         fine &= agree(&wrong);

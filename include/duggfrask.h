@@ -22,7 +22,7 @@
  *   16  the share is above 65,535
  *   17  the range sheet is malformed (value: its first bad line, from 1)
  *   18  more than 16 flows
- *   19  the site is not chained, all its cells counted
+ *   19  the site is not nested, all its cells counted
  *   20  a blocked position that the site does not have (value: lowest such position)
  *   21  the record of blocked positions in a site file blocks none
  *   22  a cell transmits at a blocked position (values: position, cell)
@@ -92,14 +92,19 @@ dugg_answer dugg_load_test(dugg_site site);
  * above 0 are asked, as a, as c and between. Done: 0, 0, 0 if so; otherwise the first a, b, c where b does not. */
 dugg_answer dugg_chain(dugg_site site);
 
+/* Is the site nested: for each cell, do its lower-numbered clashing cells clash with one another? Only cells with load
+ * above 0 are asked. Each chained site is nested. Done: 0, 0, 0 if so; otherwise a, b, i: the lowest cell i with two
+ * lower clashing cells a < b that do not clash, the lowest such a, and for it the lowest b. */
+dugg_answer dugg_class(dugg_site site);
+
 /* How many open positions do for the cells, loads and reach of the site, whatever slots and channels it has and
  * whatever is blocked? Done: value[0] is how many: with so many or more the site is planned. It can be above 2,048, the most
- * that a site has. value[1] is 0 on a chained site: fewer never do, whoever plans; otherwise it is 1: fewer may. */
+ * that a site has. value[1] is 0 on a nested site: fewer never do, whoever plans; otherwise it is 1: fewer may. */
 dugg_answer dugg_least(dugg_site site);
 
 /* The heaviest clash: of all sets of cells that clash with one another the one with the greatest load; of equals, the
  * one with the smallest word. No two of them transmit at one position, so every valid table has at least so many
- * open positions, and where the load is above their number no plan exists. On a chained site the load is the number
+ * open positions, and where the load is above their number no plan exists. On a nested site the load is the number
  * that dugg_least gives. Done: value[0] is the load, value[1] the cells, bit i-1 for cell i; 0 and 0 if no cell has a
  * load. */
 dugg_answer dugg_heaviest(dugg_site site);
@@ -151,7 +156,7 @@ dugg_answer dugg_share(uint16_t slots, uint16_t burst, uint16_t period);
  * two bounds do not change with the repeats. */
 dugg_answer dugg_share_repeated(uint16_t slots, uint16_t burst, uint16_t period, uint16_t repeats);
 
-/* Which of at most 16 flows to admit on a chained site: the set of greatest total value whose shares, summed by cell,
+/* Which of at most 16 flows to admit on a nested site: the set of greatest total value whose shares, summed by cell,
  * pass the load test; of equals, the set with the smallest number, where flow 1 weighs 1, flow 2 weighs 2, flow 3 weighs
  * 4 and so on. The site's own loads are set aside. Done: value[0] is the set's number. Refusals: the record's 1, 2, 3 or
  * 20; 18; 19; then flow by flow 2 for a cell that the site does not have, 15 and 16, each with the flow's number, from 1. A

@@ -1,7 +1,7 @@
 //! "Which flows to admit": every set of the flows is tried, as the rule says it.
 
 use crate::answer::{refuse, Outcome};
-use crate::judge::{first_gap, first_over};
+use crate::judge::{first_over, first_split};
 use crate::share::{share_of, Fragments, Repeats, Slots};
 use crate::site::Site;
 
@@ -25,7 +25,7 @@ pub fn admit(site: &Site, flows: &[Flow]) -> Outcome<u32> {
     if flows.len() > MOST_FLOWS {
         return refuse(18, &[]);
     }
-    if first_gap(site, |_| true).is_some() {
+    if first_split(site, |_| true).is_some() {
         return refuse(19, &[]);
     }
     let mut shares = Vec::new();
@@ -123,7 +123,9 @@ mod tests {
 
     #[test]
     fn refusals_in_their_order() {
-        let site = Site::sized(3, 2, 1).with_reach(1, 3, true).unwrap();
+        let drift = Site::sized(3, 2, 1).with_reach(1, 3, true).unwrap();
+        assert_eq!(admit(&drift, &[]), Ok(0));
+        let site = drift.with_reach(2, 3, true).unwrap();
         let fine = flow(1, 1, 1, 1);
         assert_eq!(admit(&Site { slots: 0, ..site }, &[fine; 17]), refuse(1, &[]));
         assert_eq!(admit(&site, &[fine; 17]), refuse(18, &[]));

@@ -103,6 +103,14 @@ pub extern "C" fn second_chain(site: Site) -> Answer {
 }
 
 #[no_mangle]
+pub extern "C" fn second_class(site: Site) -> Answer {
+    answer(judge::nested(&site), |split| match split {
+        None => [0, 0, 0],
+        Some((a, b, i)) => [a as u64, b as u64, i as u64],
+    })
+}
+
+#[no_mangle]
 pub extern "C" fn second_least(site: Site) -> Answer {
     answer(judge::least(&site), |least| [least.channel_slots, least.fewer_may_do as u64])
 }

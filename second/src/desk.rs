@@ -11,7 +11,7 @@ use crate::answer::Answer;
 use crate::blocklist::read_list;
 use crate::checker;
 use crate::files::{read_plan, read_site, write_plan, write_site};
-use crate::judge::first_gap;
+use crate::judge::first_split;
 use crate::mender;
 use crate::planner;
 use crate::share::{share as share_once, share_of, Fragments, Repeats, Share, Slots};
@@ -20,7 +20,7 @@ use crate::site::{Positions, Site};
 pub use input::Input;
 use input::Kind;
 use wording::{
-    bad_list, change_line, counted, no_room, no_room_beside, not_chained, refused, sends_wrongly, sizes, wrong_flow,
+    bad_list, change_line, counted, no_room, no_room_beside, not_nested, refused, sends_wrongly, sizes, wrong_flow,
     wrong_slots, Place,
 };
 
@@ -160,7 +160,7 @@ pub fn admit(site_file: Input, flow_sheet: Input) -> Told {
     let flows = flows::read_flows(flow_sheet.bytes)
         .map_err(|no| flow_sheet.refused(Kind::FlowSheet, refused(no.number, place(&no))))?;
     let set = admitted_set(&site, &flows).map_err(|no| match no.number {
-        19 => not_chained(first_gap(&site, |_| true).expect("a site that is not chained")),
+        19 => not_nested(first_split(&site, |_| true).expect("a site that is not nested")),
         number => refused(number, Place::Flow(no.value[0])),
     })?;
     let (mut lines, mut worth) = (String::from("the loads of the site are set aside\n"), 0);
@@ -310,10 +310,10 @@ mod tests {
     }
 
     #[test]
-    fn three_cells_that_break_the_chain() {
-        let site = Site::sized(4, 1, 1).with_reach(4, 1, true).unwrap();
+    fn three_cells_that_are_not_nested() {
+        let site = Site::sized(4, 1, 1).with_reach(4, 1, true).and_then(|site| site.with_reach(2, 4, true)).unwrap();
         let made = written(|out| write_site(&site, out));
-        let line = "refused 19: the site is not chained when all its cells count, the spare ones too: cells 1 and 4 clash, and cell 2 between them does not clash with cell 1\n";
+        let line = "refused 19: the site is not nested when all its cells count, the spare ones too: cells 1 and 2 clash with cell 4, and not with one another\n";
         assert_eq!(admit(file(&made), file(b"cell,burst,period,repeats,value\r\n")), Err(line.into()));
     }
 

@@ -1,5 +1,5 @@
-//! "Load test and chain": the two verdicts on a sound site, and how many open channel-slots do. All are about the cells with
-//! load above 0 only; a cell with load 0 is a spare.
+//! "Load test and chain" and nested sites: the verdicts on a sound site, and how many open channel-slots do. All are about the
+//! cells with load above 0 only; a cell with load 0 is a spare.
 
 use crate::answer::Outcome;
 use crate::site::Site;
@@ -44,14 +44,14 @@ pub fn first_over(site: &Site, loads: &[u64]) -> Option<(usize, u64)> {
 #[derive(Clone, Copy, Debug, PartialEq, Eq)]
 pub struct Least {
     pub channel_slots: u64,
-    /// Off the chain fewer may do; on a chained site fewer never do.
+    /// On a nested site fewer never do; on any other fewer may do.
     pub fewer_may_do: bool,
 }
 
 /// The most that a loaded cell asks of the channel-slots; 0 if no cell is loaded. The site's own slots, channels and
 /// blocked positions play no part.
 pub fn least(site: &Site) -> Outcome<Least> {
-    let fewer_may_do = chain(site)?.is_some();
+    let fewer_may_do = nested(site)?.is_some();
     let loads = loads(site);
     let loaded = (1..=site.count()).filter(|&cell| loads[cell - 1] > 0);
     let most = loaded.map(|cell| sum_at(site, &loads, cell)).max();
@@ -66,7 +66,7 @@ pub fn chain(site: &Site) -> Outcome<Option<(usize, usize, usize)>> {
 
 /// The first a, b, c among the cells that count, sought by a, then c, then b, where a and c clash and b, strictly
 /// between them, does not clash with the earlier cell a.
-pub fn first_gap(site: &Site, counts: impl Fn(usize) -> bool) -> Option<(usize, usize, usize)> {
+fn first_gap(site: &Site, counts: impl Fn(usize) -> bool) -> Option<(usize, usize, usize)> {
     for a in 1..=site.count() {
         for c in a + 1..=site.count() {
             if !counts(a) || !counts(c) || !site.clash(a, c) {
@@ -76,6 +76,26 @@ pub fn first_gap(site: &Site, counts: impl Fn(usize) -> bool) -> Option<(usize, 
                 if counts(b) && !site.clash(a, b) {
                     return Some((a, b, c));
                 }
+            }
+        }
+    }
+    None
+}
+
+/// `None` if the site is nested; otherwise the first a, b, i that show it is not. None of the three is a spare.
+pub fn nested(site: &Site) -> Outcome<Option<(usize, usize, usize)>> {
+    site.sound()?;
+    Ok(first_split(site, |cell| site.load(cell) > 0))
+}
+
+/// The first a, b, i among the cells that count, sought by i, then a, then b, where a and b are lower than i and clash with
+/// it, and do not clash with one another.
+pub fn first_split(site: &Site, counts: impl Fn(usize) -> bool) -> Option<(usize, usize, usize)> {
+    for i in (1..=site.count()).filter(|&i| counts(i)) {
+        let near: Vec<usize> = (1..i).filter(|&cell| counts(cell) && site.clash(cell, i)).collect();
+        for (k, &a) in near.iter().enumerate() {
+            if let Some(&b) = near[k + 1..].iter().find(|&&b| !site.clash(a, b)) {
+                return Some((a, b, i));
             }
         }
     }

@@ -9,7 +9,7 @@ use second::answer::{refuse, Outcome};
 use second::checker::check;
 use second::files::{read_site, write_site};
 use second::heaviest::heaviest;
-use second::judge::{chain, least, load_test};
+use second::judge::{least, load_test, nested};
 use second::mender::mend;
 use second::old_reader::old_read_site;
 use second::planner::plan;
@@ -145,7 +145,7 @@ fn decided(site: &Site, tables: &[Vec<u8>]) {
         assert!(valid(site, &planned) && check(site, &planned) == Ok(()), "{site:?}");
     }
     let full = heaviest(site).unwrap().load > site.room();
-    if full || chain(site) == Ok(None) && !holds {
+    if full || nested(site) == Ok(None) && !holds {
         assert!(!plans && tables.iter().all(|table| !valid(site, table)), "{site:?}");
     }
 }

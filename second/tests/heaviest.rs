@@ -87,7 +87,7 @@ fn by_all_sets(site: &Site) -> Heaviest {
 
 #[test]
 fn every_site_of_four_cells() {
-    let (mut chained, mut fewer) = (0, 0);
+    let (mut nested, mut fewer) = (0, 0);
     for clashes in 0..64 {
         for loads in 0..81 {
             let site = small_site(4, 2, clashes, loads);
@@ -96,7 +96,7 @@ fn every_site_of_four_cells() {
             let enough = least(&site).unwrap();
             if !enough.fewer_may_do {
                 assert_eq!(found.load, enough.channel_slots, "{site:?}");
-                chained += 1;
+                nested += 1;
             }
             assert!(found.load <= enough.channel_slots, "{site:?}");
             fewer += (found.load < enough.channel_slots) as usize;
@@ -105,7 +105,7 @@ fn every_site_of_four_cells() {
             }
         }
     }
-    assert!(chained > 1000 && fewer > 100);
+    assert!(nested > 1000 && fewer > 100);
 }
 
 #[test]

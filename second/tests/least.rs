@@ -5,7 +5,7 @@ mod common;
 use common::{faulty, p1, p4, site, small_site};
 use second::answer::refuse;
 use second::checker::check;
-use second::judge::{chain, least, Least};
+use second::judge::{chain, least, nested, Least};
 use second::planner::plan;
 use second::site::{Site, MOST_CHANNELS, MOST_SLOTS};
 
@@ -52,11 +52,11 @@ fn is_planned(site: &Site) -> bool {
     plan(site, &mut vec![0; site.table_len()]).is_ok()
 }
 
-/// So many channel-slots are enough, and on a chained site one fewer is not. Gives whether the site is chained.
+/// So many channel-slots are enough, and on a nested site one fewer is not. Gives whether the site is nested.
 fn so_many_do(site: &Site) -> bool {
     let Least { channel_slots, fewer_may_do } = least(site).unwrap();
     let enough = channel_slots as usize;
-    assert_eq!(fewer_may_do, chain(site).unwrap().is_some());
+    assert_eq!(fewer_may_do, nested(site).unwrap().is_some());
     for room in [enough, enough + 1] {
         assert!(with_room(site, room).iter().all(is_planned), "{site:?}");
     }
@@ -68,13 +68,13 @@ fn so_many_do(site: &Site) -> bool {
 
 #[test]
 fn every_site_of_four_cells() {
-    let mut chained = 0;
+    let mut exact = 0;
     for clashes in 0..64 {
         for loads in 0..81 {
-            chained += so_many_do(&small_site(4, 1, clashes, loads)) as usize;
+            exact += so_many_do(&small_site(4, 1, clashes, loads)) as usize;
         }
     }
-    assert!(64 < chained && chained < 64 * 81);
+    assert!(64 < exact && exact < 64 * 81);
 }
 
 /// A random number below `most`, the same in every run (splitmix64).
@@ -110,7 +110,8 @@ fn random_chained_sites() {
     let mut seed = 2015;
     for _ in 0..500 {
         let site = chained_site(&mut seed);
-        assert!(so_many_do(&site), "a chained site was made");
+        assert_eq!(chain(&site), Ok(None), "a chained site was made");
+        assert!(so_many_do(&site));
     }
 }
 

@@ -17,7 +17,7 @@ use Rattle.laws.proofs.Choice.{cases}
 use Rattle.laws.proofs.Search.{first-most, first-before}
 use Rattle.laws.proofs.Stores.{sets-at, sets-beyond}
 use Rattle.theory.specs.Net.{everyone}
-use Rattle.theory.specs.Verdict.{chainVerdict}
+use Rattle.theory.specs.Verdict.{classVerdict}
 use Rattle.positions.specs.Blocked.{openIn}
 use Rattle.site.specs.Record.{positions, faultOf}
 use Rattle.site.specs.Reach.{clashOf, netOf}
@@ -30,9 +30,9 @@ use Rattle.bestset.specs.Code.{Stands}
 use Rattle.bestset.specs.Code as arrays
 use Rattle.admitting.proofs.Alike.{best-flows}
 use Rattle.flowlist.specs.declared.Flow.{Flow}
-use Rattle.admission.specs.Admit.{shareIn, amount, badIn, firstBadIn, flowsAsked, isChained}
+use Rattle.admission.specs.Admit.{shareIn, amount, badIn, firstBadIn, flowsAsked, isNested}
 use Rattle.admission.proofs.Asking.{good-cell}
-use Rattle.admission.proofs.Chain.{chain-class}
+use Rattle.admission.proofs.Suits.{class-of}
 
 abbrev zeros : List ℕ
 zeros = replicate 16 0
@@ -71,8 +71,8 @@ module _ (s : Site) (fine : faultOf s ≡ Fine) (f : ℕ → Flow) (n : ℕ) (fe
     inside-most k l = omega (arith, inside k l, fine-sized s fine .cells-most)
 
     pub stands : (room : ℕ) → room ≡ openIn (s .blocked) (positions s) → (rows : List ℕ) → bitIn rows ≡ clashOf s
-        → isChained (chainVerdict (netOf s) everyone) ≡ true → Stands (netOf s) room rows own
-    stands room is rows relation chain = record { room-is = is ∙ sym (net-open s); clash-is = relation; inside = inside; class = chain-class (netOf s) chain }
+        → isNested (classVerdict (netOf s) everyone) ≡ true → Stands (netOf s) room rows own
+    stands room is rows relation class = record { room-is = is ∙ sym (net-open s); clash-is = relation; inside = inside; class = class-of (netOf s) class }
 
     pub same-best : (shares values : List ℕ) → shares ≡ sets zeros 0 (listOf (λ k. amount (shareIn (s .slots) (f k))) bad)
         → values ≡ sets zeros 0 (listOf (λ k. f k .value) bad)

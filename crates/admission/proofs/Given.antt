@@ -10,7 +10,7 @@ use lib.Dec.{eqb, ltb}
 use lib.ListN.{getD, length}
 use Rattle.laws.specs.Choice.{pick}
 use Rattle.theory.specs.Net.{everyone}
-use Rattle.theory.specs.Verdict.{chainVerdict}
+use Rattle.theory.specs.Verdict.{classVerdict}
 use Rattle.site.specs.Record.{upTo, faultOf}
 use Rattle.site.specs.Reach.{netOf}
 use Rattle.site.specs.Given.{Given}
@@ -24,10 +24,10 @@ use Rattle.shares.specs.declared.ShareAnswer.the-variants as share
 use Rattle.admitting.specs.Best.{best}
 use Rattle.flowlist.specs.List.{flowAt}
 use Rattle.flowlist.specs.declared.Flow.{Flow}
-use Rattle.admission.specs.Admit.{shareIn, shareRefused, refusedIn, firstBadIn, flowsAsked, isChained, answerIn, admitAnswer}
+use Rattle.admission.specs.Admit.{shareIn, shareRefused, refusedIn, firstBadIn, flowsAsked, isNested, answerIn, admitAnswer}
 use Rattle.admission.specs.Given.{admitGiven, admitProper, ofRecord}
 use Rattle.admission.specs.declared.AdmitAnswer.{AdmitAnswer}
-use Rattle.admission.specs.declared.AdmitAnswer.the-variants.{Admitted, TooMany, NotChained, BadCell, BadFlow, BigShare, Refused}
+use Rattle.admission.specs.declared.AdmitAnswer.the-variants.{Admitted, TooMany, NotNested, BadCell, BadFlow, BigShare, Refused}
 
 -- the answer with this number and these values, once it is known whether the record is refused
 abbrev readBack : Bool → Given → AdmitAnswer
@@ -35,7 +35,7 @@ readBack whole g =
     pick whole (Refused (faultFrom g))
     (pick (eqb (g .number) 0) (Admitted (getD (g .values) 0 0))
     (pick (eqb (g .number) 18) TooMany
-    (pick (eqb (g .number) 19) NotChained
+    (pick (eqb (g .number) 19) NotNested
     (pick (eqb (g .number) 2) (BadCell (getD (g .values) 0 0)) (pick (eqb (g .number) 15) (BadFlow (getD (g .values) 0 0))
     (BigShare (getD (g .values) 0 0)))))))
 
@@ -49,7 +49,7 @@ read-refusal (Blocked k) h = refl
 read-back : (a : AdmitAnswer) → admitProper a ≡ true → readBack (ofRecord a) (admitGiven a) ≡ a
 read-back (Admitted set) h = refl
 read-back TooMany h = refl
-read-back NotChained h = refl
+read-back NotNested h = refl
 read-back (BadCell flow) h = refl
 read-back (BadFlow flow) h = refl
 read-back (BigShare flow) h = refl
@@ -62,7 +62,7 @@ admit-apart a b p q r e = sym (read-back a p) ∙ ap₂ readBack r e ∙ read-ba
 pub done-set : (a : AdmitAnswer) (x : ℕ) → admitGiven a ≡ record { number = 0; values = x ∷ [] } → a ≡ Admitted x
 done-set (Admitted set) x e = let same : set ≡ x = ap (λ (g : Given). getD (g .values) 0 0) e in ap Admitted same
 done-set TooMany x e = absurd (omega (arith, ap (λ (g : Given). g .number) e))
-done-set NotChained x e = absurd (omega (arith, ap (λ (g : Given). g .number) e))
+done-set NotNested x e = absurd (omega (arith, ap (λ (g : Given). g .number) e))
 done-set (BadCell flow) x e = absurd (omega (arith, ap (λ (g : Given). g .number) e))
 done-set (BadFlow flow) x e = absurd (omega (arith, ap (λ (g : Given). g .number) e))
 done-set (BigShare flow) x e = absurd (omega (arith, ap (λ (g : Given). g .number) e))
@@ -95,7 +95,7 @@ admit-proper s fs =
     let bad = firstBadIn (s .cells) (s .slots) (flowAt fs) n in
     proper-call admitProper Refused (λ g. refl) (faultOf s) _
     (proper-either admitProper (ltb 16 n) TooMany _ refl
-    (proper-either admitProper (isChained (chainVerdict (netOf s) everyone)) _ NotChained
+    (proper-either admitProper (isNested (classVerdict (netOf s) everyone)) _ NotNested
     (proper-either admitProper (ltb bad n) (refusedIn (s .cells) (s .slots) (flowAt fs bad) (bad + 1))
     (Admitted (best (netOf s) (flowsAsked (s .slots) (flowAt fs) n)))
     (refused-proper (s .cells) (s .slots) (flowAt fs bad) (bad + 1)) refl) refl))
@@ -103,7 +103,7 @@ admit-proper s fs =
 -- the numbers and the values, in their order, of an answer of each kind
 abbrev answers : (set flow cell row position : ℕ) → List AdmitAnswer
 answers set flow cell row position =
-    Admitted set ∷ TooMany ∷ NotChained ∷ BadCell flow ∷ BadFlow flow ∷ BigShare flow ∷ Refused Size ∷ Refused (Load cell) ∷ Refused (Reach row)
+    Admitted set ∷ TooMany ∷ NotNested ∷ BadCell flow ∷ BadFlow flow ∷ BigShare flow ∷ Refused Size ∷ Refused (Load cell) ∷ Refused (Reach row)
     ∷ Refused (Blocked position) ∷ []
 
 pub admit-numbers : (set flow cell row position : ℕ)

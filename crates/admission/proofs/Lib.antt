@@ -1,6 +1,6 @@
 -- The laws of crate `admission`, module by module.
 pub mod Asking
-pub mod Chain
+pub mod Suits
 pub mod Answer
 pub mod Arrays
 pub mod Listed

@@ -11,9 +11,9 @@ use lib.Dec.{ltb}
 use lib.ListN.{length}
 use Rattle.laws.proofs.Choice.{cases, refute}
 use Rattle.laws.proofs.Search.{first-passes, first-before, first-none, first-is}
-use Rattle.theory.specs.Net.{everyone, Chained}
-use Rattle.theory.specs.Verdict.{ChainVerdict, chained, broken, chainVerdict}
-use Rattle.theory.proofs.ChainLaws.{chain-holds}
+use Rattle.theory.specs.Net.{everyone, Class}
+use Rattle.theory.specs.Verdict.{ClassVerdict, inClass, outside, classVerdict}
+use Rattle.theory.proofs.ClassLaws.{class-holds}
 use Rattle.site.specs.Record.{isFine, faultOf}
 use Rattle.site.specs.Reach.{netOf}
 use Rattle.site.specs.Means.{UpTo}
@@ -23,22 +23,22 @@ use Rattle.site.specs.declared.Fault.the-variants.{Fine}
 use Rattle.site.proofs.Faults.{fine-is, fine-sized}
 use Rattle.flowlist.specs.List.{flowAt}
 use Rattle.flowlist.specs.declared.Flow.{Flow}
-use Rattle.admission.specs.Admit.{firstBadIn, isChained, flowBad, firstBad, admitted, admitAnswer}
+use Rattle.admission.specs.Admit.{firstBadIn, isNested, flowBad, firstBad, admitted, admitAnswer}
 use Rattle.admission.specs.Means.{Sends, Refusal, two, fifteen, sixteen, refusedWith, Looked, Settled, Stops}
 use Rattle.admission.specs.declared.AdmitAnswer.{AdmitAnswer}
-use Rattle.admission.specs.declared.AdmitAnswer.the-variants.{Admitted, TooMany, NotChained, BadCell, BadFlow, BigShare, Refused}
-use Rattle.admission.proofs.Answer.{fault-answer, many-answer, broken-answer, bad-answer, set-answer}
+use Rattle.admission.specs.declared.AdmitAnswer.the-variants.{Admitted, TooMany, NotNested, BadCell, BadFlow, BigShare, Refused}
+use Rattle.admission.proofs.Answer.{fault-answer, many-answer, outside-answer, bad-answer, set-answer}
 use Rattle.admission.proofs.OneFlow.{sends-is, bad-has, bad-is}
 
-is-chained : (v : ChainVerdict) → isChained v ≡ true → v ≡ chained
-is-chained chained e = refl
-is-chained (broken a b c) e = let z : _≡_ {A = ℕ} 0 1 = cc in absurd (omega arith)
+is-nested : (v : ClassVerdict) → isNested v ≡ true → v ≡ inClass
+is-nested inClass e = refl
+is-nested (outside a b i) e = let z : _≡_ {A = ℕ} 0 1 = cc in absurd (omega arith)
 
--- "all cells count as loaded for the chain rule": chained, said of the clashes themselves
-pub chain-means : (s : Site) → isChained (chainVerdict (netOf s) everyone) ≡ true ↔ Chained (netOf s) everyone
-chain-means s = (
-  λ e. chain-holds (netOf s) everyone .0 (is-chained (chainVerdict (netOf s) everyone) e),
-  λ h. ap isChained (chain-holds (netOf s) everyone .1 h),
+-- W9: "all cells counted as loaded": in the class, said of the clashes themselves
+pub class-means : (s : Site) → isNested (classVerdict (netOf s) everyone) ≡ true ↔ Class (netOf s) everyone
+class-means s = (
+  λ e. class-holds (netOf s) everyone .0 (is-nested (classVerdict (netOf s) everyone) e),
+  λ h. ap isNested (class-holds (netOf s) everyone .1 h),
 )
 
 -- ---- the ways that a call goes, and its answer in each
@@ -46,7 +46,7 @@ chain-means s = (
 data Told (s : Site) (fs : List Flow) : Type 0 where
   fault : isFine (faultOf s) ≡ false → admitAnswer s fs ≡ Refused (faultOf s) → Told s fs
   many : faultOf s ≡ Fine → 16 < length fs → admitAnswer s fs ≡ TooMany → Told s fs
-  unchained : faultOf s ≡ Fine → length fs ≤ 16 → (Chained (netOf s) everyone → ⊥) → admitAnswer s fs ≡ NotChained → Told s fs
+  unnested : faultOf s ≡ Fine → length fs ≤ 16 → (Class (netOf s) everyone → ⊥) → admitAnswer s fs ≡ NotNested → Told s fs
   stopped : (k : ℕ) (r : Refusal) → Stops s fs k r → admitAnswer s fs ≡ refusedWith r (k + 1) → Told s fs
   settled : Settled s fs → admitAnswer s fs ≡ Admitted (admitted s fs) → Told s fs
 
@@ -65,28 +65,28 @@ module _ (s : Site) (fs : List Flow) where
   unfolding firstBadIn
   at-flows at =
       let fine = at .fine in
-      let chain = chain-means s .1 (at .chain) in
+      let class = class-means s .1 (at .class) in
       ⊎-elim
       (λ h.
       let k = firstBad s fs in
       let l : k < length fs = ltb-true k (length fs) h in
       let b = bad-has s (flowAt fs k) (slots fine) (first-passes test 0 (length fs) zero-le l) in
       stopped k (b .0) (record { looked = at; inside = l; before = sends-before fine; refuses = b .1 })
-      (bad-answer s (flowAt fs) (length fs) fine (at .few) chain k refl l ∙ b .2 (k + 1)))
+      (bad-answer s (flowAt fs) (length fs) fine (at .few) class k refl l ∙ b .2 (k + 1)))
       (λ h.
       let l : length fs ≤ firstBad s fs = ltb-false (firstBad s fs) (length fs) h in
-      settled (record { looked = at; good = λ k q. sends-before fine k (omega arith) }) (set-answer s (flowAt fs) (length fs) fine (at .few) chain l))
+      settled (record { looked = at; good = λ k q. sends-before fine k (omega arith) }) (set-answer s (flowAt fs) (length fs) fine (at .few) class l))
       (cases (ltb (firstBad s fs) (length fs)))
 
-  at-chain : faultOf s ≡ Fine → length fs ≤ 16 → Told s fs
-  at-chain fine few =
-      ⊎-elim (λ h. at-flows (record { fine = fine; few = few; chain = chain-means s .0 h }))
-      (λ h. unchained fine few (λ c. true≢false (sym (chain-means s .1 c) ∙ h)) (broken-answer s (flowAt fs) (length fs) fine few h))
-      (cases (isChained (chainVerdict (netOf s) everyone)))
+  at-class : faultOf s ≡ Fine → length fs ≤ 16 → Told s fs
+  at-class fine few =
+      ⊎-elim (λ h. at-flows (record { fine = fine; few = few; class = class-means s .0 h }))
+      (λ h. unnested fine few (λ c. true≢false (sym (class-means s .1 c) ∙ h)) (outside-answer s (flowAt fs) (length fs) fine few h))
+      (cases (isNested (classVerdict (netOf s) everyone)))
 
   at-many : faultOf s ≡ Fine → Told s fs
   at-many fine =
-      ⊎-elim (λ h. many fine (ltb-true 16 _ h) (many-answer s (flowAt fs) (length fs) fine (ltb-true 16 _ h))) (λ h. at-chain fine (ltb-false 16 _ h))
+      ⊎-elim (λ h. many fine (ltb-true 16 _ h) (many-answer s (flowAt fs) (length fs) fine (ltb-true 16 _ h))) (λ h. at-class fine (ltb-false 16 _ h))
       (cases (ltb 16 (length fs)))
 
   told : Told s fs
@@ -97,7 +97,7 @@ module _ (s : Site) (fs : List Flow) where
 abbrev ofFlow : AdmitAnswer → Bool
 ofFlow (Admitted set) = false
 ofFlow TooMany = false
-ofFlow NotChained = false
+ofFlow NotNested = false
 ofFlow (BadCell flow) = true
 ofFlow (BadFlow flow) = true
 ofFlow (BigShare flow) = true
@@ -133,7 +133,7 @@ module _ (s : Site) (fs : List Flow) where
       at : Told s fs → admitAnswer s fs ≡ Refused g → (g ≡ faultOf s) × (isFine g ≡ false)
       at (fault h q) e = let same : g ≡ faultOf s = cc in (same, rw same h)
       at (many _ _ q) e = let z : _≡_ {A = ℕ} 0 1 = cc in absurd (omega arith)
-      at (unchained _ _ _ q) e = let z : _≡_ {A = ℕ} 0 1 = cc in absurd (omega arith)
+      at (unnested _ _ _ q) e = let z : _≡_ {A = ℕ} 0 1 = cc in absurd (omega arith)
       at (stopped k r _ q) e = no-flow (refusedWith r (k + 1)) (Refused g) (flow-answer r (k + 1)) refl (sym q ∙ e)
       at (settled _ q) e = let z : _≡_ {A = ℕ} 0 1 = cc in absurd (omega arith)
 
@@ -144,22 +144,22 @@ module _ (s : Site) (fs : List Flow) where
       at : Told s fs → admitAnswer s fs ≡ TooMany → (faultOf s ≡ Fine) × (16 < length fs)
       at (many f h _) e = (f, h)
       at (fault _ q) e = let z : _≡_ {A = ℕ} 0 1 = cc in absurd (omega arith)
-      at (unchained _ _ _ q) e = let z : _≡_ {A = ℕ} 0 1 = cc in absurd (omega arith)
+      at (unnested _ _ _ q) e = let z : _≡_ {A = ℕ} 0 1 = cc in absurd (omega arith)
       at (stopped k r _ q) e = no-flow (refusedWith r (k + 1)) TooMany (flow-answer r (k + 1)) refl (sym q ∙ e)
       at (settled _ q) e = let z : _≡_ {A = ℕ} 0 1 = cc in absurd (omega arith)
 
-  -- "19 site not chained"
-  pub broken-means : admitAnswer s fs ≡ NotChained ↔ ((faultOf s ≡ Fine) × (length fs ≤ 16) × (Chained (netOf s) everyone → ⊥))
-  broken-means = (
+  -- W9: "refusal 19 is given exactly outside it"
+  pub outside-means : admitAnswer s fs ≡ NotNested ↔ ((faultOf s ≡ Fine) × (length fs ≤ 16) × (Class (netOf s) everyone → ⊥))
+  outside-means = (
     λ e. at (told s fs) e,
-    λ h. broken-answer s (flowAt fs) (length fs) (h .0) (h .1) (refute (isChained (chainVerdict (netOf s) everyone)) (λ e. h .2 (chain-means s .0 e))),
+    λ h. outside-answer s (flowAt fs) (length fs) (h .0) (h .1) (refute (isNested (classVerdict (netOf s) everyone)) (λ e. h .2 (class-means s .0 e))),
   )
     where
-      at : Told s fs → admitAnswer s fs ≡ NotChained → (faultOf s ≡ Fine) × (length fs ≤ 16) × (Chained (netOf s) everyone → ⊥)
-      at (unchained f l c _) e = (f, l, c)
+      at : Told s fs → admitAnswer s fs ≡ NotNested → (faultOf s ≡ Fine) × (length fs ≤ 16) × (Class (netOf s) everyone → ⊥)
+      at (unnested f l c _) e = (f, l, c)
       at (fault _ q) e = let z : _≡_ {A = ℕ} 0 1 = cc in absurd (omega arith)
       at (many _ _ q) e = let z : _≡_ {A = ℕ} 0 1 = cc in absurd (omega arith)
-      at (stopped k r _ q) e = no-flow (refusedWith r (k + 1)) NotChained (flow-answer r (k + 1)) refl (sym q ∙ e)
+      at (stopped k r _ q) e = no-flow (refusedWith r (k + 1)) NotNested (flow-answer r (k + 1)) refl (sym q ∙ e)
       at (settled _ q) e = let z : _≡_ {A = ℕ} 0 1 = cc in absurd (omega arith)
 
   -- "then per flow 2, 15, 16 with the flow's number": of the first flow that one of them fits, by the flow's own numbers
@@ -171,7 +171,7 @@ module _ (s : Site) (fs : List Flow) where
       at (stopped k q st w) e = let o = same-refusal q r (k + 1) n (sym w ∙ e) in (k, sym (o .1), rw (o .0) at st)
       at (fault _ q) e = no-flow (refusedWith r n) (Refused (faultOf s)) (flow-answer r n) refl (sym e ∙ q)
       at (many _ _ q) e = no-flow (refusedWith r n) TooMany (flow-answer r n) refl (sym e ∙ q)
-      at (unchained _ _ _ q) e = no-flow (refusedWith r n) NotChained (flow-answer r n) refl (sym e ∙ q)
+      at (unnested _ _ _ q) e = no-flow (refusedWith r n) NotNested (flow-answer r n) refl (sym e ∙ q)
       at (settled _ q) e = no-flow (refusedWith r n) (Admitted (admitted s fs)) (flow-answer r n) refl (sym e ∙ q)
 
       back : (k : ℕ) → Stops s fs k r → admitAnswer s fs ≡ refusedWith r (k + 1)
@@ -181,7 +181,7 @@ module _ (s : Site) (fs : List Flow) where
           let b = bad-is s (flowAt fs k) t r (st .refuses) in
           let here : firstBad s fs ≡ k
           = first-is (test s fs) 0 k (length fs) zero-le (st .inside) (b .0) (λ j _ l. sends-is s (flowAt fs j) t .1 (st .before j l)) in
-          bad-answer s (flowAt fs) (length fs) fine (st .looked .few) (chain-means s .1 (st .looked .chain)) k (sym here) (st .inside) ∙ b .1 (k + 1)
+          bad-answer s (flowAt fs) (length fs) fine (st .looked .few) (class-means s .1 (st .looked .class)) k (sym here) (st .inside) ∙ b .1 (k + 1)
 
   -- a set wherever nothing is refused, and only there
   pub set-means : (x : ℕ) → admitAnswer s fs ≡ Admitted x ↔ (Settled s fs × (x ≡ admitted s fs))
@@ -192,7 +192,7 @@ module _ (s : Site) (fs : List Flow) where
       at (settled h q) e = (h, cc)
       at (fault _ q) e = let z : _≡_ {A = ℕ} 0 1 = cc in absurd (omega arith)
       at (many _ _ q) e = let z : _≡_ {A = ℕ} 0 1 = cc in absurd (omega arith)
-      at (unchained _ _ _ q) e = let z : _≡_ {A = ℕ} 0 1 = cc in absurd (omega arith)
+      at (unnested _ _ _ q) e = let z : _≡_ {A = ℕ} 0 1 = cc in absurd (omega arith)
       at (stopped k r _ q) e = no-flow (refusedWith r (k + 1)) (Admitted x) (flow-answer r (k + 1)) refl (sym q ∙ e)
 
       back : Settled s fs → admitAnswer s fs ≡ Admitted (admitted s fs)
@@ -200,4 +200,4 @@ module _ (s : Site) (fs : List Flow) where
           let fine = h .looked .fine in
           let all : firstBad s fs ≡ length fs
           = first-none (test s fs) 0 (length fs) zero-le (λ k _ l. sends-is s (flowAt fs k) (slots s fs fine) .1 (h .good k l)) in
-          set-answer s (flowAt fs) (length fs) fine (h .looked .few) (chain-means s .1 (h .looked .chain)) (omega arith)
+          set-answer s (flowAt fs) (length fs) fine (h .looked .few) (class-means s .1 (h .looked .class)) (omega arith)

@@ -1,5 +1,5 @@
 -- Which flows a site admits: the record's faults; "18 over 16 flows, 19 site not chained, then per flow 2, 15, 16 with the flow's number";
--- then the best set of the flows.
+-- then the best set of the flows. W9: "Admission then accepts the class, all cells counted as loaded; refusal 19 is given exactly outside it."
 -- Flows are counted from 0 here, by their place, and numbered from 1 in answers.
 use Prim.Native.Nat.{ℕ, _+_, _-_}
 use mathlib.Core.Bool.{Bool, true, false, not, _&&_}
@@ -9,7 +9,7 @@ use lib.ListN.{length}
 use Rattle.laws.specs.Choice.{pick}
 use Rattle.laws.specs.Search.{first}
 use Rattle.theory.specs.Net.{everyone}
-use Rattle.theory.specs.Verdict.{ChainVerdict, chained, broken, chainVerdict}
+use Rattle.theory.specs.Verdict.{ChainVerdict, chained, broken, ClassVerdict, inClass, outside, classVerdict}
 use Rattle.site.specs.Record.{upTo, isFine, faultOf}
 use Rattle.site.specs.Reach.{netOf}
 use Rattle.site.specs.declared.Site.{Site}
@@ -20,7 +20,7 @@ use Rattle.admitting.specs.Best.{Flows, best}
 use Rattle.flowlist.specs.List.{flowAt}
 use Rattle.flowlist.specs.declared.Flow.{Flow}
 use Rattle.admission.specs.declared.AdmitAnswer.{AdmitAnswer}
-use Rattle.admission.specs.declared.AdmitAnswer.the-variants.{Admitted, TooMany, NotChained, BadCell, BadFlow, BigShare, Refused}
+use Rattle.admission.specs.declared.AdmitAnswer.the-variants.{Admitted, TooMany, NotNested, BadCell, BadFlow, BigShare, Refused}
 use Rattle.admission.specs.declared.Asked.{Asked}
 
 -- ---- one flow, on a site with so many cells and slots
@@ -73,6 +73,11 @@ firstBadIn cells slots f n = first (λ k. badIn cells slots (f k)) 0 n
 abbrev pub flowsAsked : ℕ → (ℕ → Flow) → ℕ → Flows
 flowsAsked slots f n = record { count = n; cell = λ k. f k .cell - 1; share = λ k. amount (shareIn slots (f k)); value = λ k. f k .value }
 
+abbrev pub isNested : ClassVerdict → Bool
+isNested inClass = true
+isNested (outside a b i) = false
+
+-- what 19 asked before W9
 abbrev pub isChained : ChainVerdict → Bool
 isChained chained = true
 isChained (broken a b c) = false
@@ -81,13 +86,17 @@ isChained (broken a b c) = false
 abbrev pub settledAt : Site → (ℕ → Flow) → ℕ → ℕ → AdmitAnswer
 settledAt s f n bad = pick (ltb bad n) (refusedIn (s .cells) (s .slots) (f bad) (bad + 1)) (Admitted (best (netOf s) (flowsAsked (s .slots) f n)))
 
--- "record faults first, then 18 over 16 flows, 19 site not chained", where "all cells count as loaded for the chain rule"
-unfoldable pub answerIn : Site → (ℕ → Flow) → ℕ → AdmitAnswer
-answerIn s f n =
+-- "record faults first, then 18 over 16 flows", then 19 unless the site suits
+abbrev pub answerWhere : Bool → Site → (ℕ → Flow) → ℕ → AdmitAnswer
+answerWhere suits s f n =
     pick (isFine (faultOf s))
     (pick (ltb 16 n) TooMany
-    (pick (isChained (chainVerdict (netOf s) everyone)) (settledAt s f n (firstBadIn (s .cells) (s .slots) f n)) NotChained))
+    (pick suits (settledAt s f n (firstBadIn (s .cells) (s .slots) f n)) NotNested))
     (Refused (faultOf s))
+
+-- a site suits where it is in the class, "all cells counted as loaded"
+unfoldable pub answerIn : Site → (ℕ → Flow) → ℕ → AdmitAnswer
+answerIn s f n = answerWhere (isNested (classVerdict (netOf s) everyone)) s f n
 
 -- ---- the call, on a site and a list of flows
 

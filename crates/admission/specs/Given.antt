@@ -6,13 +6,13 @@ use mathlib.Core.List.{[], _∷_}
 use Rattle.site.specs.Record.{isFine}
 use Rattle.site.specs.Given.{Given, faultGiven}
 use Rattle.admission.specs.declared.AdmitAnswer.{AdmitAnswer}
-use Rattle.admission.specs.declared.AdmitAnswer.the-variants.{Admitted, TooMany, NotChained, BadCell, BadFlow, BigShare, Refused}
+use Rattle.admission.specs.declared.AdmitAnswer.the-variants.{Admitted, TooMany, NotNested, BadCell, BadFlow, BigShare, Refused}
 
 -- 0 done, with the set's number; 18 and 19 carry nothing; 2, 15 and 16 with the flow's number; the record's 1 to 3 and 20
 abbrev pub admitGiven : AdmitAnswer → Given
 admitGiven (Admitted set) = record { number = 0; values = set ∷ [] }
 admitGiven TooMany = record { number = 18; values = [] }
-admitGiven NotChained = record { number = 19; values = [] }
+admitGiven NotNested = record { number = 19; values = [] }
 admitGiven (BadCell flow) = record { number = 2; values = flow ∷ [] }
 admitGiven (BadFlow flow) = record { number = 15; values = flow ∷ [] }
 admitGiven (BigShare flow) = record { number = 16; values = flow ∷ [] }
@@ -22,7 +22,7 @@ admitGiven (Refused f) = faultGiven f
 abbrev pub admitProper : AdmitAnswer → Bool
 admitProper (Admitted set) = true
 admitProper TooMany = true
-admitProper NotChained = true
+admitProper NotNested = true
 admitProper (BadCell flow) = true
 admitProper (BadFlow flow) = true
 admitProper (BigShare flow) = true
@@ -32,7 +32,7 @@ admitProper (Refused f) = not (isFine f)
 abbrev pub ofRecord : AdmitAnswer → Bool
 ofRecord (Admitted set) = false
 ofRecord TooMany = false
-ofRecord NotChained = false
+ofRecord NotNested = false
 ofRecord (BadCell flow) = false
 ofRecord (BadFlow flow) = false
 ofRecord (BigShare flow) = false

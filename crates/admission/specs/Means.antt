@@ -4,7 +4,7 @@ use Prim.Native.Nat.{ℕ, _≤_, _<_}
 use mathlib.Core.List.{List}
 use mathlib.Core.Path.{_≡_}
 use lib.ListN.{length}
-use Rattle.theory.specs.Net.{everyone, Chained}
+use Rattle.theory.specs.Net.{everyone, Class}
 use Rattle.site.specs.Means.{UpTo}
 use Rattle.site.specs.Record.{faultOf}
 use Rattle.site.specs.Reach.{netOf}
@@ -43,11 +43,11 @@ Refuses s f two = UpTo (s .cells) (f .cell) → ⊥
 Refuses s f fifteen = UpTo (s .cells) (f .cell) × (InRange f → ⊥)
 Refuses s f sixteen = UpTo (s .cells) (f .cell) × InRange f × Above (s .slots) (f .burst) (f .period) (f .repeats)
 
--- where flows are looked at: the record is accepted, there are at most 16 flows, and the site is chained, "all cells count as loaded"
+-- where flows are looked at: the record is accepted, there are at most 16 flows, and the site is in W9's class, "all cells counted as loaded"
 pub record Looked (s : Site) (fs : List Flow) : Type 0 where
   pub fine : faultOf s ≡ Fine
   pub few : length fs ≤ 16
-  pub chain : Chained (netOf s) everyone
+  pub class : Class (netOf s) everyone
 
 -- where a set is answered: no flow is refused
 pub record Settled (s : Site) (fs : List Flow) : Type 0 where

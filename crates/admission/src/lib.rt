@@ -7,11 +7,11 @@ ghost use lib.Seq.{sets};
 ghost use Rattle.laws.specs.Bits.{bitIn};
 ghost use Rattle.laws.specs.Part.{listOf};
 ghost use Rattle.theory.specs.Net.{everyone};
-ghost use Rattle.theory.specs.Verdict.{chainVerdict};
-ghost use Rattle.chainwords.specs.Chain.{chainIn};
+ghost use Rattle.theory.specs.Verdict.{classVerdict};
+ghost use Rattle.chainwords.specs.Chain.{Mirrored, chainIn};
 ghost use Rattle.flowlist.specs.List.{zeroFlow};
-ghost use Rattle.admission.specs.Admit.{shareIn, amount, refusedIn, askedBy, firstBadIn, isChained, answerIn, admitAnswer};
-use chainwords::first_break;
+ghost use Rattle.admission.specs.Admit.{shareIn, amount, refusedIn, askedBy, firstBadIn, isNested, answerIn, admitAnswer};
+use chainwords::first_split;
 use flowlist::Flow;
 use flowlist::FlowList;
 use flowlist::gather;
@@ -29,7 +29,7 @@ use site::within;
 pub enum AdmitAnswer {
     Admitted(u32),
     TooMany,
-    NotChained,
+    NotNested,
     BadCell(usize),
     BadFlow(usize),
     BigShare(usize),
@@ -140,12 +140,12 @@ fn refusal(cells: u16, slots: u16, f: Flow, number: usize) -> AdmitAnswer
     AdmitAnswer::BigShare(number)
 }
 
-// Whether a site is chained, all its cells counted.
-fn chained(clash: &[u32; 32], cells: usize) -> bool
-    requires { ⌜ cells ≤ 32 ⌝ }
-    ensures { λ r. ⌜ r ≡ isChained (chainVerdict (chainIn cells (bitIn (now (clash .entry)))) everyone) ⌝ }
+// Whether a site is in the class, all its cells counted. Each row has what the others have of its cell.
+fn nested(clash: &[u32; 32], cells: usize) -> bool
+    requires { ⌜ (cells ≤ 32) × Mirrored (now clash) ⌝ }
+    ensures { λ r. ⌜ r ≡ isNested (classVerdict (chainIn cells (bitIn (now (clash .entry)))) everyone) ⌝ }
 {
-    cells <= first_break(clash, 4294967295, cells)
+    cells <= first_split(clash, 4294967295, cells)
 }
 
 // The answer for a list of so many flows, of which the first 16 are here: for callers that have the flows by value.
@@ -162,8 +162,8 @@ pub fn decide(site: Site, l: FlowList, count: usize) -> AdmitAnswer
     let cells = site.cells;
     let slots = site.slots;
     let clash = site.clash_rows();
-    if !chained(&clash, cells as usize) {
-        return AdmitAnswer::NotChained;
+    if !nested(&clash, cells as usize) {
+        return AdmitAnswer::NotNested;
     }
     let asked = ask_all(cells, slots, l, count);
     let bad = asked.bad;

@@ -13,8 +13,8 @@ ghost use Rattle.site.specs.Record.{faultOf};
 ghost use Rattle.site.specs.Reach.{clashAnswer};
 ghost use Rattle.site.specs.Edit.{setLoadOf, setReachOf, clearReachOf};
 ghost use Rattle.site.specs.Given.{faultGiven, clashGiven};
-ghost use Rattle.judges.specs.Judges.{loadAnswer, chainAnswer, leastAnswer};
-ghost use Rattle.judges.specs.Given.{loadGiven, chainGiven, leastGiven};
+ghost use Rattle.judges.specs.Judges.{loadAnswer, chainAnswer, classAnswer, leastAnswer};
+ghost use Rattle.judges.specs.Given.{loadGiven, chainGiven, classGiven, leastGiven};
 ghost use Rattle.heaviest.specs.Sets.{heaviestOf};
 ghost use Rattle.heaviest.specs.Given.{heaviestGiven};
 ghost use Rattle.planner.specs.Plan.{planAnswer, planTable};
@@ -90,6 +90,13 @@ pub extern "C" fn dugg_chain(site: Site) -> Answer
     ensures { λ r. ⌜ r ≡ told (chainGiven (chainAnswer site)) ⌝ }
 {
     told::chain_answer(judges::chain(site))
+}
+
+#[no_mangle]
+pub extern "C" fn dugg_class(site: Site) -> Answer
+    ensures { λ r. ⌜ r ≡ told (classGiven (classAnswer site)) ⌝ }
+{
+    told::class_answer(judges::in_class(site))
 }
 
 #[no_mangle]

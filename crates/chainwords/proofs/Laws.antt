@@ -5,16 +5,17 @@
 use Prim.Native.Nat.{ℕ, _+_, _≤_, _<_, zero-le}
 use mathlib.Core.Bool.{Bool, true, false, not, _&&_, and-true, and-false}
 use mathlib.Core.Logic.{⊎-elim}
-use mathlib.Core.Path.{_≡_, sym, ap, _∙_}
+use mathlib.Core.Path.{_≡_, sym, ap, ap₂, _∙_}
 use native.Mathlib.Nat.{eq-or-lt-of-le}
 use native.Mathlib.Omega.{arith}
 use borrow.Author.Tests.{ltb-true, lt-ltb, le-ltb, not-true}
 use lib.Dec.{ltb}
+use Rattle.laws.specs.Choice.{pick}
 use Rattle.laws.specs.Search.{first}
 use Rattle.laws.proofs.Choice.{both}
 use Rattle.laws.proofs.Search.{first-least, first-most, first-passes, first-before, first-none, first-skip, first-is, first-same}
 use Rattle.theory.specs.Net.{Net}
-use Rattle.theory.specs.Verdict.{gap, breaks, breakOf, firstBreak}
+use Rattle.theory.specs.Verdict.{gap, breaks, breakOf, firstBreak, second, splits, splitOf, firstSplit}
 
 module _ (s : Net) (who : ℕ → Bool) where
   gap-least : (a c : ℕ) → a + 1 ≤ gap s who a c
@@ -107,3 +108,41 @@ module _ (s : Net) (p q : ℕ → Bool) (same : (i : ℕ) → i < s .cells → p
   first-break-same =
       first-same (λ a. ltb (breakOf s p a) (s .cells)) (λ a. ltb (breakOf s q a) (s .cells)) 0 (s .cells) zero-le
       (λ a _ h. ap (λ (n : ℕ). ltb n (s .cells)) (break-same a h))
+
+  pub second-same : (i a : ℕ) → a < i → i < s .cells → second s p i a ≡ second s q i a
+  unfolding second
+  second-same i a l h =
+      first-same (λ b. (p b && s .clash b i) && not (s .clash a b)) (λ b. (q b && s .clash b i) && not (s .clash a b)) (a + 1) i (omega arith)
+      (λ b _ m. ap (λ t. (t && s .clash b i) && not (s .clash a b)) (same b (omega arith)))
+
+  splits-same : (i a : ℕ) → a < i → i < s .cells → splits s p i a ≡ splits s q i a
+  unfolding splits
+  splits-same i a l h = simp (same a (omega arith), second-same i a l h)
+
+  pub split-same : (i : ℕ) → i < s .cells → splitOf s p i ≡ splitOf s q i
+  unfolding splitOf
+  split-same i h =
+      ap₂ (λ t (n : ℕ). pick t n i) (same i h) (first-same (splits s p i) (splits s q i) 0 i zero-le (λ a _ l. splits-same i a l h))
+
+  pub first-split-same : firstSplit s p ≡ firstSplit s q
+  unfolding firstSplit
+  first-split-same =
+      first-same (λ i. ltb (splitOf s p i) i) (λ i. ltb (splitOf s q i) i) 0 (s .cells) zero-le (λ i _ h. ap (λ (n : ℕ). ltb n i) (split-same i h))
+
+-- A search for a cell of a word that passes a test goes from one cell of the word to the next: it stands at a, a cell of the word or the end,
+-- and what is left from there gives the answer x.
+pub record At (word test : ℕ → Bool) (x a e : ℕ) : Type 0 where
+  pub left : x ≡ first (λ k. word k && test k) a e
+  pub member : a < e → word a ≡ true
+  pub most : a ≤ e
+
+pub next-member : (word test : ℕ → Bool) (x k e a : ℕ) → k ≤ e → a ≡ first word k e → x ≡ first (λ j. word j && test j) k e → At word test x a e
+next-member word test x k e a h is left =
+    let low : k ≤ a = rw is (first-least word k e) in
+    let high : a ≤ e = rw is (first-most word k e h) in
+    record {
+      left = left ∙ first-skip (λ j. word j && test j) k a e low high
+          (λ j l m. ap (λ t. t && test j) (first-before word k e j l (omega (arith, is))));
+      member = λ l. rw is (first-passes word k e h (omega (arith, is)));
+      most = high;
+    }

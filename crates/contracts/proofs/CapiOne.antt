@@ -7,14 +7,14 @@ use Rattle.admission.specs.Admit.{admitAnswer}
 use Rattle.admission.specs.Given.{admitGiven}
 use Rattle.checker.specs.Check.{checkAnswer}
 use Rattle.checker.specs.Given.{checkGiven}
-use Rattle.contracts.specs.CapiSays.{DuggAdmit, DuggChain, DuggCheck, DuggCheckWords, DuggClash, DuggClearReach, DuggFault, DuggHeaviest, DuggLeast}
-use Rattle.contracts.specs.CapiSays.{DuggLoadTest, DuggMend, DuggPlan, DuggPlanWords, DuggReadPlan, DuggReadSheet, DuggReadSite, DuggSetLoad}
+use Rattle.contracts.specs.CapiSays.{DuggAdmit, DuggChain, DuggCheck, DuggCheckWords, DuggClash, DuggClass, DuggClearReach, DuggFault, DuggHeaviest}
+use Rattle.contracts.specs.CapiSays.{DuggLeast, DuggLoadTest, DuggMend, DuggPlan, DuggPlanWords, DuggReadPlan, DuggReadSheet, DuggReadSite, DuggSetLoad}
 use Rattle.contracts.specs.CapiSays.{DuggSetReach, DuggShare, DuggShareRepeated, DuggToBytes, DuggToWords, DuggWritePlan, DuggWriteSheet, DuggWriteSite}
 use Rattle.flowlist.specs.declared.Flow.{Flow}
 use Rattle.heaviest.specs.Given.{heaviestGiven}
 use Rattle.heaviest.specs.Sets.{heaviestOf}
-use Rattle.judges.specs.Given.{chainGiven, leastGiven, loadGiven}
-use Rattle.judges.specs.Judges.{chainAnswer, leastAnswer, loadAnswer}
+use Rattle.judges.specs.Given.{chainGiven, classGiven, leastGiven, loadGiven}
+use Rattle.judges.specs.Judges.{chainAnswer, classAnswer, leastAnswer, loadAnswer}
 use Rattle.mender.specs.Given.{mendGiven}
 use Rattle.mender.specs.Mend.{mendAnswer, mendList, mendTable}
 use Rattle.planfile.specs.Given.{planWrittenGiven}
@@ -111,6 +111,16 @@ pub duggChain-one : (site : Site)
     × ((q : Answer) → DuggChain site q → (q ≡ r))
 duggChain-one site = (
   told (chainGiven (chainAnswer site)),
+  record { answer = refl },
+  λ q says. says .answer,
+)
+
+-- capi::dugg_class
+pub duggClass-one : (site : Site)
+    → (r : Answer) × (DuggClass site r)
+    × ((q : Answer) → DuggClass site q → (q ≡ r))
+duggClass-one site = (
+  told (classGiven (classAnswer site)),
   record { answer = refl },
   λ q says. says .answer,
 )

@@ -3,8 +3,8 @@
 use mathlib.Core.Path.{_≡_, refl}
 use mathlib.Core.List.{List}
 use Prim.Native.Nat.{ℕ}
-use Rattle.chainwords.specs.Chain.{breakIn, chainIn, gapIn}
-use Rattle.contracts.specs.ChainwordsSays.{ChainwordsBreakOf, ChainwordsFirstBreak, ChainwordsGap}
+use Rattle.chainwords.specs.Chain.{breakIn, chainIn, firstSplitIn, gapIn, splitIn}
+use Rattle.contracts.specs.ChainwordsSays.{ChainwordsBreakOf, ChainwordsFirstBreak, ChainwordsFirstSplit, ChainwordsGap, ChainwordsSplitOf}
 use Rattle.laws.specs.Bits.{bitAt, bitIn}
 use Rattle.theory.specs.Verdict.{firstBreak}
 
@@ -34,6 +34,26 @@ pub chainwordsFirstBreak-one : (clash : List ℕ) (who : ℕ) (cells : ℕ)
     × ((q : ℕ) → ChainwordsFirstBreak clash who cells q → (q ≡ r))
 chainwordsFirstBreak-one clash who cells = (
   firstBreak (chainIn cells (bitIn clash)) (bitAt who),
+  record { answer = refl },
+  λ q says. says .answer,
+)
+
+-- chainwords::split_of
+pub chainwordsSplitOf-one : (clash : List ℕ) (who : ℕ) (i : ℕ)
+    → (r : ℕ) × (ChainwordsSplitOf clash who i r)
+    × ((q : ℕ) → ChainwordsSplitOf clash who i q → (q ≡ r))
+chainwordsSplitOf-one clash who i = (
+  splitIn clash who i,
+  record { answer = refl },
+  λ q says. says .answer,
+)
+
+-- chainwords::first_split
+pub chainwordsFirstSplit-one : (clash : List ℕ) (who : ℕ) (cells : ℕ)
+    → (r : ℕ) × (ChainwordsFirstSplit clash who cells r)
+    × ((q : ℕ) → ChainwordsFirstSplit clash who cells q → (q ≡ r))
+chainwordsFirstSplit-one clash who cells = (
+  firstSplitIn clash who cells,
   record { answer = refl },
   λ q says. says .answer,
 )

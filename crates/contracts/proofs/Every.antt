@@ -1,13 +1,13 @@
 -- Every call of the product has one answer: crate by crate. Made by tools/surface from the source. Assumes nothing.
 use Rattle.contracts.proofs.AdmissionOne.{admit-one, decide-one, shareIn-one}
-use Rattle.contracts.proofs.CapiOne.{duggAdmit-one, duggChain-one, duggCheck-one, duggCheckWords-one, duggClash-one, duggClearReach-one, duggFault-one}
-use Rattle.contracts.proofs.CapiOne.{duggHeaviest-one, duggLeast-one, duggLoadTest-one, duggMend-one, duggPlan-one, duggPlanWords-one, duggReadPlan-one}
-use Rattle.contracts.proofs.CapiOne.{duggReadSheet-one, duggReadSite-one, duggSetLoad-one, duggSetReach-one, duggShare-one, duggShareRepeated-one}
-use Rattle.contracts.proofs.CapiOne.{duggToBytes-one, duggToWords-one, duggWritePlan-one, duggWriteSheet-one, duggWriteSite-one}
+use Rattle.contracts.proofs.CapiOne.{duggAdmit-one, duggChain-one, duggCheck-one, duggCheckWords-one, duggClash-one, duggClass-one, duggClearReach-one}
+use Rattle.contracts.proofs.CapiOne.{duggFault-one, duggHeaviest-one, duggLeast-one, duggLoadTest-one, duggMend-one, duggPlan-one, duggPlanWords-one}
+use Rattle.contracts.proofs.CapiOne.{duggReadPlan-one, duggReadSheet-one, duggReadSite-one, duggSetLoad-one, duggSetReach-one, duggShare-one}
+use Rattle.contracts.proofs.CapiOne.{duggShareRepeated-one, duggToBytes-one, duggToWords-one, duggWritePlan-one, duggWriteSheet-one, duggWriteSite-one}
 use Rattle.contracts.proofs.CheckerOne.{check-one}
 use Rattle.contracts.proofs.FlowsheetOne.{readFlows-one}
 use Rattle.contracts.proofs.HeaviestOne.{heaviest-one}
-use Rattle.contracts.proofs.JudgesOne.{chain-one, least-one, loadTest-one}
+use Rattle.contracts.proofs.JudgesOne.{chain-one, inClass-one, least-one, loadTest-one}
 use Rattle.contracts.proofs.MenderOne.{mend-one, mendOnly-one}
 use Rattle.contracts.proofs.PlanfileOne.{readPlan-one, writePlan-one}
 use Rattle.contracts.proofs.PlannerOne.{plan-one}
@@ -32,6 +32,7 @@ every-call = record {
   siteClearReach = siteClearReach-one;
   loadTest = loadTest-one;
   chain = chain-one;
+  inClass = inClass-one;
   least = least-one;
   plan = plan-one;
   check = check-one;
@@ -61,6 +62,7 @@ every-call = record {
   duggClearReach = duggClearReach-one;
   duggLoadTest = duggLoadTest-one;
   duggChain = duggChain-one;
+  duggClass = duggClass-one;
   duggLeast = duggLeast-one;
   duggHeaviest = duggHeaviest-one;
   duggPlan = duggPlan-one;

@@ -6,12 +6,13 @@ use Rattle.admission.specs.Given.{admitGiven}
 use Rattle.admission.specs.declared.AdmitAnswer.{AdmitAnswer}
 use Rattle.checker.specs.Given.{checkGiven}
 use Rattle.checker.specs.declared.CheckAnswer.{CheckAnswer}
-use Rattle.contracts.specs.ToldSays.{ToldAdmitAnswer, ToldChainAnswer, ToldCheckAnswer, ToldClashAnswer, ToldFaultAnswer, ToldFormAnswer, ToldGive}
-use Rattle.contracts.specs.ToldSays.{ToldHeaviestAnswer, ToldLeastAnswer, ToldLoadAnswer, ToldMendAnswer, ToldPlanAnswer, ToldShareAnswer}
+use Rattle.contracts.specs.ToldSays.{ToldAdmitAnswer, ToldChainAnswer, ToldCheckAnswer, ToldClashAnswer, ToldClassAnswer, ToldFaultAnswer, ToldFormAnswer}
+use Rattle.contracts.specs.ToldSays.{ToldGive, ToldHeaviestAnswer, ToldLeastAnswer, ToldLoadAnswer, ToldMendAnswer, ToldPlanAnswer, ToldShareAnswer}
 use Rattle.heaviest.specs.Given.{heaviestGiven}
 use Rattle.heaviest.specs.declared.HeaviestAnswer.{HeaviestAnswer}
-use Rattle.judges.specs.Given.{chainGiven, leastGiven, loadGiven}
+use Rattle.judges.specs.Given.{chainGiven, classGiven, leastGiven, loadGiven}
 use Rattle.judges.specs.declared.ChainAnswer.{ChainAnswer}
+use Rattle.judges.specs.declared.ClassAnswer.{ClassAnswer}
 use Rattle.judges.specs.declared.LeastAnswer.{LeastAnswer}
 use Rattle.judges.specs.declared.LoadAnswer.{LoadAnswer}
 use Rattle.mender.specs.Given.{mendGiven}
@@ -74,6 +75,16 @@ pub toldChainAnswer-one : (said : ChainAnswer)
     × ((q : Answer) → ToldChainAnswer said q → (q ≡ r))
 toldChainAnswer-one said = (
   told (chainGiven said),
+  record { answer = refl },
+  λ q says. says .answer,
+)
+
+-- told::class_answer
+pub toldClassAnswer-one : (said : ClassAnswer)
+    → (r : Answer) × (ToldClassAnswer said r)
+    × ((q : Answer) → ToldClassAnswer said q → (q ≡ r))
+toldClassAnswer-one said = (
+  told (classGiven said),
   record { answer = refl },
   λ q says. says .answer,
 )

@@ -10,8 +10,8 @@ use Rattle.checker.specs.Given.{checkGiven}
 use Rattle.flowlist.specs.declared.Flow.{Flow}
 use Rattle.heaviest.specs.Given.{heaviestGiven}
 use Rattle.heaviest.specs.Sets.{heaviestOf}
-use Rattle.judges.specs.Given.{chainGiven, leastGiven, loadGiven}
-use Rattle.judges.specs.Judges.{chainAnswer, leastAnswer, loadAnswer}
+use Rattle.judges.specs.Given.{chainGiven, classGiven, leastGiven, loadGiven}
+use Rattle.judges.specs.Judges.{chainAnswer, classAnswer, leastAnswer, loadAnswer}
 use Rattle.mender.specs.Given.{mendGiven}
 use Rattle.mender.specs.Mend.{mendAnswer, mendList, mendTable}
 use Rattle.planfile.specs.Given.{planWrittenGiven}
@@ -69,6 +69,10 @@ pub record DuggLoadTest (site : Site) (r : Answer) : Type 0 where
 -- capi::dugg_chain
 pub record DuggChain (site : Site) (r : Answer) : Type 0 where
   pub answer : r ≡ told (chainGiven (chainAnswer site))
+
+-- capi::dugg_class
+pub record DuggClass (site : Site) (r : Answer) : Type 0 where
+  pub answer : r ≡ told (classGiven (classAnswer site))
 
 -- capi::dugg_least
 pub record DuggLeast (site : Site) (r : Answer) : Type 0 where

@@ -3,7 +3,7 @@
 use mathlib.Core.Path.{_≡_}
 use mathlib.Core.List.{List}
 use Prim.Native.Nat.{ℕ}
-use Rattle.chainwords.specs.Chain.{breakIn, chainIn, gapIn}
+use Rattle.chainwords.specs.Chain.{breakIn, chainIn, firstSplitIn, gapIn, splitIn}
 use Rattle.laws.specs.Bits.{bitAt, bitIn}
 use Rattle.theory.specs.Verdict.{firstBreak}
 
@@ -18,3 +18,11 @@ pub record ChainwordsBreakOf (row : ℕ) (who : ℕ) (a : ℕ) (cells : ℕ) (r 
 -- chainwords::first_break
 pub record ChainwordsFirstBreak (clash : List ℕ) (who : ℕ) (cells : ℕ) (r : ℕ) : Type 0 where
   pub answer : r ≡ firstBreak (chainIn cells (bitIn clash)) (bitAt who)
+
+-- chainwords::split_of
+pub record ChainwordsSplitOf (clash : List ℕ) (who : ℕ) (i : ℕ) (r : ℕ) : Type 0 where
+  pub answer : r ≡ splitIn clash who i
+
+-- chainwords::first_split
+pub record ChainwordsFirstSplit (clash : List ℕ) (who : ℕ) (cells : ℕ) (r : ℕ) : Type 0 where
+  pub answer : r ≡ firstSplitIn clash who cells

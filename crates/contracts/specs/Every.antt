@@ -7,13 +7,13 @@ use Prim.Native.Nat.{ℕ}
 use Rattle.admission.specs.declared.AdmitAnswer.{AdmitAnswer}
 use Rattle.checker.specs.declared.CheckAnswer.{CheckAnswer}
 use Rattle.contracts.specs.AdmissionSays.{Admit, Decide, ShareIn}
-use Rattle.contracts.specs.CapiSays.{DuggAdmit, DuggChain, DuggCheck, DuggCheckWords, DuggClash, DuggClearReach, DuggFault, DuggHeaviest, DuggLeast}
-use Rattle.contracts.specs.CapiSays.{DuggLoadTest, DuggMend, DuggPlan, DuggPlanWords, DuggReadPlan, DuggReadSheet, DuggReadSite, DuggSetLoad}
+use Rattle.contracts.specs.CapiSays.{DuggAdmit, DuggChain, DuggCheck, DuggCheckWords, DuggClash, DuggClass, DuggClearReach, DuggFault, DuggHeaviest}
+use Rattle.contracts.specs.CapiSays.{DuggLeast, DuggLoadTest, DuggMend, DuggPlan, DuggPlanWords, DuggReadPlan, DuggReadSheet, DuggReadSite, DuggSetLoad}
 use Rattle.contracts.specs.CapiSays.{DuggSetReach, DuggShare, DuggShareRepeated, DuggToBytes, DuggToWords, DuggWritePlan, DuggWriteSheet, DuggWriteSite}
 use Rattle.contracts.specs.CheckerSays.{Check}
 use Rattle.contracts.specs.FlowsheetSays.{ReadFlows}
 use Rattle.contracts.specs.HeaviestSays.{Heaviest}
-use Rattle.contracts.specs.JudgesSays.{Chain, Least, LoadTest}
+use Rattle.contracts.specs.JudgesSays.{Chain, InClass, Least, LoadTest}
 use Rattle.contracts.specs.MenderSays.{Mend, MendOnly}
 use Rattle.contracts.specs.PlanfileSays.{ReadPlan, WritePlan}
 use Rattle.contracts.specs.PlannerSays.{Plan}
@@ -27,6 +27,7 @@ use Rattle.flowlist.specs.declared.FlowList.{FlowList}
 use Rattle.flowsheet.specs.declared.FlowsRead.{FlowsRead}
 use Rattle.heaviest.specs.declared.HeaviestAnswer.{HeaviestAnswer}
 use Rattle.judges.specs.declared.ChainAnswer.{ChainAnswer}
+use Rattle.judges.specs.declared.ClassAnswer.{ClassAnswer}
 use Rattle.judges.specs.declared.LeastAnswer.{LeastAnswer}
 use Rattle.judges.specs.declared.LoadAnswer.{LoadAnswer}
 use Rattle.mender.specs.declared.MendAnswer.{MendAnswer}
@@ -94,6 +95,10 @@ pub record EveryCall : Type 0 where
   pub chain : (site : Site)
       → (r : ChainAnswer) × (Chain site r)
       × ((q : ChainAnswer) → Chain site q → (q ≡ r))
+  -- judges::in_class
+  pub inClass : (site : Site)
+      → (r : ClassAnswer) × (InClass site r)
+      × ((q : ClassAnswer) → InClass site q → (q ≡ r))
   -- judges::least
   pub least : (site : Site)
       → (r : LeastAnswer) × (Least site r)
@@ -211,6 +216,10 @@ pub record EveryCall : Type 0 where
   pub duggChain : (site : Site)
       → (r : Answer) × (DuggChain site r)
       × ((q : Answer) → DuggChain site q → (q ≡ r))
+  -- capi::dugg_class
+  pub duggClass : (site : Site)
+      → (r : Answer) × (DuggClass site r)
+      × ((q : Answer) → DuggClass site q → (q ≡ r))
   -- capi::dugg_least
   pub duggLeast : (site : Site)
       → (r : Answer) × (DuggLeast site r)

@@ -8,8 +8,9 @@ use Rattle.checker.specs.Given.{checkGiven}
 use Rattle.checker.specs.declared.CheckAnswer.{CheckAnswer}
 use Rattle.heaviest.specs.Given.{heaviestGiven}
 use Rattle.heaviest.specs.declared.HeaviestAnswer.{HeaviestAnswer}
-use Rattle.judges.specs.Given.{chainGiven, leastGiven, loadGiven}
+use Rattle.judges.specs.Given.{chainGiven, classGiven, leastGiven, loadGiven}
 use Rattle.judges.specs.declared.ChainAnswer.{ChainAnswer}
+use Rattle.judges.specs.declared.ClassAnswer.{ClassAnswer}
 use Rattle.judges.specs.declared.LeastAnswer.{LeastAnswer}
 use Rattle.judges.specs.declared.LoadAnswer.{LoadAnswer}
 use Rattle.mender.specs.Given.{mendGiven}
@@ -45,6 +46,10 @@ pub record ToldLoadAnswer (said : LoadAnswer) (r : Answer) : Type 0 where
 -- told::chain_answer
 pub record ToldChainAnswer (said : ChainAnswer) (r : Answer) : Type 0 where
   pub answer : r ≡ told (chainGiven said)
+
+-- told::class_answer
+pub record ToldClassAnswer (said : ClassAnswer) (r : Answer) : Type 0 where
+  pub answer : r ≡ told (classGiven said)
 
 -- told::least_answer
 pub record ToldLeastAnswer (said : LeastAnswer) (r : Answer) : Type 0 where

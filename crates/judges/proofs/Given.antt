@@ -9,6 +9,7 @@ use lib.Dec.{eqb}
 use lib.ListN.{length, getD}
 use Rattle.laws.specs.Choice.{pick}
 use Rattle.theory.specs.Verdict.{LoadVerdict, holds, over, loadVerdict, mostDemand, ChainVerdict, chained, broken, chainVerdict}
+use Rattle.theory.specs.Verdict.{ClassVerdict, inClass, outside, classVerdict}
 use Rattle.site.specs.Record.{faultOf}
 use Rattle.site.specs.Reach.{netOf}
 use Rattle.site.specs.Given.{Given}
@@ -16,12 +17,14 @@ use Rattle.site.specs.declared.Site.{Site}
 use Rattle.site.specs.declared.Fault.the-variants.{Fine, Size, Load, Reach, Blocked}
 use Rattle.site.proofs.Given.{faultFrom}
 use Rattle.site.proofs.PassedOn.{proper-call}
-use Rattle.judges.specs.Judges.{counted, loadOf, loadAnswer, chainOf, chainAnswer, leastOf, leastAnswer}
-use Rattle.judges.specs.Given.{loadGiven, loadProper, chainGiven, chainProper, leastGiven, leastProper}
+use Rattle.judges.specs.Judges.{counted, loadOf, loadAnswer, chainOf, chainAnswer, classOf, classAnswer, leastOf, leastAnswer}
+use Rattle.judges.specs.Given.{loadGiven, loadProper, chainGiven, chainProper, classGiven, classProper, leastGiven, leastProper}
 use Rattle.judges.specs.declared.LoadAnswer.{LoadAnswer}
 use Rattle.judges.specs.declared.LoadAnswer.the-variants as load
 use Rattle.judges.specs.declared.ChainAnswer.{ChainAnswer}
 use Rattle.judges.specs.declared.ChainAnswer.the-variants as chain
+use Rattle.judges.specs.declared.ClassAnswer.{ClassAnswer}
+use Rattle.judges.specs.declared.ClassAnswer.the-variants as class
 use Rattle.judges.specs.declared.LeastAnswer.{LeastAnswer}
 use Rattle.judges.specs.declared.LeastAnswer.the-variants as least
 
@@ -105,6 +108,46 @@ pub chain-numbers : (a b c cell row position : ℕ)
     ≡ [] ∷ (a ∷ b ∷ c ∷ []) ∷ [] ∷ (cell ∷ []) ∷ (row ∷ []) ∷ (position ∷ []) ∷ [])
 chain-numbers a b c cell row position = (refl, refl)
 
+-- ---- the judge of the class
+
+abbrev classFrom : Given → ClassAnswer
+classFrom g =
+    pick (eqb (g .number) 0) (pick (eqb (length (g .values)) 0) class.InClass
+    (class.Outside (getD (g .values) 0 0) (getD (g .values) 1 0) (getD (g .values) 2 0))) (class.Refused (faultFrom g))
+
+class-back : (a : ClassAnswer) → classProper a ≡ true → classFrom (classGiven a) ≡ a
+class-back class.InClass p = refl
+class-back (class.Outside a b i) p = refl
+class-back (class.Refused Fine) p = absurd (false≢true p)
+class-back (class.Refused Size) p = refl
+class-back (class.Refused (Load k)) p = refl
+class-back (class.Refused (Reach k)) p = refl
+class-back (class.Refused (Blocked k)) p = refl
+
+pub class-apart : (a b : ClassAnswer) → classProper a ≡ true → classProper b ≡ true → classGiven a ≡ classGiven b → a ≡ b
+class-apart a b p q e = sym (class-back a p) ∙ ap classFrom e ∙ class-back b q
+
+-- no call answers a refusal with no fault
+class-verdict-proper : (v : ClassVerdict) → classProper (classOf v) ≡ true
+class-verdict-proper inClass = refl
+class-verdict-proper (outside a b i) = refl
+
+pub class-proper : (s : Site) → classProper (classAnswer s) ≡ true
+unfolding classAnswer
+class-proper s = proper-call classProper class.Refused (λ g. refl) (faultOf s) _ (class-verdict-proper (classVerdict (netOf s) (counted s)))
+
+-- the numbers and the values, in their order, of an answer of each kind
+abbrev classes : (a b i cell row position : ℕ) → List ClassAnswer
+classes a b i cell row position =
+    class.InClass ∷ class.Outside a b i ∷ class.Refused Size ∷ class.Refused (Load cell) ∷ class.Refused (Reach row)
+    ∷ class.Refused (Blocked position) ∷ []
+
+pub class-numbers : (a b i cell row position : ℕ)
+    → (map (λ (a : ClassAnswer). classGiven a .number) (classes a b i cell row position) ≡ 0 ∷ 0 ∷ 1 ∷ 2 ∷ 3 ∷ 20 ∷ [])
+    × (map (λ (a : ClassAnswer). classGiven a .values) (classes a b i cell row position)
+    ≡ [] ∷ (a ∷ b ∷ i ∷ []) ∷ [] ∷ (cell ∷ []) ∷ (row ∷ []) ∷ (position ∷ []) ∷ [])
+class-numbers a b i cell row position = (refl, refl)
+
 -- ---- the least number of channel-slots
 
 abbrev leastFrom : Given → LeastAnswer
@@ -125,15 +168,15 @@ pub least-apart : (a b : LeastAnswer) → leastProper a ≡ true → leastProper
 least-apart a b p q e = sym (least-back a p) ∙ ap leastFrom e ∙ least-back b q
 
 -- no call answers a refusal with no fault
-least-verdict-proper : (v : ChainVerdict) (n : ℕ) → leastProper (leastOf v n) ≡ true
-least-verdict-proper chained n = refl
-least-verdict-proper (broken a b c) n = refl
+least-verdict-proper : (v : ClassVerdict) (n : ℕ) → leastProper (leastOf v n) ≡ true
+least-verdict-proper inClass n = refl
+least-verdict-proper (outside a b i) n = refl
 
 pub least-proper : (s : Site) → leastProper (leastAnswer s) ≡ true
 unfolding leastAnswer
 least-proper s =
     proper-call leastProper least.Refused (λ g. refl) (faultOf s) _
-    (least-verdict-proper (chainVerdict (netOf s) (counted s)) (mostDemand (netOf s) (counted s)))
+    (least-verdict-proper (classVerdict (netOf s) (counted s)) (mostDemand (netOf s) (counted s)))
 
 -- the numbers and the values, in their order, of an answer of each kind
 abbrev leasts : (n cell row position : ℕ) → List LeastAnswer

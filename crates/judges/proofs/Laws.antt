@@ -7,6 +7,7 @@ use mathlib.Core.List.{List}
 use mathlib.Core.Path.{_≡_, sym, ap, ap₂, _∙_}
 use native.Mathlib.Omega.{arith}
 use borrow.Author.Tests.{ltb-true, lt-ltb, le-ltb}
+use lib.Bits.{bitAnd}
 use lib.Dec.{ltb}
 use lib.ListN.{getD}
 use Rattle.laws.specs.Bits.{bitAt, bitIn, wordOf}
@@ -20,19 +21,21 @@ use Rattle.laws.proofs.Sums.{sum-eq}
 use Rattle.laws.proofs.Words.{word-bit}
 use Rattle.theory.specs.Net.{Net, room, demand}
 use Rattle.theory.specs.Verdict.{overloaded, lowestOver, loadVerdict, asks, mostDemand, gap, breaks, breakOf, firstBreak, chainVerdict}
+use Rattle.theory.specs.Verdict.{second, splitOf, firstSplit, classVerdict}
 use Rattle.site.specs.Record.{faultOf}
 use Rattle.site.specs.Reach.{clashOf, netOf}
 use Rattle.site.specs.declared.Site.{Site}
 use Rattle.site.specs.declared.Fault.the-variants.{Fine}
 use Rattle.site.proofs.Faults.{fine-sized}
 use Rattle.site.proofs.Reach.{clash-sym}
-use Rattle.judges.specs.Judges.{counted, loadAnswer, chainAnswer, leastAnswer}
-use Rattle.chainwords.specs.Chain.{chainIn, gapIn, breakIn}
+use Rattle.judges.specs.Judges.{counted, loadAnswer, chainAnswer, classAnswer, leastAnswer}
+use Rattle.chainwords.specs.Chain.{chainIn, gapIn, breakIn, splitIn, firstSplitIn}
 use Rattle.chainwords.proofs.Laws.{break-least, break-inside, gap-same, break-same, first-break-same}
-use Rattle.chainwords.proofs.Rows.{gap-row, break-row}
+use Rattle.chainwords.proofs.Rows.{gap-row, break-row, first-split-is, split-is, second-is}
 use Rattle.demands.specs.Words.{demandAt, overIn, demandCounted}
 use Rattle.judges.specs.declared.LoadAnswer.the-variants as load
 use Rattle.judges.specs.declared.ChainAnswer.the-variants as chain
+use Rattle.judges.specs.declared.ClassAnswer.the-variants as class
 use Rattle.judges.specs.declared.LeastAnswer.the-variants as least
 
 -- ---- the load test
@@ -106,12 +109,45 @@ module _ (s : Site) (fine : faultOf s ≡ Fine) (rows : List ℕ) (relation : bi
   unfolding chainAnswer chainVerdict
   chain-none h = simp (fine, sym first-is-named, le-ltb a (s .cells) h)
 
+-- ---- the class
+
+-- the first cell with two lower clashing cells that do not clash lies past its first of them
+pub split-inside : (s : Net) (who : ℕ → Bool) (i : ℕ) → i ≡ firstSplit s who → i < s .cells → splitOf s who i < i
+unfolding firstSplit
+split-inside s who i e h = rw e (ltb-true _ _ (first-passes (λ k. ltb (splitOf s who k) k) 0 (s .cells) zero-le (rw e at h)))
+
+-- what the call answers for a record with no fault, from the cells that the searches over the rows name
+module _ (s : Site) (fine : faultOf s ≡ Fine) (rows : List ℕ) (relation : bitIn rows ≡ clashOf s) (who : ℕ) (word : who ≡ wordOf (counted s) 32)
+    (i : ℕ) (e : i ≡ firstSplitIn rows who (s .cells)) where
+  pub split-is-named : i ≡ firstSplit (netOf s) (counted s)
+  split-is-named = e ∙ first-split-is (netOf s) rows relation (clash-sym (s .reach)) who (counted s) (counts-is s fine who word)
+
+  split-named : i < s .cells → splitIn rows who i ≡ splitOf (netOf s) (counted s) i
+  split-named = split-is (netOf s) rows relation (clash-sym (s .reach)) who (counted s) (counts-is s fine who word) i
+
+  -- the first of the two is below i
+  pub split-below : (a : ℕ) → i < s .cells → a ≡ splitIn rows who i → a < i
+  split-below a h p = omega (arith, split-inside (netOf s) (counted s) i split-is-named h, p, split-named h)
+
+  pub class-outside : (a b : ℕ) → i < s .cells → a ≡ splitIn rows who i → b ≡ gapIn (getD rows a 0) (bitAnd who (getD rows i 0)) a i
+      → classAnswer s ≡ class.Outside (a + 1) (b + 1) (i + 1)
+  unfolding classAnswer classVerdict
+  class-outside a b h p q =
+      let p′ : a ≡ splitOf (netOf s) (counted s) i = p ∙ split-named h in
+      let q′ : b ≡ second (netOf s) (counted s) i a =
+      q ∙ second-is (netOf s) rows relation (clash-sym (s .reach)) who (counted s) (counts-is s fine who word) i a (split-below a h p) h in
+      simp (fine, sym split-is-named, lt-ltb i (s .cells) h, sym p′, sym q′)
+
+  pub class-none : s .cells ≤ i → classAnswer s ≡ class.InClass
+  unfolding classAnswer classVerdict
+  class-none h = simp (fine, sym split-is-named, le-ltb i (s .cells) h)
+
 -- ---- the least number of channel-slots
 
--- what the call answers for a record with no fault: n is the greatest of what the rows ask, a the first cell that some cell breaks the chain with
+-- what the call answers for a record with no fault: n is the greatest of what the rows ask, i the first cell that shows the site outside the class
 module _ (s : Site) (fine : faultOf s ≡ Fine) (rows : List ℕ) (relation : bitIn rows ≡ clashOf s) (who : ℕ) (word : who ≡ wordOf (counted s) 32)
     (n : ℕ) (e : n ≡ most (λ i. demandCounted (s .loads) (getD rows i 0) who i) (s .cells))
-    (a : ℕ) (d : a ≡ firstBreak (chainIn (s .cells) (bitIn rows)) (bitAt who)) where
+    (i : ℕ) (d : i ≡ firstSplitIn rows who (s .cells)) where
   most-is : n ≡ mostDemand (netOf s) (counted s)
   unfolding mostDemand
   most-is =
@@ -119,13 +155,13 @@ module _ (s : Site) (fine : faultOf s ≡ Fine) (rows : List ℕ) (relation : bi
       ∙ most-same (λ i. demandCounted (s .loads) (getD rows i 0) who i) (asks (netOf s) (counted s)) (s .cells)
       (λ i h. ap₂ (λ t x. pick t x 0) (counts-is s fine who word i h) (demand-is s rows relation i))
 
-  broken-here : a ≡ firstBreak (netOf s) (counted s)
-  broken-here = first-is-named s fine rows relation who word a d
+  outside-here : i ≡ firstSplit (netOf s) (counted s)
+  outside-here = split-is-named s fine rows relation who word i d
 
-  pub least-enough : a < s .cells → leastAnswer s ≡ least.Enough n
-  unfolding leastAnswer chainVerdict
-  least-enough h = simp (fine, sym broken-here, lt-ltb a (s .cells) h, sym most-is)
+  pub least-enough : i < s .cells → leastAnswer s ≡ least.Enough n
+  unfolding leastAnswer classVerdict
+  least-enough h = simp (fine, sym outside-here, lt-ltb i (s .cells) h, sym most-is)
 
-  pub least-chained : s .cells ≤ a → leastAnswer s ≡ least.Least n
-  unfolding leastAnswer chainVerdict
-  least-chained h = simp (fine, sym broken-here, le-ltb a (s .cells) h, sym most-is)
+  pub least-exact : s .cells ≤ i → leastAnswer s ≡ least.Least n
+  unfolding leastAnswer classVerdict
+  least-exact h = simp (fine, sym outside-here, le-ltb i (s .cells) h, sym most-is)

@@ -1,6 +1,6 @@
--- What the calls say: Holds and Chained exactly where a record without fault has the property; where a cell or a triple is named, it is the first,
--- by the theory's laws. The load test holds where there are open positions enough.
--- And Least and Enough exactly on the chain and off it, with the greatest demand.
+-- What the calls say: Holds, Chained and InClass exactly where a record without fault has the property; where a cell or three cells are named,
+-- they are the first, by the theory's laws. The load test holds where there are open positions enough.
+-- And Least and Enough exactly in the class and outside it, with the greatest demand.
 -- Assumes nothing.
 use Prim.Native.Nat.{ℕ, _+_, _≤_, _<_}
 use mathlib.Core.Logic.{_↔_}
@@ -9,12 +9,14 @@ use native.Mathlib.Omega.{arith}
 use mathlib.Core.Bool.{true, false}
 use borrow.Author.Tests.{ltb-true, lt-ltb}
 use Rattle.laws.proofs.Choice.{went-first}
-use Rattle.theory.specs.Net.{Covers, LoadTest, Chained}
-use Rattle.theory.proofs.Exact.{covers-loaded}
+use Rattle.theory.specs.Net.{Covers, LoadTest, Chained, Class}
+use Rattle.theory.proofs.Exact.{covers-loaded, chained-class}
 use Rattle.theory.specs.Verdict.{LoadVerdict, holds, over, loadVerdict, mostDemand, ChainVerdict, chained, broken, chainVerdict}
-use Rattle.theory.specs.Named.{FirstOver, FirstBreaks}
+use Rattle.theory.specs.Verdict.{ClassVerdict, inClass, outside, classVerdict}
+use Rattle.theory.specs.Named.{FirstOver, FirstBreaks, FirstSplits}
 use Rattle.theory.proofs.LoadLaws.{load-holds, load-names, most-demand-test}
 use Rattle.theory.proofs.ChainLaws.{chain-holds, chain-names}
+use Rattle.theory.proofs.ClassLaws.{class-holds, class-names}
 use Rattle.positions.specs.Blocked.{openIn}
 use Rattle.site.specs.Record.{loadAt, positions, isFine, faultOf}
 use Rattle.site.specs.Reach.{netOf}
@@ -23,11 +25,13 @@ use Rattle.site.specs.declared.Fault.{Fault}
 use Rattle.site.specs.declared.Fault.the-variants.{Fine}
 use Rattle.site.proofs.Faults.{fine-is}
 use Rattle.site.proofs.PassedOn.{passed-on}
-use Rattle.judges.specs.Judges.{counted, loadOf, loadAnswer, chainOf, chainAnswer, leastOf, leastAnswer}
+use Rattle.judges.specs.Judges.{counted, loadOf, loadAnswer, chainOf, chainAnswer, classOf, classAnswer, leastOf, leastAnswer}
 use Rattle.judges.specs.declared.LoadAnswer.{LoadAnswer}
 use Rattle.judges.specs.declared.LoadAnswer.the-variants as load
 use Rattle.judges.specs.declared.ChainAnswer.{ChainAnswer}
 use Rattle.judges.specs.declared.ChainAnswer.the-variants as chain
+use Rattle.judges.specs.declared.ClassAnswer.{ClassAnswer}
+use Rattle.judges.specs.declared.ClassAnswer.the-variants as class
 use Rattle.judges.specs.declared.LeastAnswer.{LeastAnswer}
 use Rattle.judges.specs.declared.LeastAnswer.the-variants as least
 
@@ -141,57 +145,110 @@ broken-means s a b c e =
     let v = chain-is-broken (chainVerdict (netOf s) (counted s)) a b c (sym (chain-fine s f) ∙ e) in
     (f, (v .0, v .1, v .2, v .3, v .4, v .5, chain-names (netOf s) (counted s) (v .0) (v .1) (v .2) (v .6)))
 
+-- ---- the class
+
+class-is-in : (v : ClassVerdict) → classOf v ≡ class.InClass → v ≡ inClass
+class-is-in inClass e = refl
+class-is-in (outside a b i) e = let z : _≡_ {A = ℕ} 0 1 = cc in absurd (omega arith)
+
+class-is-outside : (v : ClassVerdict) (a b i : ℕ) → classOf v ≡ class.Outside a b i
+    → (x y z : ℕ) × (a ≡ x + 1) × (b ≡ y + 1) × (i ≡ z + 1) × (v ≡ outside x y z)
+class-is-outside inClass a b i e = let z : _≡_ {A = ℕ} 0 1 = cc in absurd (omega arith)
+class-is-outside (outside x y z) a b i e =
+    let p : x + 1 ≡ a = cc in
+    let q : y + 1 ≡ b = cc in
+    let r : z + 1 ≡ i = cc in
+    (x, y, z, sym p, sym q, sym r, refl)
+
+pub class-fine : (s : Site) → faultOf s ≡ Fine → classAnswer s ≡ classOf (classVerdict (netOf s) (counted s))
+unfolding classAnswer
+class-fine s fine = rw fine
+
+pub class-accepted : (s : Site) (a : ClassAnswer) → (class.Refused (faultOf s) ≡ a → ⊥) → classAnswer s ≡ a → faultOf s ≡ Fine
+unfolding classAnswer
+class-accepted s a n e = fine-is (faultOf s) (went-first (isFine (faultOf s)) _ _ n e)
+
+class-no-refusal : (v : ClassVerdict) (f : Fault) → classOf v ≡ class.Refused f → ⊥
+class-no-refusal inClass f e = let z : _≡_ {A = ℕ} 0 1 = cc in omega arith
+class-no-refusal (outside a b i) f e = let z : _≡_ {A = ℕ} 0 1 = cc in omega arith
+
+-- it refuses only with the record's faults, and a record at fault is refused
+pub class-refused : (s : Site) (f : Fault) → classAnswer s ≡ class.Refused f ↔ ((f ≡ faultOf s) × (isFine f ≡ false))
+unfolding classAnswer
+class-refused s = passed-on class.Refused (λ f g e. cc) (faultOf s) _ (class-no-refusal (classVerdict (netOf s) (counted s)))
+
+-- W9: "every loaded cell's loaded, lower-numbered clashing cells clash with one another"
+pub class-means : (s : Site) → classAnswer s ≡ class.InClass ↔ ((faultOf s ≡ Fine) × Class (netOf s) (counted s))
+class-means s = (
+  λ e.
+      let f = class-accepted s class.InClass (λ q. let z : _≡_ {A = ℕ} 0 1 = cc in omega arith) e in
+      (f, class-holds (netOf s) (counted s) .0 (class-is-in _ (sym (class-fine s f) ∙ e))),
+  λ h. class-fine s (h .0) ∙ ap classOf (class-holds (netOf s) (counted s) .1 (h .1)),
+)
+
+-- the cells that are named are the first in rising order of i, then a, then b
+pub outside-means : (s : Site) (a b i : ℕ) → classAnswer s ≡ class.Outside a b i
+    → (faultOf s ≡ Fine) × ((x y z : ℕ) × (a ≡ x + 1) × (b ≡ y + 1) × (i ≡ z + 1) × FirstSplits (netOf s) (counted s) x y z)
+outside-means s a b i e =
+    let f = class-accepted s (class.Outside a b i) (λ q. let z : _≡_ {A = ℕ} 0 1 = cc in omega arith) e in
+    let v = class-is-outside (classVerdict (netOf s) (counted s)) a b i (sym (class-fine s f) ∙ e) in
+    (f, (v .0, v .1, v .2, v .3, v .4, v .5, class-names (netOf s) (counted s) (v .0) (v .1) (v .2) (v .6)))
+
+-- W9: "Show that each chained site is in the class."
+pub chained-in-class : (s : Site) → chainAnswer s ≡ chain.Chained → classAnswer s ≡ class.InClass
+chained-in-class s e = let c = chained-means s .0 e in class-means s .1 (c .0, chained-class (netOf s) (counted s) (c .1))
+
 -- ---- the least number of channel-slots
 
 pub least-accepted : (s : Site) (a : LeastAnswer) → (least.Refused (faultOf s) ≡ a → ⊥) → leastAnswer s ≡ a → faultOf s ≡ Fine
 unfolding leastAnswer
 least-accepted s a n e = fine-is (faultOf s) (went-first (isFine (faultOf s)) _ _ n e)
 
-least-fine : (s : Site) → faultOf s ≡ Fine → leastAnswer s ≡ leastOf (chainVerdict (netOf s) (counted s)) (mostDemand (netOf s) (counted s))
+least-fine : (s : Site) → faultOf s ≡ Fine → leastAnswer s ≡ leastOf (classVerdict (netOf s) (counted s)) (mostDemand (netOf s) (counted s))
 unfolding leastAnswer
 least-fine s fine = rw fine
 
-least-is : (v : ChainVerdict) (m n : ℕ) → leastOf v m ≡ least.Least n → (v ≡ chained) × (m ≡ n)
-least-is chained m n e = (refl, cc)
-least-is (broken a b c) m n e = let z : _≡_ {A = ℕ} 0 1 = cc in absurd (omega arith)
+least-is : (v : ClassVerdict) (m n : ℕ) → leastOf v m ≡ least.Least n → (v ≡ inClass) × (m ≡ n)
+least-is inClass m n e = (refl, cc)
+least-is (outside a b i) m n e = let z : _≡_ {A = ℕ} 0 1 = cc in absurd (omega arith)
 
-enough-is : (v : ChainVerdict) (m n : ℕ) → leastOf v m ≡ least.Enough n → (v ≡ chained → ⊥) × (m ≡ n)
-enough-is chained m n e = let z : _≡_ {A = ℕ} 0 1 = cc in absurd (omega arith)
-enough-is (broken a b c) m n e = (λ q. let z : _≡_ {A = ℕ} 0 1 = cc in omega arith, cc)
+enough-is : (v : ClassVerdict) (m n : ℕ) → leastOf v m ≡ least.Enough n → (v ≡ inClass → ⊥) × (m ≡ n)
+enough-is inClass m n e = let z : _≡_ {A = ℕ} 0 1 = cc in absurd (omega arith)
+enough-is (outside a b i) m n e = (λ q. let z : _≡_ {A = ℕ} 0 1 = cc in omega arith, cc)
 
-least-of : (v : ChainVerdict) (m : ℕ) → v ≡ chained → leastOf v m ≡ least.Least m
+least-of : (v : ClassVerdict) (m : ℕ) → v ≡ inClass → leastOf v m ≡ least.Least m
 least-of v m q = rw q
 
--- Least exactly on a chained site, with the greatest demand
+-- Least exactly in the class, with the greatest demand
 pub least-means : (s : Site) (n : ℕ) → leastAnswer s ≡ least.Least n
-    ↔ ((faultOf s ≡ Fine) × (Chained (netOf s) (counted s)) × (mostDemand (netOf s) (counted s) ≡ n))
+    ↔ ((faultOf s ≡ Fine) × (Class (netOf s) (counted s)) × (mostDemand (netOf s) (counted s) ≡ n))
 least-means s n = (
   λ e.
       let f = least-accepted s (least.Least n) (λ q. let z : _≡_ {A = ℕ} 0 1 = cc in omega arith) e in
-      let w = least-is (chainVerdict (netOf s) (counted s)) (mostDemand (netOf s) (counted s)) n (sym (least-fine s f) ∙ e) in
-      (f, chain-holds (netOf s) (counted s) .0 (w .0), w .1),
-  λ h. least-fine s (h .0) ∙ least-of _ _ (chain-holds (netOf s) (counted s) .1 (h .1)) ∙ ap least.Least (h .2),
+      let w = least-is (classVerdict (netOf s) (counted s)) (mostDemand (netOf s) (counted s)) n (sym (least-fine s f) ∙ e) in
+      (f, class-holds (netOf s) (counted s) .0 (w .0), w .1),
+  λ h. least-fine s (h .0) ∙ least-of _ _ (class-holds (netOf s) (counted s) .1 (h .1)) ∙ ap least.Least (h .2),
 )
 
-enough-of : (v : ChainVerdict) (m : ℕ) → (v ≡ chained → ⊥) → leastOf v m ≡ least.Enough m
-enough-of chained m q = absurd (q refl)
-enough-of (broken a b c) m q = refl
+enough-of : (v : ClassVerdict) (m : ℕ) → (v ≡ inClass → ⊥) → leastOf v m ≡ least.Enough m
+enough-of inClass m q = absurd (q refl)
+enough-of (outside a b i) m q = refl
 
--- Enough exactly on a site that is not chained, with the greatest demand
+-- Enough exactly outside it, with the greatest demand
 pub enough-means : (s : Site) (n : ℕ) → leastAnswer s ≡ least.Enough n
-    ↔ ((faultOf s ≡ Fine) × (Chained (netOf s) (counted s) → ⊥) × (mostDemand (netOf s) (counted s) ≡ n))
+    ↔ ((faultOf s ≡ Fine) × (Class (netOf s) (counted s) → ⊥) × (mostDemand (netOf s) (counted s) ≡ n))
 enough-means s n = (
   λ e.
       let f = least-accepted s (least.Enough n) (λ q. let z : _≡_ {A = ℕ} 0 1 = cc in omega arith) e in
-      let w = enough-is (chainVerdict (netOf s) (counted s)) (mostDemand (netOf s) (counted s)) n (sym (least-fine s f) ∙ e) in
-      (f, λ c. w .0 (chain-holds (netOf s) (counted s) .1 c), w .1),
-  λ h. least-fine s (h .0) ∙ enough-of _ _ (λ q. h .1 (chain-holds (netOf s) (counted s) .0 q)) ∙ ap least.Enough (h .2),
+      let w = enough-is (classVerdict (netOf s) (counted s)) (mostDemand (netOf s) (counted s)) n (sym (least-fine s f) ∙ e) in
+      (f, λ c. w .0 (class-holds (netOf s) (counted s) .1 c), w .1),
+  λ h. least-fine s (h .0) ∙ enough-of _ _ (λ q. h .1 (class-holds (netOf s) (counted s) .0 q)) ∙ ap least.Enough (h .2),
 )
 
-least-no-refusal : (v : ChainVerdict) (n : ℕ) (f : Fault) → leastOf v n ≡ least.Refused f → ⊥
-least-no-refusal chained n f e = let z : _≡_ {A = ℕ} 0 1 = cc in omega arith
-least-no-refusal (broken a b c) n f e = let z : _≡_ {A = ℕ} 0 1 = cc in omega arith
+least-no-refusal : (v : ClassVerdict) (n : ℕ) (f : Fault) → leastOf v n ≡ least.Refused f → ⊥
+least-no-refusal inClass n f e = let z : _≡_ {A = ℕ} 0 1 = cc in omega arith
+least-no-refusal (outside a b i) n f e = let z : _≡_ {A = ℕ} 0 1 = cc in omega arith
 
 pub least-refused : (s : Site) (f : Fault) → leastAnswer s ≡ least.Refused f ↔ ((f ≡ faultOf s) × (isFine f ≡ false))
 unfolding leastAnswer
-least-refused s = passed-on least.Refused (λ f g e. cc) (faultOf s) _ (least-no-refusal (chainVerdict (netOf s) (counted s)) (mostDemand (netOf s) (counted s)))
+least-refused s = passed-on least.Refused (λ f g e. cc) (faultOf s) _ (least-no-refusal (classVerdict (netOf s) (counted s)) (mostDemand (netOf s) (counted s)))

@@ -7,6 +7,8 @@ use Rattle.judges.specs.declared.LoadAnswer.{LoadAnswer}
 use Rattle.judges.specs.declared.LoadAnswer.the-variants as load
 use Rattle.judges.specs.declared.ChainAnswer.{ChainAnswer}
 use Rattle.judges.specs.declared.ChainAnswer.the-variants as chain
+use Rattle.judges.specs.declared.ClassAnswer.{ClassAnswer}
+use Rattle.judges.specs.declared.ClassAnswer.the-variants as class
 use Rattle.judges.specs.declared.LeastAnswer.{LeastAnswer}
 use Rattle.judges.specs.declared.LeastAnswer.the-variants as least
 
@@ -21,6 +23,12 @@ abbrev pub chainGiven : ChainAnswer → Given
 chainGiven chain.Chained = record { number = 0; values = [] }
 chainGiven (chain.Broken a b c) = record { number = 0; values = a ∷ b ∷ c ∷ [] }
 chainGiven (chain.Refused f) = faultGiven f
+
+-- in the class: nothing; or the cells a, b, i; the record's 1 to 3 and 20
+abbrev pub classGiven : ClassAnswer → Given
+classGiven class.InClass = record { number = 0; values = [] }
+classGiven (class.Outside a b i) = record { number = 0; values = a ∷ b ∷ i ∷ [] }
+classGiven (class.Refused f) = faultGiven f
 
 -- how many open channel-slots do, and then 0 where fewer do not, 1 where fewer may; the record's 1 to 3 and 20
 abbrev pub leastGiven : LeastAnswer → Given
@@ -38,6 +46,11 @@ abbrev pub chainProper : ChainAnswer → Bool
 chainProper chain.Chained = true
 chainProper (chain.Broken a b c) = true
 chainProper (chain.Refused f) = not (isFine f)
+
+abbrev pub classProper : ClassAnswer → Bool
+classProper class.InClass = true
+classProper (class.Outside a b i) = true
+classProper (class.Refused f) = not (isFine f)
 
 abbrev pub leastProper : LeastAnswer → Bool
 leastProper (least.Least n) = true

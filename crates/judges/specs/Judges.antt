@@ -1,4 +1,4 @@
--- The load test, the chain judge and the least number of open channel-slots, as calls on a site record:
+-- The load test, the chain judge, the judge of the class and the least number of open channel-slots, as calls on a site record:
 -- the record's fault, or the theory's verdict on the problem that the record states.
 -- "Load test and chain judge are verdicts; they refuse only with 1 to 3."; W8: and 20. Cells are named by number, from 1.
 use Prim.Native.Nat.{ℕ, _+_}
@@ -8,6 +8,7 @@ use lib.Dec.{ltb}
 use lib.ListN.{getD}
 use Rattle.laws.specs.Choice.{pick}
 use Rattle.theory.specs.Verdict.{LoadVerdict, holds, over, loadVerdict, mostDemand, ChainVerdict, chained, broken, chainVerdict}
+use Rattle.theory.specs.Verdict.{ClassVerdict, inClass, outside, classVerdict}
 use Rattle.site.specs.Record.{isFine, faultOf}
 use Rattle.site.specs.Reach.{netOf}
 use Rattle.site.specs.declared.Site.{Site}
@@ -15,6 +16,8 @@ use Rattle.judges.specs.declared.LoadAnswer.{LoadAnswer}
 use Rattle.judges.specs.declared.LoadAnswer.the-variants as load
 use Rattle.judges.specs.declared.ChainAnswer.{ChainAnswer}
 use Rattle.judges.specs.declared.ChainAnswer.the-variants as chain
+use Rattle.judges.specs.declared.ClassAnswer.{ClassAnswer}
+use Rattle.judges.specs.declared.ClassAnswer.the-variants as class
 use Rattle.judges.specs.declared.LeastAnswer.{LeastAnswer}
 use Rattle.judges.specs.declared.LeastAnswer.the-variants as least
 
@@ -44,12 +47,21 @@ chainOf (broken a b c) = chain.Broken (a + 1) (b + 1) (c + 1)
 unfoldable pub chainAnswer : Site → ChainAnswer
 chainAnswer s = pick (isFine (faultOf s)) (chainOf (chainVerdict (netOf s) (counted s))) (chain.Refused (faultOf s))
 
--- On a chained site also the least number of open channel-slots that would do: the greatest demand of a cell with load above 0.
+-- W9: "every loaded cell's loaded, lower-numbered clashing cells clash with one another". Else the first cell i, and its first two such cells a and b that
+-- do not clash: in rising order of i, then a, then b.
+abbrev pub classOf : ClassVerdict → ClassAnswer
+classOf inClass = class.InClass
+classOf (outside a b i) = class.Outside (a + 1) (b + 1) (i + 1)
+
+unfoldable pub classAnswer : Site → ClassAnswer
+classAnswer s = pick (isFine (faultOf s)) (classOf (classVerdict (netOf s) (counted s))) (class.Refused (faultOf s))
+
+-- In the class also the least number of open channel-slots that would do: the greatest demand of a cell with load above 0.
 -- The site's own slots, channels and blocked positions play no part.
--- Off the chain so many are enough, since the load test then holds; fewer may be enough, too. (Named in proofs/Meaning.antt.)
-abbrev pub leastOf : ChainVerdict → ℕ → LeastAnswer
-leastOf chained n = least.Least n
-leastOf (broken a b c) n = least.Enough n
+-- Outside so many are enough, since the load test then holds; fewer may be enough, too. (Named in proofs/Meaning.antt.)
+abbrev pub leastOf : ClassVerdict → ℕ → LeastAnswer
+leastOf inClass n = least.Least n
+leastOf (outside a b i) n = least.Enough n
 
 unfoldable pub leastAnswer : Site → LeastAnswer
-leastAnswer s = pick (isFine (faultOf s)) (leastOf (chainVerdict (netOf s) (counted s)) (mostDemand (netOf s) (counted s))) (least.Refused (faultOf s))
+leastAnswer s = pick (isFine (faultOf s)) (leastOf (classVerdict (netOf s) (counted s)) (mostDemand (netOf s) (counted s))) (least.Refused (faultOf s))

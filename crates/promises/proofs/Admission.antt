@@ -9,9 +9,9 @@ use Prim.Native.Nat.{ℕ, _+_, _^_, _≤_, _<_}
 use native.Mathlib.Omega.{arith}
 use lib.ListN.{length}
 use Rattle.laws.proofs.Stores.{length-list}
-use Rattle.theory.specs.Net.{Net, Reserved, Valid, everyone, Chained}
+use Rattle.theory.specs.Net.{Net, Reserved, Valid, everyone, Chained, Class}
+use Rattle.theory.specs.Verdict.{chainVerdict}
 use Rattle.theory.specs.Greedy.{Plans}
-use Rattle.theory.proofs.Exact.{chained-class}
 use Rattle.site.specs.Record.{positions, loadAt, isFine, faultOf}
 use Rattle.site.specs.Reach.{netOf}
 use Rattle.site.specs.Given.{Given, faultGiven}
@@ -30,14 +30,15 @@ use Rattle.admitting.proofs.Best.{allowed-means, empty-allowed, best-is}
 use Rattle.bestset.proofs.Carry.{best-planned, best-of-carried}
 use Rattle.flowlist.specs.List.{flowAt}
 use Rattle.flowlist.specs.declared.Flow.{Flow}
-use Rattle.admission.specs.Admit.{flowsOf, admitted, admitAnswer}
+use Rattle.admission.specs.Admit.{isChained, answerWhere, flowsOf, admitted, admitAnswer}
 use Rattle.admission.specs.Given.{admitGiven, admitProper, ofRecord}
 use Rattle.admission.specs.Laden.{ladenSite, Shared, summed}
 use Rattle.admission.specs.Means.{two, fifteen, sixteen, Settled, Stops}
 use Rattle.admission.specs.declared.AdmitAnswer.{AdmitAnswer}
-use Rattle.admission.specs.declared.AdmitAnswer.the-variants.{Admitted, TooMany, NotChained, BadCell, BadFlow, BigShare, Refused}
+use Rattle.admission.specs.declared.AdmitAnswer.the-variants.{Admitted, TooMany, NotNested, BadCell, BadFlow, BigShare, Refused}
 use Rattle.admission.proofs.Given.{admit-apart, admit-proper, done-set}
-use Rattle.admission.proofs.Meaning.{set-means, many-means, broken-means, flow-means, fault-means}
+use Rattle.admission.proofs.Meaning.{set-means, many-means, outside-means, flow-means, fault-means}
+use Rattle.admission.proofs.Suits.{chained-unchanged}
 use Rattle.admission.proofs.OneFlow.{sends-shared}
 use Rattle.admission.proofs.Laden.{laden-net, laden-fine, laden-allowed, allowed-most, laden-shares}
 use Rattle.promises.specs.Numbers.{done, doneWith, refused}
@@ -109,21 +110,21 @@ module _ (s : Site) (fs : List Flow) (x : ℕ) (e : admitGiven (admitAnswer s fs
       → worth (flowsOf s fs) y ≤ worth (flowsOf s fs) x
   no-carried-better y l res v =
       rw (went .1)
-      (best-of-carried (netOf s) (flowsOf s fs) (chained-class (netOf s) everyone (settled .looked .chain)) y l res
+      (best-of-carried (netOf s) (flowsOf s fs) (settled .looked .class) y l res
       (subst (λ (n : Net). Valid n res) (laden-net s fs settled y) v))
 
 -- "The empty set counts."
 pub empty-counts : (s : Site) (fs : List Flow) → allowed (netOf s) (flowsOf s fs) 0 ≡ true
 empty-counts s fs = empty-allowed (netOf s) (flowsOf s fs)
 
--- ---- "Refusals: record faults first, then 18 over 16 flows, 19 site not chained, then per flow 2, 15, 16 with the flow's number." Each exactly where it is
--- due; 2, 15 and 16 by the flow's cell, by its burst, period and repeats, and by products (crates/admission/specs/Means.antt).
+-- ---- "Refusals: record faults first, then 18 over 16 flows, 19 site not chained, then per flow 2, 15, 16 with the flow's number." W9: 19 outside the
+-- class. Each exactly where it is due; 2, 15 and 16 by the flow's cell, by its burst, period and repeats, and by products (crates/admission/specs/Means.antt).
 
 -- the record's numbers are 1 to 3 and 20
 between : (a : AdmitAnswer) → 3 < admitGiven a .number → admitGiven a .number < 20 → ofRecord a ≡ false
 between (Admitted set) h l = refl
 between TooMany h l = refl
-between NotChained h l = refl
+between NotNested h l = refl
 between (BadCell flow) h l = refl
 between (BadFlow flow) h l = refl
 between (BigShare flow) h l = refl
@@ -141,7 +142,7 @@ module _ (s : Site) (fs : List Flow) where
       at : (a : AdmitAnswer) → admitAnswer s fs ≡ a → ofRecord a ≡ false
       at (Admitted set) e = refl
       at TooMany e = refl
-      at NotChained e = refl
+      at NotNested e = refl
       at (BadCell flow) e = refl
       at (BadFlow flow) e = refl
       at (BigShare flow) e = refl
@@ -171,12 +172,18 @@ module _ (s : Site) (fs : List Flow) where
         λ h. ap admitGiven (m .1 (accepted-number s .0 (h .0), h .1)),
       )
 
-  pub nineteen : admitGiven (admitAnswer s fs) ≡ refused 19 [] ↔ (Accepted s × (length fs ≤ 16) × (Chained (netOf s) everyone → ⊥))
+  -- W9: "refusal 19 is given exactly outside it", "all cells counted as loaded"
+  pub nineteen : admitGiven (admitAnswer s fs) ≡ refused 19 [] ↔ (Accepted s × (length fs ≤ 16) × (Class (netOf s) everyone → ⊥))
   nineteen =
-      let m = broken-means s fs in (
-        λ e. let h = m .0 (answer-of NotChained refl refl (own (refused 19 []) (omega arith) (omega arith) e) e) in (accepted-number s .1 (h .0), h .1, h .2),
+      let m = outside-means s fs in (
+        λ e. let h = m .0 (answer-of NotNested refl refl (own (refused 19 []) (omega arith) (omega arith) e) e) in (accepted-number s .1 (h .0), h .1, h .2),
         λ h. ap admitGiven (m .1 (accepted-number s .0 (h .0), h .1, h .2)),
       )
+
+  -- on a site that is chained, all cells counted, the answer is the one of before W9, when 19 asked for the chain
+  pub chained-answer : Chained (netOf s) everyone
+      → admitGiven (admitAnswer s fs) ≡ admitGiven (answerWhere (isChained (chainVerdict (netOf s) everyone)) s (flowAt fs) (length fs))
+  chained-answer h = ap admitGiven (chained-unchanged s (flowAt fs) (length fs) h)
 
   -- a flow's 2 looks as the record's does, so this is about an accepted record
   pub flow-two : Accepted s → (n : ℕ) → admitGiven (admitAnswer s fs) ≡ refused 2 (n ∷ []) ↔ ((k : ℕ) × (n ≡ k + 1) × Stops s fs k two)

@@ -12,6 +12,7 @@ use lib.Seq.{drop-at}
 use Rattle.laws.specs.Choice.{pick}
 use Rattle.theory.specs.Greedy.{Outcome, planned, noRoom, greedy}
 use Rattle.theory.specs.Verdict.{LoadVerdict, holds, over, loadVerdict, ChainVerdict, chained, broken, chainVerdict}
+use Rattle.theory.specs.Verdict.{ClassVerdict, inClass, outside, classVerdict}
 use Rattle.theory.proofs.Exact.{planned-size}
 use Rattle.site.specs.Record.{faultOf, isFine, size}
 use Rattle.site.specs.Reach.{netOf}
@@ -22,10 +23,11 @@ use Rattle.site.specs.declared.Fault.the-variants.{Fine, Size, Load, Reach, Blo
 use Rattle.planner.specs.Plan.{answerOf, tableOf, planAnswer, planTable}
 use Rattle.planner.specs.Given.{planGiven}
 use Rattle.planner.specs.declared.PlanAnswer.the-variants as planner
-use Rattle.judges.specs.Judges.{counted, loadOf, loadAnswer, chainOf, chainAnswer}
-use Rattle.judges.specs.Given.{loadGiven, chainGiven}
+use Rattle.judges.specs.Judges.{counted, loadOf, loadAnswer, chainOf, chainAnswer, classOf, classAnswer}
+use Rattle.judges.specs.Given.{loadGiven, chainGiven, classGiven}
 use Rattle.judges.specs.declared.LoadAnswer.the-variants as load
 use Rattle.judges.specs.declared.ChainAnswer.the-variants as chain
+use Rattle.judges.specs.declared.ClassAnswer.the-variants as class
 use Rattle.records.specs.Given.{readGiven, writtenGiven}
 use Rattle.records.specs.Write.{written, laidOver}
 use Rattle.records.specs.declared.ReadAnswer.{ReadAnswer}
@@ -152,6 +154,14 @@ chain-refusals (Load k) v = refl
 chain-refusals (Reach k) v = refl
 chain-refusals (Blocked k) v = refl
 
+class-refusals : (f : Fault) (v : ClassVerdict) → classGiven (pick (isFine f) (classOf v) (class.Refused f)) .number ≡ faultGiven f .number
+class-refusals Fine inClass = refl
+class-refusals Fine (outside a b i) = refl
+class-refusals Size v = refl
+class-refusals (Load k) v = refl
+class-refusals (Reach k) v = refl
+class-refusals (Blocked k) v = refl
+
 -- their number is that of the record's fault
 pub load-refuses : (s : Site) → loadGiven (loadAnswer s) .number ≡ faultGiven (faultOf s) .number
 unfolding loadAnswer
@@ -160,6 +170,11 @@ load-refuses s = load-refusals (faultOf s) (loadVerdict (netOf s) (counted s))
 pub chain-refuses : (s : Site) → chainGiven (chainAnswer s) .number ≡ faultGiven (faultOf s) .number
 unfolding chainAnswer
 chain-refuses s = chain-refusals (faultOf s) (chainVerdict (netOf s) (counted s))
+
+-- W9: and so the judge of the class
+pub class-refuses : (s : Site) → classGiven (classAnswer s) .number ≡ faultGiven (faultOf s) .number
+unfolding classAnswer
+class-refuses s = class-refusals (faultOf s) (classVerdict (netOf s) (counted s))
 
 -- done, or one of the record's: 0 to 3, or 20
 abbrev pub OfRecord : ℕ → Type 0

@@ -7,7 +7,7 @@ use Prim.Native.Nat.{ℕ, _<_}
 use native.Mathlib.Omega.{arith}
 use lib.ListN.{drop, length-append}
 use Rattle.laws.proofs.Sums.{count-most}
-use Rattle.theory.specs.Net.{Valid, LoadTest, Chained}
+use Rattle.theory.specs.Net.{Valid, LoadTest, Chained, Class}
 use Rattle.theory.specs.Greedy.{reserved}
 use Rattle.theory.specs.Figure.{figureOne}
 use Rattle.positions.specs.Blocked.{blockedAt}
@@ -21,15 +21,16 @@ use Rattle.planner.specs.Given.{planGiven}
 use Rattle.planner.proofs.Meaning.{done-means, done-valid, figure-answer, figure-table}
 use Rattle.planner.proofs.Answer.{run-table}
 use Rattle.theory.proofs.Exact.{planned-size, apart-any}
-use Rattle.judges.specs.Judges.{counted, loadAnswer, chainAnswer}
-use Rattle.judges.specs.Given.{loadGiven, chainGiven}
-use Rattle.judges.proofs.Meaning.{holds-means, chained-means}
+use Rattle.judges.specs.Judges.{counted, loadAnswer, chainAnswer, classAnswer}
+use Rattle.judges.specs.Given.{loadGiven, chainGiven, classGiven}
+use Rattle.judges.proofs.Meaning.{holds-means, chained-means, class-means}
 use Rattle.checker.specs.Check.{checkAnswer}
 use Rattle.checker.specs.Given.{checkGiven}
 use Rattle.checker.proofs.Meaning.{valid-means}
 use Rattle.promises.specs.Numbers.{done, runGiven}
 use Rattle.promises.specs.Demands.{Accepted, LongEnough, DefinitionOne}
 use Rattle.promises.proofs.Numbers.{accepted-number, plan-number, run-number, check-number, load-number, chain-number}
+use Rattle.promises.proofs.Numbers.{class-number}
 
 -- The plan equals the paper's greedy schedule, mark for mark: answer and table are those of Figure 1, and the bytes past the site's part are as they were.
 pub plan-is-figure : (s : Site) (t : List ℕ) → Accepted s → LongEnough s t
@@ -89,6 +90,15 @@ judge-is-chained s = (
       let c = chained-means s .0 (chain-number s .0 e) in
       (accepted-number s .1 (c .0), c .1),
   λ c. chain-number s .1 (chained-means s .1 (accepted-number s .0 (c .0), c .1)),
+)
+
+-- The judge of the class says yes exactly to nested sites. W9: "every loaded cell's loaded, lower-numbered clashing cells clash with one another".
+pub judge-is-nested : (s : Site) → classGiven (classAnswer s) ≡ done ↔ ((Accepted s) × (Class (netOf s) (counted s)))
+judge-is-nested s = (
+  λ e.
+      let c = class-means s .0 (class-number s .0 e) in
+      (accepted-number s .1 (c .0), c .1),
+  λ c. class-number s .1 (class-means s .1 (accepted-number s .0 (c .0), c .1)),
 )
 
 -- What the planner leaves when it is done, the checker calls valid.

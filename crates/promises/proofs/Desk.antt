@@ -1,5 +1,5 @@
--- P1 to P12, and sites with spare cells, with the words of W6, the mended tables of W7 and the blocked positions of W8, in one theorem: the
--- sites' faults first, and then both sides are computed. Assumes nothing.
+-- P1 to P12, and sites with spare cells, with the words of W6, the mended tables of W7, the blocked positions of W8 and the side drift of W9, in one
+-- theorem: the sites' faults first, and then both sides are computed. Assumes nothing.
 use mathlib.Core.Path.{_≡_, refl, sym, ap₂, _∙_}
 use mathlib.Core.List.{List, _++_, map-append}
 use Rattle.laws.specs.Search.{firstOf}
@@ -8,12 +8,13 @@ use Rattle.laws.specs.Most.{most}
 use Rattle.laws.specs.Part.{part, listOf}
 use Rattle.theory.specs.Greedy.{forbid, marked, fill, unmet, run}
 use Rattle.theory.specs.Verdict.{overloaded, lowestOver, loadVerdict, mostDemand, gap, breaks, breakOf, firstBreak, chainVerdict}
+use Rattle.theory.specs.Verdict.{second, splits, splitOf, firstSplit, classVerdict}
 use Rattle.theory.specs.Verdict.{holderAt, barredAt, lowestBarred, secondAt, clashesAt, firstAt, lowestClash, wrongIn, lowestWrong, openVerdict, tableVerdict}
 use Rattle.site.specs.Record.{upTo, sizeOk, rowBad, extraLoad, badRow, faultOf}
 use Rattle.site.specs.declared.Fault.the-variants.{Fine, Size, Blocked}
 use Rattle.site.specs.Reach.{reaches, clashIn}
 use Rattle.planner.specs.Plan.{planAnswer, planTable}
-use Rattle.judges.specs.Judges.{loadAnswer, chainAnswer, leastAnswer}
+use Rattle.judges.specs.Judges.{loadAnswer, chainAnswer, classAnswer, leastAnswer}
 use Rattle.admitting.specs.Best.{bestOf}
 use Rattle.heaviest.specs.Sets.{mutualIn, heaviestIn, heaviestOf}
 use Rattle.checker.specs.Check.{verdictOf, checkAnswer}
@@ -26,8 +27,8 @@ use Rattle.mending.specs.Mend.{stand, overlay}
 use Rattle.mending.specs.Changes.{cellChanges, changes}
 use Rattle.mender.specs.Mend.{mendAnswer, mendTable, mendList}
 use Rattle.promises.specs.Desk.{withZeros, P1, P1spare, P2, P3, P3spare, P4, P6, P7, alone, spareFirst, pair, noChannels}
-use Rattle.promises.specs.Desk.{P1blocked, P1lighter, P1far, aloneBlocked}
-use Rattle.promises.specs.Desk.{DeskLine, deskRules, deskLeast, deskWords, deskMended, deskBlocked, deskHeaviest, deskTable, Answered}
+use Rattle.promises.specs.Desk.{P1blocked, P1lighter, P1far, aloneBlocked, sideDriftSite}
+use Rattle.promises.specs.Desk.{DeskLine, deskRules, deskLeast, deskNested, deskWords, deskMended, deskBlocked, deskHeaviest, deskTable, Answered}
 use Rattle.promises.proofs.Faults.{usedWords, usedTo, pastIn, faultIn, fault-in}
 
 -- what is wrong with each site: nothing, or what its line says
@@ -52,6 +53,7 @@ faults : (faultOf P1 ≡ Fine)
     × (faultOf aloneBlocked ≡ Fine)
     × (faultOf (P1blocked 193) ≡ Blocked 6)
     × (faultOf P1far ≡ Blocked 65)
+    × (faultOf sideDriftSite ≡ Fine)
 unfolding withZeros firstOf upTo sizeOk rowBad extraLoad badRow usedWords usedTo pastIn faultIn
 faults = (
   fault-in P1,
@@ -75,6 +77,7 @@ faults = (
   fault-in aloneBlocked,
   fault-in (P1blocked 193),
   fault-in P1far,
+  fault-in sideDriftSite,
 )
 
 rules : Answered deskRules
@@ -84,8 +87,14 @@ unfolding withZeros firstOf sum any part listOf forbid marked fill unmet run rea
 rules = rw (faults .0, faults .1, faults .2, faults .3, faults .4, faults .5, faults .6, faults .7, faults .8, faults .9, faults .10) refl
 
 least : Answered deskLeast
-unfolding withZeros firstOf sum most reaches clashIn gap breaks breakOf firstBreak chainVerdict chainAnswer mostDemand leastAnswer
+unfolding withZeros firstOf sum most reaches clashIn gap breaks breakOf firstBreak chainVerdict chainAnswer second splits splitOf firstSplit classVerdict
+    mostDemand leastAnswer
 least = rw (faults .0, faults .1, faults .2, faults .3, faults .6, faults .7, faults .11) refl
+
+nested : Answered deskNested
+unfolding withZeros firstOf sum any part listOf forbid marked fill unmet run most reaches clashIn overloaded lowestOver loadVerdict loadAnswer gap breaks
+    breakOf firstBreak chainVerdict chainAnswer second splits splitOf firstSplit classVerdict classAnswer mostDemand leastAnswer planAnswer planTable
+nested = rw (faults .21, faults .0, faults .3, faults .5, faults .4) refl
 
 words : Answered deskWords
 unfolding withZeros firstOf sum any part listOf forbid marked fill unmet run reaches clashIn holderAt barredAt lowestBarred secondAt clashesAt firstAt
@@ -100,7 +109,8 @@ mended = rw (faults .0, faults .12, faults .5) refl
 
 blocked : Answered deskBlocked
 unfolding withZeros firstOf sum any part listOf forbid marked fill unmet run reaches clashIn overloaded lowestOver loadVerdict loadAnswer gap breaks
-    breakOf firstBreak chainVerdict chainAnswer most mostDemand leastAnswer holderAt barredAt lowestBarred secondAt clashesAt firstAt lowestClash
+    breakOf firstBreak chainVerdict chainAnswer second splits splitOf firstSplit classVerdict most mostDemand leastAnswer holderAt barredAt lowestBarred
+    secondAt clashesAt firstAt lowestClash
     wrongIn lowestWrong openVerdict tableVerdict verdictOf checkAnswer planAnswer planTable wordOf planWordsAnswer planWords checkWordsAnswer stand
     overlay cellChanges changes mendAnswer mendTable mendList
 blocked = rw (faults .14, faults .15, faults .16, faults .17, faults .18, faults .19, faults .20) refl
@@ -114,8 +124,9 @@ joined xs ys p q = map-append (λ l. l .asked) xs ys ∙ ap₂ _++_ p q ∙ sym 
 
 pub desk-holds : Answered deskTable
 desk-holds =
-    joined deskRules (deskLeast ++ (deskWords ++ (deskMended ++ (deskBlocked ++ deskHeaviest)))) rules
-    (joined deskLeast (deskWords ++ (deskMended ++ (deskBlocked ++ deskHeaviest))) least
+    joined deskRules (deskLeast ++ (deskNested ++ (deskWords ++ (deskMended ++ (deskBlocked ++ deskHeaviest))))) rules
+    (joined deskLeast (deskNested ++ (deskWords ++ (deskMended ++ (deskBlocked ++ deskHeaviest)))) least
+    (joined deskNested (deskWords ++ (deskMended ++ (deskBlocked ++ deskHeaviest))) nested
     (joined deskWords (deskMended ++ (deskBlocked ++ deskHeaviest)) words
     (joined deskMended (deskBlocked ++ deskHeaviest) mended
-    (joined deskBlocked deskHeaviest blocked heaviest))))
+    (joined deskBlocked deskHeaviest blocked heaviest)))))

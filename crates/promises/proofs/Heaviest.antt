@@ -13,19 +13,19 @@ use Rattle.site.specs.Reach.{netOf}
 use Rattle.site.specs.declared.Site.{Site}
 use Rattle.planner.specs.Plan.{planAnswer, planTable}
 use Rattle.planner.specs.Given.{planGiven}
-use Rattle.judges.specs.Judges.{chainAnswer, leastAnswer}
-use Rattle.judges.specs.Given.{chainGiven, leastGiven}
+use Rattle.judges.specs.Judges.{classAnswer, leastAnswer}
+use Rattle.judges.specs.Given.{classGiven, leastGiven}
 use Rattle.checker.specs.Check.{checkAnswer}
 use Rattle.checker.specs.Given.{checkGiven}
 use Rattle.heaviest.specs.Sets.{heaviestSet, heaviestOf, Heaviest}
 use Rattle.heaviest.specs.Given.{heaviestGiven}
 use Rattle.heaviest.specs.declared.HeaviestAnswer.the-variants as heaviest
 use Rattle.heaviest.proofs.Mutual.{heaviest-is, heaviest-only}
-use Rattle.heaviest.proofs.Meaning.{done-fine, done-is-fine, done-means, done-mutual, done-fits, done-enough, done-chain}
+use Rattle.heaviest.proofs.Meaning.{done-fine, done-is-fine, done-means, done-mutual, done-fits, done-enough, done-class}
 use Rattle.promises.specs.Numbers.{done, doneWith}
 use Rattle.site.specs.Alike.{Alike}
 use Rattle.promises.specs.Demands.{Accepted, DefinitionOne, openPositions}
-use Rattle.promises.proofs.Numbers.{accepted-number, chain-number, least-number, enough-number, heaviest-number}
+use Rattle.promises.proofs.Numbers.{accepted-number, class-number, least-number, enough-number, heaviest-number}
 use Rattle.promises.proofs.Demand2.{valid-is-definition-one, check-is-valid, planned-checks}
 
 -- What the call answers, exactly: of an accepted site, its heaviest set of cells that clash with one another, and what their loads come to.
@@ -42,9 +42,9 @@ heaviest-exact s load cells = (
 )
 
 module _ (site : Site) (load cells : ℕ) (e : heaviestGiven (heaviestOf site) ≡ doneWith (load ∷ cells ∷ [])) where
-  -- on a chained site it is the least number of channel-slots that do
-  pub heaviest-least : chainGiven (chainAnswer site) ≡ done → leastGiven (leastAnswer site) ≡ doneWith (load ∷ 0 ∷ [])
-  heaviest-least c = least-number site load .1 (done-chain site load cells (heaviest-number site load cells .0 e) (chain-number site .0 c))
+  -- on a nested site it is the least number of channel-slots that do
+  pub heaviest-least : classGiven (classAnswer site) ≡ done → leastGiven (leastAnswer site) ≡ doneWith (load ∷ 0 ∷ [])
+  heaviest-least c = least-number site load .1 (done-class site load cells (heaviest-number site load cells .0 e) (class-number site .0 c))
 
   -- on any other it is at most the number that is enough
   pub heaviest-enough : (n : ℕ) → leastGiven (leastAnswer site) ≡ doneWith (n ∷ 1 ∷ []) → load ≤ n

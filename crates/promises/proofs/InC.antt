@@ -11,12 +11,14 @@ use native.Mathlib.Omega.{arith}
 use lib.ListN.{getD}
 use Rattle.site.specs.declared.Site.{Site}
 use Rattle.site.specs.declared.Fault.the-variants.{Fine, Size, Load, Reach, Blocked}
-use Rattle.judges.specs.Judges.{loadAnswer, chainAnswer, leastAnswer}
-use Rattle.judges.specs.Given.{loadGiven, chainGiven, leastGiven, leastProper}
+use Rattle.judges.specs.Judges.{loadAnswer, chainAnswer, classAnswer, leastAnswer}
+use Rattle.judges.specs.Given.{loadGiven, chainGiven, classGiven, leastGiven, leastProper}
 use Rattle.judges.specs.declared.LoadAnswer.{LoadAnswer}
 use Rattle.judges.specs.declared.LoadAnswer.the-variants as load
 use Rattle.judges.specs.declared.ChainAnswer.{ChainAnswer}
 use Rattle.judges.specs.declared.ChainAnswer.the-variants as chain
+use Rattle.judges.specs.declared.ClassAnswer.{ClassAnswer}
+use Rattle.judges.specs.declared.ClassAnswer.the-variants as class
 use Rattle.judges.specs.declared.LeastAnswer.{LeastAnswer}
 use Rattle.judges.specs.declared.LeastAnswer.the-variants as least
 use Rattle.judges.proofs.Given.{least-proper}
@@ -25,7 +27,7 @@ use Rattle.heaviest.specs.Given.{heaviestGiven, heaviestProper}
 use Rattle.heaviest.specs.declared.HeaviestAnswer.{HeaviestAnswer}
 use Rattle.heaviest.specs.declared.HeaviestAnswer.the-variants as heaviest
 use Rattle.heaviest.proofs.Given.{heaviest-proper}
-use Rattle.judges.proofs.Meaning.{over-means, broken-means}
+use Rattle.judges.proofs.Meaning.{over-means, broken-means, outside-means}
 use Rattle.told.specs.Told.{numbered, told}
 use Rattle.told.specs.declared.Answer.{Answer}
 use Rattle.promises.specs.Numbers.{done, doneWith}
@@ -89,6 +91,21 @@ module _ (s : Site) where
   pub chained-in-c : told (chainGiven (chainAnswer s)) ≡ numbered 0 0 0 0 ↔ chainGiven (chainAnswer s) ≡ done
   unfolding told
   chained-in-c = (chain-in-c (chainAnswer s) refl, ap told)
+
+  class-in-c : (a : ClassAnswer) → classAnswer s ≡ a → told (classGiven a) ≡ numbered 0 0 0 0 → classGiven a ≡ done
+  unfolding told numberIn valueIn
+  class-in-c class.InClass q e = refl
+  class-in-c (class.Outside a b i) q e = let z : a ≡ 0 = ap valueIn e in let o = outside-means s a b i q .1 .3 in absurd (omega arith)
+  class-in-c (class.Refused Fine) q e = refl
+  class-in-c (class.Refused Size) q e = let z : _≡_ {A = ℕ} 1 0 = ap numberIn e in absurd (omega arith)
+  class-in-c (class.Refused (Load k)) q e = let z : _≡_ {A = ℕ} 2 0 = ap numberIn e in absurd (omega arith)
+  class-in-c (class.Refused (Reach k)) q e = let z : _≡_ {A = ℕ} 3 0 = ap numberIn e in absurd (omega arith)
+  class-in-c (class.Refused (Blocked k)) q e = let z : _≡_ {A = ℕ} 20 0 = ap numberIn e in absurd (omega arith)
+
+  -- `dugg_class` gives 0 and 0, 0, 0 exactly where the site is nested
+  pub nested-in-c : told (classGiven (classAnswer s)) ≡ numbered 0 0 0 0 ↔ classGiven (classAnswer s) ≡ done
+  unfolding told
+  nested-in-c = (class-in-c (classAnswer s) refl, ap told)
 
   -- `dugg_least` gives 0 and n, k, 0 exactly where the answer is n and k: how many channel-slots do, and 0 (fewer never do) or 1 (fewer may)
   pub least-in-c : (n k : ℕ) → told (leastGiven (leastAnswer s)) ≡ numbered 0 n k 0 ↔ leastGiven (leastAnswer s) ≡ doneWith (n ∷ k ∷ [])

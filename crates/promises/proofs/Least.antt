@@ -1,5 +1,5 @@
 -- What the desk may sell: the least number of open channel-slots that do, over what the calls say, in the document's numbers.
--- The greatest demand depends on cells, loads and reach alone, so that it is that of every site with the same; and the load test, exact on the chain,
+-- The greatest demand depends on cells, loads and reach alone, so that it is that of every site with the same; and the load test, exact on nested sites,
 -- holds where so many channel-slots are open. Assumes nothing.
 use mathlib.Core.Path.{_≡_, refl, _∙_}
 use mathlib.Core.List.{List, [], _∷_}
@@ -8,7 +8,7 @@ use Prim.Native.Nat.{ℕ, _*_, _≤_, _<_}
 use native.Mathlib.Omega.{arith}
 use native.Mathlib.Nat.{le-refl, mul-comm}
 use lib.ListN.{replicate, length-replicate}
-use Rattle.theory.specs.Net.{Chained}
+use Rattle.theory.specs.Net.{Class}
 use Rattle.theory.specs.Verdict.{mostDemand}
 use Rattle.theory.proofs.LoadLaws.{most-demand-test}
 use Rattle.site.specs.Record.{positions, size}
@@ -18,8 +18,8 @@ use Rattle.site.proofs.Accepted.{net-open}
 use Rattle.site.proofs.Faults.{fine-sized}
 use Rattle.planner.specs.Plan.{planAnswer}
 use Rattle.planner.specs.Given.{planGiven}
-use Rattle.judges.specs.Judges.{counted, loadAnswer, chainAnswer, leastAnswer}
-use Rattle.judges.specs.Given.{loadGiven, chainGiven, leastGiven}
+use Rattle.judges.specs.Judges.{counted, loadAnswer, classAnswer, leastAnswer}
+use Rattle.judges.specs.Given.{loadGiven, classGiven, leastGiven}
 use Rattle.judges.proofs.Meaning.{least-means, enough-means}
 use Rattle.say_why.specs.Said.{fewest}
 use Rattle.site.specs.Alike.{Alike}
@@ -30,14 +30,14 @@ use Rattle.checker.specs.Given.{checkGiven}
 use Rattle.promises.specs.Numbers.{done, doneWith}
 use Rattle.promises.specs.Demands.{Accepted, LongEnough, openPositions, Easier}
 use Rattle.promises.proofs.Numbers.{accepted-number, least-number, enough-number}
-use Rattle.promises.proofs.Demand2.{load-is-C1, judge-is-chained}
-use Rattle.promises.proofs.Demand3.{demand-three-calls, chained-exact, holds-plans}
+use Rattle.promises.proofs.Demand2.{load-is-C1, judge-is-nested}
+use Rattle.promises.proofs.Demand3.{demand-three-calls, nested-exact, holds-plans}
 
 -- ---- sites with the same cells, loads and reach
 
 module _ (other site : Site) (alike : Alike other site) where
-  same-chain : Chained (netOf site) (counted site) → Chained (netOf other) (counted other)
-  same-chain h = rw (alike .same-cells, alike .same-loads, alike .same-reach) h
+  same-class : Class (netOf site) (counted site) → Class (netOf other) (counted other)
+  same-class h = rw (alike .same-cells, alike .same-loads, alike .same-reach) h
 
   -- the load test of the other holds exactly where it has as many open channel-slots as the greatest demand
   room-test : (n : ℕ) → mostDemand (netOf site) (counted site) ≡ n → Accepted other → n ≤ openPositions other ↔ loadGiven (loadAnswer other) ≡ done
@@ -49,30 +49,30 @@ module _ (other site : Site) (alike : Alike other site) where
         λ h. omega (arith, t .1 (load-is-C1 other .0 h .1)),
       )
 
--- ---- a chained site
+-- ---- a nested site
 
--- the least number is answered exactly on a chained site
-pub least-where : (s : Site) → chainGiven (chainAnswer s) ≡ done ↔ ((n : ℕ) × (leastGiven (leastAnswer s) ≡ doneWith (n ∷ 0 ∷ [])))
+-- the least number is answered exactly on a nested site
+pub least-where : (s : Site) → classGiven (classAnswer s) ≡ done ↔ ((n : ℕ) × (leastGiven (leastAnswer s) ≡ doneWith (n ∷ 0 ∷ [])))
 least-where s = (
   λ e.
-      let c = judge-is-chained s .0 e in
+      let c = judge-is-nested s .0 e in
       let n = mostDemand (netOf s) (counted s) in
       (n, least-number s n .1 (least-means s n .1 (accepted-number s .0 (c .0), c .1, refl))),
   λ w.
       let m = least-means s (w .0) .0 (least-number s (w .0) .0 (w .1)) in
-      judge-is-chained s .1 (accepted-number s .1 (m .0), m .1),
+      judge-is-nested s .1 (accepted-number s .1 (m .0), m .1),
 )
 
 module _ (site : Site) (n : ℕ) (e : leastGiven (leastAnswer site) ≡ doneWith (n ∷ 0 ∷ [])) (other : Site) (ok : Accepted other) (alike : Alike other site) where
-  chained-too : chainGiven (chainAnswer other) ≡ done
-  chained-too = judge-is-chained other .1 (ok, same-chain other site alike (least-means site n .0 (least-number site n .0 e) .1))
+  nested-too : classGiven (classAnswer other) ≡ done
+  nested-too = judge-is-nested other .1 (ok, same-class other site alike (least-means site n .0 (least-number site n .0 e) .1))
 
-  -- on a chained site: a site with the same cells, loads and reach is planned exactly when its open channel-slots are at least that many
+  -- on a nested site: a site with the same cells, loads and reach is planned exactly when its open channel-slots are at least that many
   pub least-exact : (lent : List ℕ) → LongEnough other lent → planGiven (planAnswer other lent) ≡ done ↔ n ≤ openPositions other
   least-exact lent long =
       let m = least-means site n .0 (least-number site n .0 e) in
       let t = room-test other site alike n (m .2) ok in
-      let x = chained-exact other chained-too lent long in
+      let x = nested-exact other nested-too lent long in
       (λ h. t .1 (x .1 h), λ h. x .0 (t .0 h))
 
   -- and so, where nothing is blocked, the least slots: with its channels, the slots that it takes
@@ -105,11 +105,11 @@ module _ (site : Site) (n : ℕ) (e : leastGiven (leastAnswer site) ≡ doneWith
       } in
       let lent : List ℕ = replicate (size other) 0 in
       let long : LongEnough other lent = omega (arith, length-replicate {A = ℕ} (size other) 0) in
-      omega (arith, least-exact lent long .0 (demand-three-calls other other same chained-too any v lent long))
+      omega (arith, least-exact lent long .0 (demand-three-calls other other same nested-too any v lent long))
 
--- ---- a site that is not chained
+-- ---- a site that is not nested
 
--- so many are enough; on the chain `least-exact` says more
+-- so many are enough; on a nested site `least-exact` says more
 pub enough-plans : (site : Site) (n : ℕ) → leastGiven (leastAnswer site) ≡ doneWith (n ∷ 1 ∷ []) → (other : Site) → Accepted other → Alike other site
     → n ≤ openPositions other
     → (lent : List ℕ) → LongEnough other lent → planGiven (planAnswer other lent) ≡ done

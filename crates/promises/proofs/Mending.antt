@@ -20,15 +20,14 @@ use Rattle.theory.specs.Net.{taken, free}
 use Rattle.theory.specs.Greedy.{reserved}
 use Rattle.theory.specs.Named.{Fails}
 use Rattle.theory.proofs.Run.{is-planned}
-use Rattle.theory.proofs.Exact.{chained-class, covers-loaded}
+use Rattle.theory.proofs.Exact.{covers-loaded}
 use Rattle.site.specs.Record.{positions, size, loadAt, faultOf, isFine}
 use Rattle.site.specs.Reach.{isOpen, netOf}
 use Rattle.site.specs.declared.Site.{Site}
 use Rattle.site.specs.declared.Fault.{Fault}
 use Rattle.site.specs.Given.{faultGiven}
-use Rattle.judges.specs.Judges.{counted, loadAnswer, chainAnswer}
-use Rattle.judges.specs.Given.{loadGiven, chainGiven}
-use Rattle.judges.proofs.Meaning.{chained-means}
+use Rattle.judges.specs.Judges.{counted, loadAnswer, chainAnswer, classAnswer}
+use Rattle.judges.specs.Given.{loadGiven, chainGiven, classGiven}
 use Rattle.checker.specs.Check.{checkAnswer}
 use Rattle.checker.specs.Given.{checkGiven}
 use Rattle.mending.specs.Mend.{stand, overlay}
@@ -47,8 +46,9 @@ use Rattle.say_changes.specs.Said.{changesSaid, allSaid}
 use Rattle.say_changes.proofs.Said.{said-all}
 use Rattle.promises.specs.Numbers.{done, doneWith, refused}
 use Rattle.promises.specs.Demands.{Accepted, LongEnough}
-use Rattle.promises.proofs.Numbers.{accepted-number, chain-number}
-use Rattle.promises.proofs.Demand2.{check-is-valid, load-is-C1}
+use Rattle.promises.proofs.Numbers.{accepted-number}
+use Rattle.promises.proofs.Demand2.{check-is-valid, load-is-C1, judge-is-nested}
+use Rattle.promises.proofs.Demand3.{chained-nested}
 
 no-more : (b : Bool) → not b ≡ true → b ≡ false
 no-more true e = sym e
@@ -92,15 +92,19 @@ module _ (s : Site) (u l : List ℕ) where
         d .list ∙ ap (λ t. sets l 0 (changes (reserved (positions s) t) (reserved (positions s) u) (positions s) (s .cells))) same ∙ ap (sets l 0) (r .none),
       )
 
-  -- "and on a chained site only then"
-  pub mended-only : chainGiven (chainAnswer s) ≡ done → (n : ℕ) → MendedBy n → loadGiven (loadAnswer s) ≡ done
+  -- on a nested site only then
+  pub mended-only : classGiven (classAnswer s) ≡ done → (n : ℕ) → MendedBy n → loadGiven (loadAnswer s) ≡ done
   mended-only e n m =
       let d = went n m in
-      let c = chained-means s .0 (chain-number s .0 e) in
+      let c = judge-is-nested s .0 e in
       load-is-C1 s .1 (
         accepted-number s .1 (d .fine),
-        rule.mends-test (netOf s) u (counted s) (covers-loaded (netOf s)) (chained-class (netOf s) (counted s) (c .1)) (d .stands) (d .mends),
+        rule.mends-test (netOf s) u (counted s) (covers-loaded (netOf s)) (c .1) (d .stands) (d .mends),
       )
+
+  -- "and on a chained site only then"
+  pub mended-chained : chainGiven (chainAnswer s) ≡ done → (n : ℕ) → MendedBy n → loadGiven (loadAnswer s) ≡ done
+  mended-chained e = mended-only (chained-nested s e)
 
   -- "all, 5 too, leave table and list untouched"
   pub refused-untouched : (mendGiven (mendAnswer s u l) .number ≡ 0 → ⊥) → (mendTable s u l ≡ u) × (mendList s u l ≡ l)

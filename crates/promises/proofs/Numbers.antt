@@ -19,12 +19,13 @@ use Rattle.checker.specs.Check.{checkAnswer}
 use Rattle.checker.specs.Given.{checkGiven}
 use Rattle.checker.specs.declared.CheckAnswer.the-variants as checker
 use Rattle.checker.proofs.Given.{check-apart, check-proper}
-use Rattle.judges.specs.Judges.{loadAnswer, chainAnswer, leastAnswer}
-use Rattle.judges.specs.Given.{loadGiven, chainGiven, leastGiven}
+use Rattle.judges.specs.Judges.{loadAnswer, chainAnswer, classAnswer, leastAnswer}
+use Rattle.judges.specs.Given.{loadGiven, chainGiven, classGiven, leastGiven}
 use Rattle.judges.specs.declared.LoadAnswer.the-variants as load
 use Rattle.judges.specs.declared.ChainAnswer.the-variants as chain
+use Rattle.judges.specs.declared.ClassAnswer.the-variants as class
 use Rattle.judges.specs.declared.LeastAnswer.the-variants as least
-use Rattle.judges.proofs.Given.{load-apart, load-proper, chain-apart, chain-proper, least-apart, least-proper}
+use Rattle.judges.proofs.Given.{load-apart, load-proper, chain-apart, chain-proper, class-apart, class-proper, least-apart, least-proper}
 use Rattle.heaviest.specs.Sets.{heaviestOf}
 use Rattle.heaviest.specs.Given.{heaviestGiven}
 use Rattle.heaviest.specs.declared.HeaviestAnswer.the-variants as heaviest
@@ -70,6 +71,12 @@ chain-number s = (chain-apart (chainAnswer s) chain.Chained (chain-proper s) ref
 
 pub broken-number : (s : Site) (a b c : ℕ) → chainGiven (chainAnswer s) ≡ doneWith (a ∷ b ∷ c ∷ []) → chainAnswer s ≡ chain.Broken a b c
 broken-number s a b c = chain-apart (chainAnswer s) (chain.Broken a b c) (chain-proper s) refl
+
+pub class-number : (s : Site) → classGiven (classAnswer s) ≡ done ↔ classAnswer s ≡ class.InClass
+class-number s = (class-apart (classAnswer s) class.InClass (class-proper s) refl, ap classGiven)
+
+pub outside-number : (s : Site) (a b i : ℕ) → classGiven (classAnswer s) ≡ doneWith (a ∷ b ∷ i ∷ []) → classAnswer s ≡ class.Outside a b i
+outside-number s a b i = class-apart (classAnswer s) (class.Outside a b i) (class-proper s) refl
 
 pub least-number : (s : Site) (n : ℕ) → leastGiven (leastAnswer s) ≡ doneWith (n ∷ 0 ∷ []) ↔ leastAnswer s ≡ least.Least n
 least-number s n = (least-apart (leastAnswer s) (least.Least n) (least-proper s) refl, ap leastGiven)

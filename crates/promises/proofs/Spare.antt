@@ -1,4 +1,4 @@
--- W2: a spare cell numbered in at any place changes neither verdict, over what the calls say: the same cells are named, by their new numbers. The problem that
+-- W2: a spare cell numbered in at any place changes no verdict, over what the calls say: the same cells are named, by their new numbers. The problem that
 -- the new site states is the old one with a spare cell put in, of which the theory knows this.
 -- Assumes nothing.
 use Prim.Native.Nat.{ℕ, _+_, _-_, _≤_, _<_}
@@ -10,9 +10,10 @@ use native.Mathlib.Omega.{arith}
 use borrow.Author.Tests.{le-leb, lt-leb, eq-eqb, eqb-true, ltb-true, ltb-false}
 use lib.Dec.{ltb}
 use Rattle.laws.proofs.Choice.{cases, alike}
-use Rattle.theory.specs.Spare.{past, SparePut, loadPast, chainPast}
+use Rattle.theory.specs.Spare.{past, SparePut, loadPast, chainPast, classPast}
 use Rattle.theory.specs.Verdict.{LoadVerdict, holds, over, loadVerdict, mostDemand, ChainVerdict, chained, broken, chainVerdict}
-use Rattle.theory.proofs.Spare.{past-below, past-above, past-one, load-past, most-past, chain-past}
+use Rattle.theory.specs.Verdict.{ClassVerdict, inClass, outside, classVerdict}
+use Rattle.theory.proofs.Spare.{past-below, past-above, past-one, load-past, most-past, chain-past, class-past}
 use Rattle.site.specs.Given.{faultGiven}
 use Rattle.site.specs.Record.{loadAt, faultOf}
 use Rattle.site.specs.Reach.{reaches, clashIn, clashOf, netOf}
@@ -20,12 +21,12 @@ use Rattle.site.specs.declared.Site.{Site}
 use Rattle.site.specs.declared.Fault.the-variants.{Fine, Size}
 use Rattle.site.proofs.Accepted.{net-open}
 use Rattle.site.proofs.Means.{fault-only}
-use Rattle.judges.specs.Judges.{counted, loadOf, loadAnswer, chainOf, chainAnswer, leastOf, leastAnswer}
-use Rattle.judges.specs.Given.{loadGiven, chainGiven, leastGiven}
-use Rattle.judges.proofs.Meaning.{load-fine, chain-fine}
+use Rattle.judges.specs.Judges.{counted, loadOf, loadAnswer, chainOf, chainAnswer, classOf, classAnswer, leastOf, leastAnswer}
+use Rattle.judges.specs.Given.{loadGiven, chainGiven, classGiven, leastGiven}
+use Rattle.judges.proofs.Meaning.{load-fine, chain-fine, class-fine}
 use Rattle.promises.specs.Numbers.{doneWith, refused}
 use Rattle.promises.specs.Demands.{Accepted}
-use Rattle.promises.specs.Spare.{moved, SpareIn, loadMoved, chainMoved}
+use Rattle.promises.specs.Spare.{moved, SpareIn, loadMoved, chainMoved, classMoved}
 use Rattle.promises.proofs.Numbers.{accepted-number, over-number, broken-number}
 use Rattle.promises.proofs.Names.{over-names, triple-names}
 
@@ -78,9 +79,13 @@ chain-of : (p : ℕ) (v : ChainVerdict) → chainOf (chainPast p v) ≡ chainMov
 chain-of p chained = refl
 chain-of p (broken a b c) = rw (moved-past p a, moved-past p b, moved-past p c)
 
-least-of : (p n : ℕ) (v : ChainVerdict) → leastOf (chainPast p v) n ≡ leastOf v n
-least-of p n chained = refl
-least-of p n (broken a b c) = refl
+class-of : (p : ℕ) (v : ClassVerdict) → classOf (classPast p v) ≡ classMoved p (classOf v)
+class-of p inClass = refl
+class-of p (outside a b i) = rw (moved-past p a, moved-past p b, moved-past p i)
+
+least-of : (p n : ℕ) (v : ClassVerdict) → leastOf (classPast p v) n ≡ leastOf v n
+least-of p n inClass = refl
+least-of p n (outside a b i) = refl
 
 module _ (p : ℕ) (s t : Site) (put : SpareIn p s t) (accepted : Accepted s) (accepted' : Accepted t) where
   abbrev ok : faultOf s ≡ Fine
@@ -89,7 +94,7 @@ module _ (p : ℕ) (s t : Site) (put : SpareIn p s t) (accepted : Accepted s) (a
   abbrev ok' : faultOf t ≡ Fine
   ok' = accepted-number t .0 accepted'
 
-  -- neither verdict changes: the same cells are named, by their new numbers
+  -- no verdict changes: the same cells are named, by their new numbers
   pub spare-load : loadGiven (loadAnswer t) ≡ loadGiven (loadMoved p (loadAnswer s))
   spare-load =
       ap loadGiven
@@ -102,13 +107,19 @@ module _ (p : ℕ) (s t : Site) (put : SpareIn p s t) (accepted : Accepted s) (a
       (chain-fine t ok' ∙ ap chainOf (chain-past p (netOf s) (netOf t) (put-in p s t put)) ∙ chain-of p (chainVerdict (netOf s) (counted s))
       ∙ ap (chainMoved p) (sym (chain-fine s ok)))
 
+  pub spare-class : classGiven (classAnswer t) ≡ classGiven (classMoved p (classAnswer s))
+  spare-class =
+      ap classGiven
+      (class-fine t ok' ∙ ap classOf (class-past p (netOf s) (netOf t) (put-in p s t put)) ∙ class-of p (classVerdict (netOf s) (counted s))
+      ∙ ap (classMoved p) (sym (class-fine s ok)))
+
   -- nor does the number of channel-slots that do
   pub spare-least : leastGiven (leastAnswer t) ≡ leastGiven (leastAnswer s)
   unfolding leastAnswer
   spare-least =
       let in' = put-in p s t put in
-      rw (ok, ok', chain-past p (netOf s) (netOf t) in', most-past p (netOf s) (netOf t) in')
-      (ap leastGiven (least-of p (mostDemand (netOf s) (counted s)) (chainVerdict (netOf s) (counted s))))
+      rw (ok, ok', class-past p (netOf s) (netOf t) in', most-past p (netOf s) (netOf t) in')
+      (ap leastGiven (least-of p (mostDemand (netOf s) (counted s)) (classVerdict (netOf s) (counted s))))
 
   -- a cell keeps its load
   keeps : (i : ℕ) → i < s .cells → (cell : ℕ) → cell ≡ i + 1 → loadAt t (moved p cell - 1) ≡ loadAt s (cell - 1)

@@ -25,8 +25,8 @@ use Rattle.site.specs.declared.Fault.the-variants.{Fine, Size, Load, Reach, Blo
 use Rattle.words.specs.Words.{wordAt, wordsOf, outWords}
 use Rattle.planner.specs.Plan.{planAnswer, planTable}
 use Rattle.planner.specs.Given.{planGiven}
-use Rattle.judges.specs.Judges.{chainAnswer}
-use Rattle.judges.specs.Given.{chainGiven}
+use Rattle.judges.specs.Judges.{classAnswer}
+use Rattle.judges.specs.Given.{classGiven}
 use Rattle.checker.specs.Check.{checkAnswer}
 use Rattle.checker.specs.Given.{checkGiven}
 use Rattle.checker.specs.declared.CheckAnswer.{CheckAnswer}
@@ -228,11 +228,11 @@ pub room-for : (s : Site) → LongEnough s (replicate (size s) 0)
 room-for s = le-of-eq (sym (length-replicate (size s) 0))
 
 -- "Demand 3 is then inherited": the word checker says "valid" of some words for the first site, and the word planner is done for the second
-pub demand-three-words : (first second : Site) → Easier second first → chainGiven (chainAnswer second) ≡ done
+pub demand-three-words : (first second : Site) → Easier second first → classGiven (classAnswer second) ≡ done
     → (found : List ℕ) → checkGiven (checkWordsAnswer first found) ≡ done
     → (lent : List ℕ) → WordsEnough second lent → planGiven (planWordsAnswer second lent) ≡ done
-demand-three-words first second easier ch found ok lent enough =
+demand-three-words first second easier nested found ok lent enough =
     plan-words-same second lent (replicate (size second) 0) enough (room-for second) .0
-    ∙ demand-three-calls first second easier ch (toBytes first found (replicate (size first) 0))
+    ∙ demand-three-calls first second easier nested (toBytes first found (replicate (size first) 0))
     (sym (check-words-same first found (replicate (size first) 0) (valid-enough first found ok) (room-for first) .0) ∙ ok)
     (replicate (size second) 0) (room-for second)

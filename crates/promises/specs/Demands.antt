@@ -54,6 +54,17 @@ abbrev pub ChainedSite : Site → Type 0
 ChainedSite s =
     (a b c : ℕ) → a < b → b < c → c < s .cells → 0 < loadAt s a → 0 < loadAt s b → 0 < loadAt s c → clashOf s a c ≡ true → clashOf s a b ≡ true
 
+-- W9, the cells that the class is about: a is one of cell i's "loaded, lower-numbered clashing cells"
+pub record LowerClashing (s : Site) (i a : ℕ) : Type 0 where
+  pub below : a < i
+  pub loaded : 0 < loadAt s a
+  pub clashes : clashOf s a i ≡ true
+
+-- W9: "every loaded cell's loaded, lower-numbered clashing cells clash with one another." A site in this class is called nested.
+abbrev pub NestedSite : Site → Type 0
+NestedSite s = (i : ℕ) → i < s .cells → 0 < loadAt s i
+    → (a b : ℕ) → LowerClashing s i a → LowerClashing s i b → (a ≡ b → ⊥) → clashOf s a b ≡ true
+
 -- "for each cell, its load plus the loads of its lower-numbered clashing cells is at most N (000, claim C1)." W2: "the load test skips cells with load 0".
 abbrev pub ClaimOne : Site → Type 0
 ClaimOne s = (i : ℕ) → i < s .cells → 0 < loadAt s i → loadAt s i + sum (λ j. pick (clashOf s j i) (loadAt s j) 0) i ≤ openPositions s

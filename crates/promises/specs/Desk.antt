@@ -1,6 +1,6 @@
 -- The desk examples P1 to P12 of document 01, and sites with a spare cell for W2, as site records, and what each is said to come to, in numbers; for W6 words,
--- for W7 mended tables, for W8 sites with blocked positions. "Loads are listed by cell. .. where no file gives the reach, the lower cell reaches the higher.
--- Where only N is given, T=N and F=1." Proved in proofs/Desk.antt, in one theorem.
+-- for W7 mended tables, for W8 sites with blocked positions, for W9 a side drift. "Loads are listed by cell. .. where no file gives the reach, the lower cell
+-- reaches the higher. Where only N is given, T=N and F=1." Proved in proofs/Desk.antt, in one theorem.
 use mathlib.Core.List.{List, [], _∷_, _++_, map}
 use mathlib.Core.Path.{_≡_}
 use Prim.Native.Nat.{ℕ, zero, suc, _+_}
@@ -10,8 +10,8 @@ use Rattle.site.specs.Given.{Given}
 use Rattle.site.specs.declared.Site.{Site}
 use Rattle.planner.specs.Plan.{planAnswer, planTable}
 use Rattle.planner.specs.Given.{planGiven}
-use Rattle.judges.specs.Judges.{loadAnswer, chainAnswer, leastAnswer}
-use Rattle.judges.specs.Given.{loadGiven, chainGiven, leastGiven}
+use Rattle.judges.specs.Judges.{loadAnswer, chainAnswer, classAnswer, leastAnswer}
+use Rattle.judges.specs.Given.{loadGiven, chainGiven, classGiven, leastGiven}
 use Rattle.heaviest.specs.Sets.{heaviestOf}
 use Rattle.heaviest.specs.Given.{heaviestGiven}
 use Rattle.checker.specs.Check.{checkAnswer}
@@ -62,6 +62,10 @@ spareFirst = siteWith 2 1 (0 ∷ 1 ∷ 1 ∷ []) (4 ∷ [])
 
 abbrev pub P4 : Site
 P4 = siteWith 2 1 (1 ∷ 1 ∷ 1 ∷ 1 ∷ []) (4 ∷ 8 ∷ 8 ∷ [])
+
+-- W9: a side drift. Cells 1, 2 and 3 stand in the tunnel, and cell 4 in a drift that leaves it at cell 1: 1~2, 2~3, 1~4
+abbrev pub sideDriftSite : Site
+sideDriftSite = siteWith 2 1 (1 ∷ 1 ∷ 1 ∷ 1 ∷ []) (10 ∷ 4 ∷ [])
 
 abbrev pub P6 : Site
 P6 = siteWith 2 1 (1 ∷ 1 ∷ 1 ∷ 1 ∷ 1 ∷ []) (8 ∷ 4 ∷ 16 ∷ 16 ∷ [])
@@ -114,6 +118,9 @@ loadCall s = gives (loadGiven (loadAnswer s))
 
 abbrev pub chainCall : Site → Reply
 chainCall s = gives (chainGiven (chainAnswer s))
+
+abbrev pub classCall : Site → Reply
+classCall s = gives (classGiven (classAnswer s))
 
 abbrev pub leastCall : Site → Reply
 leastCall s = gives (leastGiven (leastAnswer s))
@@ -180,19 +187,19 @@ deskRules =
     ∷ planCall P3spare ⇒ leaves done (1 ∷ 1 ∷ 1 ∷ 0 ∷ 2 ∷ 2 ∷ 9 ∷ [])
     ∷ chainCall P3spare ⇒ gives done
     ∷ loadCall P3spare ⇒ gives done
-    -- P4: refusal 5, cell 4, short 1; and off the chain: load over 4 by 1, not chained 1 2 3
+    -- P4: refusal 5, cell 4, short 1; and besides: load over 4 by 1, not chained 1 2 3
     ∷ planCall P4 ⇒ leaves (refused 5 (4 ∷ 1 ∷ [])) (allIdle P4)
     ∷ loadCall P4 ⇒ gives (doneWith (4 ∷ 1 ∷ []))
     ∷ chainCall P4 ⇒ gives (doneWith (1 ∷ 2 ∷ 3 ∷ []))
     -- P5: P4 with table 10, 01, 01, 10: valid
     ∷ checkCall P4 (1 ∷ 0 ∷ 0 ∷ 1 ∷ 0 ∷ 1 ∷ 1 ∷ 0 ∷ []) ⇒ gives done
-    -- P6: planned; cell 5 at position 0; and off the chain: load over 5 by 1, not chained 1 2 4
+    -- P6: planned; cell 5 at position 0; and besides: load over 5 by 1, not chained 1 2 4
     ∷ planCall P6 ⇒ leaves done (1 ∷ 0 ∷ 1 ∷ 0 ∷ 2 ∷ 1 ∷ 2 ∷ 1 ∷ 1 ∷ 2 ∷ 9 ∷ [])
     ∷ loadCall P6 ⇒ gives (doneWith (5 ∷ 1 ∷ []))
     ∷ chainCall P6 ⇒ gives (doneWith (1 ∷ 2 ∷ 4 ∷ []))
     -- P7: P6 with load 0 in cell 2: refusal 5, cell 5, short 1
     ∷ planCall P7 ⇒ leaves (refused 5 (5 ∷ 1 ∷ [])) (allIdle P7)
-    -- and off the chain: load over 5 by 1; not chained 1 3 4, since cell 2 is spare. Before W2: 1 2 4
+    -- and besides: load over 5 by 1; not chained 1 3 4, since cell 2 is spare. Before W2: 1 2 4
     ∷ loadCall P7 ⇒ gives (doneWith (5 ∷ 1 ∷ []))
     ∷ chainCall P7 ⇒ gives (doneWith (1 ∷ 3 ∷ 4 ∷ []))
     -- P8: P1, rows 111110, 000001, 111110: refusal 7, cell 3, count 5
@@ -209,16 +216,36 @@ deskRules =
 abbrev pub deskLeast : List DeskLine
 deskLeast =
     -- how many channel-slots do: P1 has 6 and needs them all, its spare cell asks nothing; P2 needs 7;
-    -- 3 are enough for P3, which is not chained, and it is planned with 2
+    -- 3 are enough for P3, which is not nested, and it is planned with 2
     leastCall P1 ⇒ gives (doneWith (6 ∷ 0 ∷ []))
     ∷ leastCall P1spare ⇒ gives (doneWith (6 ∷ 0 ∷ []))
     ∷ leastCall P2 ⇒ gives (doneWith (7 ∷ 0 ∷ []))
     ∷ leastCall P3 ⇒ gives (doneWith (3 ∷ 1 ∷ []))
-    -- off the chain it is the greatest demand, and not all loads, which come to 5 and 4: cell 5 of P6 and of P7 asks for its own and those of cells 3 and 4
+    -- where a site is not nested it is the greatest demand, and not all loads, which come to 5 and 4: cell 5 of P6 and of P7 asks for its own and those of
+    -- cells 3 and 4
     ∷ leastCall P6 ⇒ gives (doneWith (3 ∷ 1 ∷ []))
     ∷ leastCall P7 ⇒ gives (doneWith (3 ∷ 1 ∷ []))
     -- W2, a spare as a: cells 1 and 3 clash and 2 clashes with neither, but cell 1 has load 0: chained.
     ∷ chainCall spareFirst ⇒ gives done
+    ∷ []
+
+-- W9: the class of nested sites
+abbrev pub deskNested : List DeskLine
+deskNested =
+    -- a side drift: cells 1 and 4 clash, and cell 3 between them does not clash with cell 1, so not chained 1 3 4. No cell has two lower clashing cells, so
+    -- nested: 2 channel-slots do and fewer never do, the load test holds, and it is planned 10, 21, 12, 21
+    chainCall sideDriftSite ⇒ gives (doneWith (1 ∷ 3 ∷ 4 ∷ []))
+    ∷ classCall sideDriftSite ⇒ gives done
+    ∷ leastCall sideDriftSite ⇒ gives (doneWith (2 ∷ 0 ∷ []))
+    ∷ loadCall sideDriftSite ⇒ gives done
+    ∷ planCall sideDriftSite ⇒ leaves done (1 ∷ 0 ∷ 2 ∷ 1 ∷ 1 ∷ 2 ∷ 2 ∷ 1 ∷ 9 ∷ [])
+    -- P1 is chained, and so nested. "The three-cell star with its centre last stays outside": it is P3. P4: cells 2 and 3 clash with cell 4, and not with
+    -- one another
+    ∷ classCall P1 ⇒ gives done
+    ∷ classCall P3 ⇒ gives (doneWith (1 ∷ 2 ∷ 3 ∷ []))
+    ∷ classCall P4 ⇒ gives (doneWith (2 ∷ 3 ∷ 4 ∷ []))
+    -- P3 with a spare centre is chained, and so nested
+    ∷ classCall P3spare ⇒ gives done
     ∷ []
 
 -- W6: the second table form
@@ -308,7 +335,7 @@ deskHeaviest =
 
 -- all of them: one table
 abbrev pub deskTable : List DeskLine
-deskTable = deskRules ++ (deskLeast ++ (deskWords ++ (deskMended ++ (deskBlocked ++ deskHeaviest))))
+deskTable = deskRules ++ (deskLeast ++ (deskNested ++ (deskWords ++ (deskMended ++ (deskBlocked ++ deskHeaviest)))))
 
 -- what is asked is answered as the table says, line by line
 abbrev pub Answered : List DeskLine → Type 0

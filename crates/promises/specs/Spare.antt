@@ -12,6 +12,8 @@ use Rattle.judges.specs.declared.LoadAnswer.{LoadAnswer}
 use Rattle.judges.specs.declared.LoadAnswer.the-variants as load
 use Rattle.judges.specs.declared.ChainAnswer.{ChainAnswer}
 use Rattle.judges.specs.declared.ChainAnswer.the-variants as chain
+use Rattle.judges.specs.declared.ClassAnswer.{ClassAnswer}
+use Rattle.judges.specs.declared.ClassAnswer.the-variants as class
 
 -- the number of a cell then: the cells after it move up by one
 unfoldable pub moved : ℕ → ℕ → ℕ
@@ -29,7 +31,7 @@ pub record SpareIn (p : ℕ) (s t : Site) : Type 0 where
   pub same-load : (cell : ℕ) → UpTo (s .cells) cell → loadAt t (moved p cell - 1) ≡ loadAt s (cell - 1)
   pub same-reach : (from to : ℕ) → UpTo (s .cells) from → UpTo (s .cells) to → Reaches t (moved p from) (moved p to) ↔ Reaches s from to
 
--- an answer of the load test, and of the chain judge, with the cells that it names by their new numbers
+-- an answer of the load test, and of the two judges, with the cells that it names by their new numbers
 abbrev pub loadMoved : ℕ → LoadAnswer → LoadAnswer
 loadMoved p load.Holds = load.Holds
 loadMoved p (load.Over cell m) = load.Over (moved p cell) m
@@ -39,3 +41,8 @@ abbrev pub chainMoved : ℕ → ChainAnswer → ChainAnswer
 chainMoved p chain.Chained = chain.Chained
 chainMoved p (chain.Broken a b c) = chain.Broken (moved p a) (moved p b) (moved p c)
 chainMoved p (chain.Refused f) = chain.Refused f
+
+abbrev pub classMoved : ℕ → ClassAnswer → ClassAnswer
+classMoved p class.InClass = class.InClass
+classMoved p (class.Outside a b i) = class.Outside (moved p a) (moved p b) (moved p i)
+classMoved p (class.Refused f) = class.Refused f

@@ -9,9 +9,10 @@ use Prim.Native.Nat.{ℕ, _≤_}
 use lib.ListN.{length, take, drop}
 use Rattle.site.specs.Record.{size}
 use Rattle.site.specs.declared.Site.{Site}
-use Rattle.judges.specs.Given.{loadGiven, chainGiven}
+use Rattle.judges.specs.Given.{loadGiven, chainGiven, classGiven}
 use Rattle.judges.specs.declared.LoadAnswer.{LoadAnswer}
 use Rattle.judges.specs.declared.ChainAnswer.{ChainAnswer}
+use Rattle.judges.specs.declared.ClassAnswer.{ClassAnswer}
 use Rattle.planner.specs.Plan.{tableOf}
 use Rattle.planner.specs.Given.{planGiven}
 use Rattle.planner.specs.declared.PlanAnswer.{PlanAnswer}
@@ -26,13 +27,13 @@ use Rattle.planfile.specs.Given.{planWrittenGiven}
 use Rattle.planfile.specs.declared.PlanRead.{PlanRead}
 use Rattle.planfile.specs.declared.PlanWritten.{PlanWritten}
 use Rattle.contracts.specs.Every.{EveryCall}
-use Rattle.contracts.specs.JudgesSays.{LoadTest, Chain}
+use Rattle.contracts.specs.JudgesSays.{LoadTest, Chain, InClass}
 use Rattle.contracts.specs.PlannerSays.{Plan}
 use Rattle.contracts.specs.CheckerSays.{Check}
 use Rattle.contracts.specs.SitefileSays.{ReadSite, WriteSite}
 use Rattle.contracts.specs.PlanfileSays.{ReadPlan, WritePlan}
 use Rattle.promises.specs.Numbers.{done, doneWith, runGiven}
-use Rattle.promises.specs.Demands.{Accepted, LongEnough, DefinitionOne, Easier, ChainedSite, ClaimOne, greedySchedule}
+use Rattle.promises.specs.Demands.{Accepted, LongEnough, DefinitionOne, Easier, ChainedSite, NestedSite, ClaimOne, greedySchedule}
 use Rattle.promises.specs.Untouched.{IdleIfNoRoom, Untouched, UntouchedInC}
 
 -- That every function ends, and stays within what it is lent, is the prover's own. That no call of the product asks anything of its caller (a `requires`) is
@@ -75,15 +76,15 @@ pub record DemandTwo : Type 0 where
 
 pub record DemandThree : Type 0 where
   -- With a long enough table: take two accepted sites with the same cells, the second with at least as many channel-slots in all, no greater load in any
-  -- cell, no clash the first lacks, and chained. If any valid plan of the first exists, however found, the planner plans the second.
+  -- cell, no clash the first lacks, and nested, W9's wider class. If any valid plan of the first exists, however found, the planner plans the second.
   -- The first need not even be accepted.
   pub planned-if-any-can : (first second : Site)
-      → Accepted second → Easier second first → ChainedSite second
+      → Accepted second → Easier second first → NestedSite second
       → (found : List ℕ) → DefinitionOne first found
       → (lent left : List ℕ) (answer : PlanAnswer) → LongEnough second lent → Plan second lent answer left
       → (planGiven answer ≡ done) × (DefinitionOne second left)
-  -- On a chained site the load test holds exactly when the planner plans
-  pub chained-exactly : (site : Site) → ChainedSite site
+  -- On a nested site the load test holds exactly when the planner plans
+  pub nested-exactly : (site : Site) → NestedSite site
       → (verdict : LoadAnswer) → LoadTest site verdict
       → (lent left : List ℕ) (answer : PlanAnswer) → LongEnough site lent → Plan site lent answer left
       → loadGiven verdict ≡ done ↔ planGiven answer ≡ done
@@ -91,5 +92,8 @@ pub record DemandThree : Type 0 where
   pub holds-then-planned : (site : Site) (verdict : LoadAnswer) → LoadTest site verdict → loadGiven verdict ≡ done
       → (lent left : List ℕ) (answer : PlanAnswer) → LongEnough site lent → Plan site lent answer left
       → (planGiven answer ≡ done) × (DefinitionOne site left)
-  -- whether a site is chained is what the judge says
+  -- Each chained site is nested, so that all this holds of it
+  pub chained-is-nested : (site : Site) → ChainedSite site → NestedSite site
+  -- whether a site is chained, and whether it is nested, is what the judges say
   pub judge-says : (site : Site) (verdict : ChainAnswer) → Chain site verdict → chainGiven verdict ≡ done ↔ ((Accepted site) × (ChainedSite site))
+  pub class-says : (site : Site) (verdict : ClassAnswer) → InClass site verdict → classGiven verdict ≡ done ↔ ((Accepted site) × (NestedSite site))

@@ -6,7 +6,7 @@ use mathlib.Core.List.{List, [], _∷_}
 use mathlib.Core.Path.{_≡_, refl}
 use Rattle.laws.specs.Search.{firstOf}
 use Rattle.laws.specs.Sum.{sum}
-use Rattle.theory.specs.Verdict.{overloaded, lowestOver, loadVerdict, gap, breaks, breakOf, firstBreak, chainVerdict}
+use Rattle.theory.specs.Verdict.{overloaded, lowestOver, loadVerdict, second, splits, splitOf, firstSplit, classVerdict}
 use Rattle.text.specs.Decimal.{digitsOf, decimal}
 use Rattle.speech.specs.Speech.{bytes, spoken}
 use Rattle.site.specs.Record.{siteOf, upTo, sizeOk, rowBad, extraLoad, badRow, extraBlocked, faultOf}
@@ -18,7 +18,7 @@ use Rattle.flowlist.specs.declared.Flow.{Flow}
 use Rattle.admission.specs.Admit.{badIn, refusedIn, firstBadIn, answerIn}
 use Rattle.say_refusals.specs.Lines.{refusalMeanings, refusalHeads}
 use Rattle.say_refusals.specs.Said.{meaning, refusedLine}
-use Rattle.say_flows.specs.Lines.{admitLines, chainLines}
+use Rattle.say_flows.specs.Lines.{admitLines, nineteenLines}
 use Rattle.say_flows.specs.Said.{listSaid, nineteenSaid, admitSaid}
 
 -- what is said of an admission
@@ -37,16 +37,22 @@ pair f g (suc k) = g
 abbrev near : Site
 near = siteOf 2 16 1 (16 ∷ 16 ∷ []) (2 ∷ []) []
 
--- four spare cells, of which 1 reaches 4
+-- P4's cells without a load, and so spare: 1~3, 2~4, 3~4
 abbrev far : Site
-far = siteOf 4 16 1 [] (8 ∷ []) []
+far = siteOf 4 16 1 [] (4 ∷ 8 ∷ 8 ∷ []) []
 
--- of two flows that do not go together the one that is worth more is taken
+-- a side drift, of which all cells are spare: 1~2, 2~3, 1~4
+abbrev drift : Site
+drift = siteOf 4 16 1 [] (10 ∷ 4 ∷ []) []
+
+-- of two flows that do not go together the one that is worth more is taken; in a drift and in the tunnel past it they do
 taken :
-    said near (pair (flow 1 3 8 1 10) (flow 2 4 8 2 30)) 2 ∷ said near (pair (flow 1 3 8 1 10) (flow 2 4 8 1 30)) 2 ∷ []
+    said near (pair (flow 1 3 8 1 10) (flow 2 4 8 2 30)) 2 ∷ said near (pair (flow 1 3 8 1 10) (flow 2 4 8 1 30)) 2
+    ∷ said drift (pair (flow 3 3 8 1 10) (flow 4 4 8 2 30)) 2 ∷ []
     ≡ bytes "the loads of the site are set aside\nflow 1: cell 1, share 6, value 10, not taken\nflow 2: cell 2, share 16, value 30, taken\nworth 30\n"
-    ∷ bytes "the loads of the site are set aside\nflow 1: cell 1, share 6, value 10, taken\nflow 2: cell 2, share 8, value 30, taken\nworth 40\n" ∷ []
-unfolding firstOf sum overloaded lowestOver loadVerdict gap breaks breakOf firstBreak chainVerdict upTo sizeOk rowBad extraLoad badRow extraBlocked faultOf
+    ∷ bytes "the loads of the site are set aside\nflow 1: cell 1, share 6, value 10, taken\nflow 2: cell 2, share 8, value 30, taken\nworth 40\n"
+    ∷ bytes "the loads of the site are set aside\nflow 1: cell 3, share 6, value 10, taken\nflow 2: cell 4, share 16, value 30, taken\nworth 40\n" ∷ []
+unfolding firstOf sum overloaded lowestOver loadVerdict second splits splitOf firstSplit classVerdict upTo sizeOk rowBad extraLoad badRow extraBlocked faultOf
     reaches clashIn roundedUp shareOf allowed bestOf best badIn refusedIn firstBadIn answerIn admitLines listSaid spoken decimal digitsOf
 taken = refl
 
@@ -61,10 +67,10 @@ refused :
     ∷ bytes "refused 16, flow 2: the flow needs a share above 65,535 fragments in a superframe, its repeats counted\n"
     ∷ bytes "refused 18: more than 16 flows ask to be admitted\n"
     ∷ bytes (
-    "refused 19: the site is not chained when all its cells count, the spare ones too: "
-    ++ "cells 1 and 4 clash, and cell 2 between them does not clash with cell 1\n")
+    "refused 19: the site is not nested when all its cells count, the spare ones too: "
+    ++ "cells 2 and 3 clash with cell 4, and not with one another\n")
     ∷ bytes "refused 3, cell 2: the reach has a cell that reaches itself, or a cell that the site does not have\n"
     ∷ []
-unfolding firstOf sum gap breaks breakOf firstBreak chainVerdict upTo sizeOk rowBad extraLoad badRow extraBlocked faultOf reaches clashIn roundedUp shareOf
-    badIn refusedIn firstBadIn answerIn chainLines nineteenSaid refusalMeanings refusalHeads meaning refusedLine spoken decimal digitsOf
+unfolding firstOf sum second splits splitOf firstSplit classVerdict upTo sizeOk rowBad extraLoad badRow extraBlocked faultOf reaches clashIn roundedUp shareOf
+    badIn refusedIn firstBadIn answerIn nineteenLines nineteenSaid refusalMeanings refusalHeads meaning refusedLine spoken decimal digitsOf
 refused = refl

@@ -1,4 +1,4 @@
 -- The laws of crate `say_flows`, module by module.
 pub mod Flows
-pub mod Broken
+pub mod Outside
 pub mod Example

@@ -12,10 +12,10 @@ admitLines =
     ∷ []
 
 -- a longer one has a table of its own. Up to its second colon it is the sentence of number 19, as crate `say_refusals` has it
-unfoldable pub chainLines : List String
-chainLines =
-    ("refused 19: the site is not chained when all its cells count, the spare ones too: "
-    ++ "cells @1 and @3 clash, and cell @2 between them does not clash with cell @1\n")
+unfoldable pub nineteenLines : List String
+nineteenLines =
+    ("refused 19: the site is not nested when all its cells count, the spare ones too: "
+    ++ "cells @1 and @2 clash with cell @3, and not with one another\n")
     ∷ []
 
 -- ---- the rows by name
@@ -32,5 +32,5 @@ leftRow = 2
 abbrev pub worthRow : ℕ
 worthRow = 3
 
-abbrev pub chainBrokenRow : ℕ
-chainBrokenRow = 0
+abbrev pub nineteenRow : ℕ
+nineteenRow = 0

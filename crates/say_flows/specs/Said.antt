@@ -5,7 +5,7 @@ use mathlib.Core.List.{List, [], _++_}
 use Rattle.laws.specs.Bits.{bitAt}
 use Rattle.laws.specs.Choice.{pick}
 use Rattle.theory.specs.Net.{everyone}
-use Rattle.theory.specs.Verdict.{ChainVerdict, chained, broken, chainVerdict}
+use Rattle.theory.specs.Verdict.{ClassVerdict, inClass, outside, classVerdict}
 use Rattle.site.specs.Record.{faultOf, isFine}
 use Rattle.site.specs.Reach.{netOf}
 use Rattle.site.specs.declared.Site.{Site}
@@ -20,7 +20,7 @@ use Rattle.phrases.specs.declared.Phrase.the-variants.{Row}
 use Rattle.say_refusals.specs.Said.{refusedLine}
 use Rattle.say_refusals.specs.declared.Place.the-variants as place
 use Rattle.say_verdicts.specs.Said.{faultSaid}
-use Rattle.say_flows.specs.Lines.{admitLines, chainLines, asideRow, takenRow, leftRow, worthRow, chainBrokenRow}
+use Rattle.say_flows.specs.Lines.{admitLines, nineteenLines, asideRow, takenRow, leftRow, worthRow, nineteenRow}
 
 -- ---- the flows
 
@@ -40,30 +40,31 @@ listSaid slots set f (suc k) = listSaid slots set f k ++ phrase admitLines (flow
 abbrev pub worthPhrase : (w : ℕ) → Phrase
 worthPhrase w = Row worthRow w 0 0 0
 
--- ---- the chain
+-- ---- the class
 
--- a and c clash, and b between them does not clash with a
-abbrev pub brokenLine : (a b c : ℕ) → List ℕ
-brokenLine a b c = phrase chainLines (Row chainBrokenRow a b c 0)
+-- a and b clash with i, and not with one another
+abbrev pub splitLine : (a b i : ℕ) → List ℕ
+splitLine a b i = phrase nineteenLines (Row nineteenRow a b i 0)
 
--- the first three cells that break the chain, by number
-abbrev pub brokenSaid : ChainVerdict → List ℕ
-brokenSaid (broken a b c) = brokenLine (a + 1) (b + 1) (c + 1)
-brokenSaid chained = refusedLine 19 place.Nowhere
+-- the first three cells that show a site outside the class, by number
+abbrev pub splitSaid : ClassVerdict → List ℕ
+splitSaid (outside a b i) = splitLine (a + 1) (b + 1) (i + 1)
+splitSaid inClass = refusedLine 19 place.Nowhere
 
--- "19 site not chained", where "all cells count as loaded for the chain rule". Of a record at fault, or a chained site, that is never answered: `nineteen-said`
--- in proofs/Broken.antt
+-- W9: "Admission then accepts the class, all cells counted as loaded; refusal 19 is given exactly outside it." Of a record at fault, or a site in the class,
+-- it is never answered: `nineteen-said` in proofs/Outside.antt
 unfoldable pub nineteenSaid : Site → List ℕ
-nineteenSaid s = pick (isFine (faultOf s)) (brokenSaid (chainVerdict (netOf s) everyone)) (refusedLine 19 place.Nowhere)
+nineteenSaid s = pick (isFine (faultOf s)) (splitSaid (classVerdict (netOf s) everyone)) (refusedLine 19 place.Nowhere)
 
 -- ---- the answer
 
--- which flows to take, and their total value; or the refusal: "18 over 16 flows, 19 site not chained, then per flow 2, 15, 16 with the flow's number"
+-- which flows to take, and their total value; or the refusal: "18 over 16 flows, 19 site not chained", W9: not nested, "then per flow 2, 15, 16 with the flow's
+-- number"
 abbrev pub admitSaid : Site → (ℕ → Flow) → ℕ → AdmitAnswer → List ℕ
 admitSaid s f n (admit.Admitted set) =
     phrase admitLines asidePhrase ++ (listSaid (s .slots) set f n ++ phrase admitLines (worthPhrase (worth (flowsAsked (s .slots) f n) set)))
 admitSaid s f n admit.TooMany = refusedLine 18 place.Nowhere
-admitSaid s f n admit.NotChained = nineteenSaid s
+admitSaid s f n admit.NotNested = nineteenSaid s
 admitSaid s f n (admit.BadCell k) = refusedLine 2 (place.Flow k)
 admitSaid s f n (admit.BadFlow k) = refusedLine 15 (place.Flow k)
 admitSaid s f n (admit.BigShare k) = refusedLine 16 (place.Flow k)

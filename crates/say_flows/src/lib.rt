@@ -1,9 +1,9 @@
 // The text of an admission, written into a lent buffer. Each function puts its text at `at` and answers where the next byte goes.
 use admission::AdmitAnswer;
 use admission::share_in;
-use chainwords::break_of;
-use chainwords::first_break;
+use chainwords::first_split;
 use chainwords::gap;
+use chainwords::split_of;
 use flowlist::Flow;
 use flowlist::FlowList;
 use phrases::Phrase;
@@ -25,7 +25,7 @@ ghost use Rattle.admission.specs.declared.AdmitAnswer.the-variants.{Admitted};
 ghost use Rattle.phrases.specs.Put.{Put};
 ghost use Rattle.phrases.specs.Phrases.{phrase};
 ghost use Rattle.say_flows.specs.Lines.{admitLines};
-ghost use Rattle.say_flows.specs.Said.{flowPhrase, listSaid, brokenLine, nineteenSaid, admitSaid};
+ghost use Rattle.say_flows.specs.Said.{flowPhrase, listSaid, splitLine, nineteenSaid, admitSaid};
 
 const ASIDE: usize = 0;
 
@@ -35,7 +35,7 @@ const LEFT: usize = 2;
 
 const WORTH: usize = 3;
 
-const BROKEN: usize = 0;
+const SPLIT: usize = 0;
 
 // Puts a line: a row of the table with its values, or nothing.
 fn put(out: &mut [u8], at: usize, what: Phrase) -> usize
@@ -53,17 +53,17 @@ fn put(out: &mut [u8], at: usize, what: Phrase) -> usize
     )
 }
 
-// A site that is not chained, and the three cells that show it.
-fn put_broken(out: &mut [u8], at: usize, a: usize, b: usize, c: usize) -> usize
+// A site that is not nested, and the three cells that show it.
+fn put_split(out: &mut [u8], at: usize, a: usize, b: usize, i: usize) -> usize
     requires { ⌜ at + 2000 ≤ length (now out) ⌝ }
-    ensures { λ r. ⌜ Put (now (out .entry)) at (brokenLine a b c) 2000 (now (out .exit)) r ⌝ }
+    ensures { λ r. ⌜ Put (now (out .entry)) at (splitLine a b i) 2000 (now (out .exit)) r ⌝ }
 {
     put_phrase(
         out,
         at,
-        b"refused 19: the site is not chained when all its cells count, the spare ones too: \
-          cells @1 and @3 clash, and cell @2 between them does not clash with cell @1\n|",
-        Phrase::Row(BROKEN, a, b, c, 0),
+        b"refused 19: the site is not nested when all its cells count, the spare ones too: \
+          cells @1 and @2 clash with cell @3, and not with one another\n|",
+        Phrase::Row(SPLIT, a, b, i, 0),
     )
 }
 
@@ -142,7 +142,7 @@ fn put_taken(out: &mut [u8], at: usize, site: Site, l: FlowList, count: usize, s
     put(out, middle, Phrase::Row(WORTH, w, 0, 0, 0))
 }
 
-// The first three cells that break the chain of a site when all its cells count, sought anew.
+// The first three cells that show a site outside the class when all its cells count, sought anew.
 fn put_nineteen(out: &mut [u8], at: usize, site: Site) -> usize
     requires { ⌜ at + 2000 ≤ length (now out) ⌝ }
     ensures { λ r. ⌜ Put (now (out .entry)) at (nineteenSaid site) 2000 (now (out .exit)) r ⌝ }
@@ -153,11 +153,11 @@ fn put_nineteen(out: &mut [u8], at: usize, site: Site) -> usize
     };
     let cells = site.cells as usize;
     let clash = site.clash_rows();
-    let a = first_break(&clash, 4294967295, cells);
-    if a < cells {
-        let c = break_of(clash[a], 4294967295, a, cells);
-        let b = gap(clash[a], 4294967295, a, c);
-        return put_broken(out, at, a + 1, b + 1, c + 1);
+    let i = first_split(&clash, 4294967295, cells);
+    if i < cells {
+        let a = split_of(&clash, 4294967295, i);
+        let b = gap(clash[a], 4294967295 & clash[i], a, i);
+        return put_split(out, at, a + 1, b + 1, i + 1);
     }
     say_refusals::put_refused(out, at, 19, Place::Nowhere)
 }
@@ -177,7 +177,7 @@ pub fn put_admit(
     match reply {
         AdmitAnswer::Admitted(set) => put_taken(out, at, site, l, count, set),
         AdmitAnswer::TooMany => say_refusals::put_refused(out, at, 18, Place::Nowhere),
-        AdmitAnswer::NotChained => put_nineteen(out, at, site),
+        AdmitAnswer::NotNested => put_nineteen(out, at, site),
         AdmitAnswer::BadCell(flow) => say_refusals::put_refused(out, at, 2, Place::Flow(flow)),
         AdmitAnswer::BadFlow(flow) => say_refusals::put_refused(out, at, 15, Place::Flow(flow)),
         AdmitAnswer::BigShare(flow) => say_refusals::put_refused(out, at, 16, Place::Flow(flow)),

@@ -42,6 +42,6 @@ flows-said :
     ∷ bytes "refused 16, flow 12: the flow needs a share above 65,535 fragments in a superframe, its repeats counted\n"
     ∷ bytes "refused 17, line 2: the sheet is malformed: a line is not as the format asks, or is missing, or is one too many\n"
     ∷ bytes "refused 18: more than 16 flows ask to be admitted\n"
-    ∷ bytes "refused 19: the site is not chained when all its cells count, the spare ones too\n" ∷ []
+    ∷ bytes "refused 19: the site is not nested when all its cells count, the spare ones too\n" ∷ []
 unfolding refusalMeanings refusalHeads meaning refusedLine spoken decimal digitsOf
 flows-said = refl

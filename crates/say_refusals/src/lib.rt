@@ -81,7 +81,7 @@ fn put_meaning(out: &mut [u8], at: usize, number: usize) -> usize
           the flow needs a share above 65,535 fragments in a superframe, its repeats counted\n|\
           the sheet is malformed: a line is not as the format asks, or is missing, or is one too many\n|\
           more than 16 flows ask to be admitted\n|\
-          the site is not chained when all its cells count, the spare ones too\n|\
+          the site is not nested when all its cells count, the spare ones too\n|\
           a blocked position is one that the site does not have: its slots and channels end before it\n|\
           the record of blocked positions blocks none\n|\
           the call was refused\n|",

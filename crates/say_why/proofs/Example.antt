@@ -1,6 +1,6 @@
 -- What `put_why` prints of small sites, letter by letter: each text was written by hand, and the text is computed. And what the two open sentences
--- leave open: off the chain a load test that fails may go with a plan or with none, and where this order found no room another may find it, or none
--- does. Assumes nothing.
+-- leave open: on a site that is not nested a load test that fails may go with a plan or with none, and where this order found no room another may find
+-- it, or none does. Assumes nothing.
 use mathlib.Core.Path.{_≡_, refl}
 use mathlib.Core.Bool.{Bool, true, false, _||_, _&&_}
 use mathlib.Core.List.{List, [], _∷_, _++_, map}
@@ -17,6 +17,7 @@ use Rattle.laws.specs.Sum.{bit, sum, any}
 use Rattle.theory.specs.Net.{Reserved, Valid}
 use Rattle.theory.specs.Greedy.{forbid, marked, fill, run}
 use Rattle.theory.specs.Verdict.{overloaded, lowestOver, loadVerdict, mostDemand, gap, breaks, breakOf, firstBreak, chainVerdict, secondAt}
+use Rattle.theory.specs.Verdict.{second, splits, splitOf, firstSplit, classVerdict}
 use Rattle.theory.specs.Verdict.{holderAt, barredAt, lowestBarred, openVerdict, clashesAt, firstAt, lowestClash, wrongIn, lowestWrong, tableVerdict}
 use Rattle.theory.proofs.TableLaws.{check-valid}
 use Rattle.admitting.specs.Best.{bestOf}
@@ -24,7 +25,7 @@ use Rattle.site.specs.Record.{siteOf, size, upTo, sizeOk, rowBad, extraLoad, ba
 use Rattle.site.specs.Reach.{reaches, clashIn, netOf}
 use Rattle.site.specs.declared.Site.{Site}
 use Rattle.planner.specs.Plan.{planAnswer}
-use Rattle.judges.specs.Judges.{loadAnswer, chainAnswer, leastAnswer}
+use Rattle.judges.specs.Judges.{loadAnswer, chainAnswer, classAnswer, leastAnswer}
 use Rattle.heaviest.specs.Sets.{mutualIn, heaviestIn, heaviestOf}
 use Rattle.text.specs.Decimal.{digitsOf, decimal}
 use Rattle.blocklist.specs.Format.{listText}
@@ -52,11 +53,11 @@ p1 = siteWith 3 2 (5 ∷ 1 ∷ 4 ∷ []) (0 ∷ 5 ∷ [])
 abbrev pub p2 : Site
 p2 = siteWith 3 2 (5 ∷ 2 ∷ 4 ∷ []) (0 ∷ 5 ∷ [])
 
--- P3: the load test fails off the chain, and yet it is planned
+-- P3, the star with its centre last, is not nested: the load test fails, and yet it is planned
 abbrev pub p3 : Site
 p3 = siteWith 2 1 (1 ∷ 1 ∷ 1 ∷ []) (4 ∷ 4 ∷ [])
 
--- P4: this order gives up
+-- P4 is not nested: this order gives up
 abbrev pub p4 : Site
 p4 = siteWith 2 1 (1 ∷ 1 ∷ 1 ∷ 1 ∷ []) (4 ∷ 8 ∷ 8 ∷ [])
 
@@ -68,13 +69,21 @@ ring = siteWith 2 1 (1 ∷ 1 ∷ 1 ∷ 1 ∷ 1 ∷ []) (18 ∷ 4 ∷ 8 ∷ 16 �
 abbrev pub star : Site
 star = siteWith 3 1 (1 ∷ 1 ∷ 1 ∷ 1 ∷ []) (8 ∷ 8 ∷ 8 ∷ [])
 
--- the load test fails off the chain, and no plan exists; 128 slots are not too many to name, and what will do is
+-- not nested: the load test fails, and no plan exists; 128 slots are not too many to name, and what will do is
 abbrev pub many : Site
 many = siteWith 1 1 (64 ∷ 64 ∷ 64 ∷ []) (4 ∷ 4 ∷ [])
 
 -- the same with 16 channels
 abbrev pub eight : Site
 eight = siteWith 1 1 (8 ∷ 8 ∷ 8 ∷ []) (4 ∷ 4 ∷ [])
+
+-- a side drift: 1~2, 2~3 are the tunnel, and cell 4 stands in a drift that leaves it at cell 1. Not chained, and nested
+abbrev pub drift : Site
+drift = siteWith 2 1 (1 ∷ 1 ∷ 1 ∷ 1 ∷ []) (10 ∷ 4 ∷ [])
+
+-- the same with a fragment more in the drift: the load test fails, and that decides
+abbrev pub drift-full : Site
+drift-full = siteWith 2 1 (1 ∷ 1 ∷ 1 ∷ 2 ∷ []) (10 ∷ 4 ∷ [])
 
 -- one cell: 129 slots are too many, and 17 channels
 abbrev pub alone : Site
@@ -145,7 +154,8 @@ told =
       site = p3;
       text =
           "not chained: cells 1 and 3 clash, and cell 2 between them does not clash with cell 1\n" ∷
-          "the load test fails: cell 3 is over by 1 fragment; off the chain that alone decides nothing\n" ∷
+          "not nested: cells 1 and 2 clash with cell 3, and not with one another\n" ∷
+          "the load test fails: cell 3 is over by 1 fragment; on a site that is not nested that alone decides nothing\n" ∷
           "planned\n" ∷
           "it takes 2 channel-slots, and no fewer; the site has 2\n" ∷
           "of all cells that clash with one another these need the most, 2:\n" ∷
@@ -159,7 +169,8 @@ told =
       site = p4;
       text =
           "not chained: cells 1 and 3 clash, and cell 2 between them does not clash with cell 1\n" ∷
-          "the load test fails: cell 4 is over by 1 fragment; off the chain that alone decides nothing\n" ∷
+          "not nested: cells 2 and 3 clash with cell 4, and not with one another\n" ∷
+          "the load test fails: cell 4 is over by 1 fragment; on a site that is not nested that alone decides nothing\n" ∷
           "not planned: cell 4 is 1 fragment short. This order found no room, and there may be another\n" ∷
           "it takes at least 2 channel-slots, and 3 will do; the site has 2\n" ∷
           "of all cells that clash with one another these need the most, 2:\n" ∷
@@ -173,7 +184,8 @@ told =
       site = ring;
       text =
           "not chained: cells 1 and 5 clash, and cell 3 between them does not clash with cell 1\n" ∷
-          "the load test fails: cell 5 is over by 1 fragment; off the chain that alone decides nothing\n" ∷
+          "not nested: cells 1 and 4 clash with cell 5, and not with one another\n" ∷
+          "the load test fails: cell 5 is over by 1 fragment; on a site that is not nested that alone decides nothing\n" ∷
           "not planned: cell 5 is 1 fragment short. This order found no room, and there may be another\n" ∷
           "it takes at least 2 channel-slots, and 3 will do; the site has 2\n" ∷
           "of all cells that clash with one another these need the most, 2:\n" ∷
@@ -187,7 +199,8 @@ told =
       site = star;
       text =
           "not chained: cells 1 and 4 clash, and cell 2 between them does not clash with cell 1\n" ∷
-          "the load test fails: cell 4 is over by 1 fragment; off the chain that alone decides nothing\n" ∷
+          "not nested: cells 1 and 2 clash with cell 4, and not with one another\n" ∷
+          "the load test fails: cell 4 is over by 1 fragment; on a site that is not nested that alone decides nothing\n" ∷
           "planned\n" ∷
           "it takes at least 2 channel-slots, and 3 will do; the site has 3\n" ∷
           "of all cells that clash with one another these need the most, 2:\n" ∷
@@ -201,7 +214,8 @@ told =
       site = many;
       text =
           "not chained: cells 1 and 3 clash, and cell 2 between them does not clash with cell 1\n" ∷
-          "the load test fails: cell 1 is over by 63 fragments; off the chain that alone decides nothing\n" ∷
+          "not nested: cells 1 and 2 clash with cell 3, and not with one another\n" ∷
+          "the load test fails: cell 1 is over by 63 fragments; on a site that is not nested that alone decides nothing\n" ∷
           "not planned: cell 1 is 63 fragments short. The site is full: no plan exists\n" ∷
           "it takes at least 128 channel-slots, and 192 will do; the site has 1\n" ∷
           "of all cells that clash with one another these need the most, 128:\n" ∷
@@ -215,7 +229,8 @@ told =
       site = eight;
       text =
           "not chained: cells 1 and 3 clash, and cell 2 between them does not clash with cell 1\n" ∷
-          "the load test fails: cell 1 is over by 7 fragments; off the chain that alone decides nothing\n" ∷
+          "not nested: cells 1 and 2 clash with cell 3, and not with one another\n" ∷
+          "the load test fails: cell 1 is over by 7 fragments; on a site that is not nested that alone decides nothing\n" ∷
           "not planned: cell 1 is 7 fragments short. The site is full: no plan exists\n" ∷
           "it takes at least 16 channel-slots, and 24 will do; the site has 1\n" ∷
           "of all cells that clash with one another these need the most, 16:\n" ∷
@@ -223,6 +238,36 @@ told =
           "  cell 3, load 8\n" ∷
           "with 1 channel: at least 16 slots, and 24 will do\n" ∷
           "with 1 slot: at least 16 channels\n" ∷
+          [];
+    }
+    ∷ record {
+      site = drift;
+      text =
+          "not chained: cells 1 and 4 clash, and cell 3 between them does not clash with cell 1\n" ∷
+          "nested: of each cell, the lower cells that clash with it clash with one another\n" ∷
+          "the load test holds\n" ∷
+          "planned\n" ∷
+          "it takes 2 channel-slots, and no fewer; the site has 2\n" ∷
+          "of all cells that clash with one another these need the most, 2:\n" ∷
+          "  cell 1, load 1\n" ∷
+          "  cell 2, load 1\n" ∷
+          "with 1 channel: 2 slots, and no fewer\n" ∷
+          "with 2 slots: 1 channel, and no fewer\n" ∷
+          [];
+    }
+    ∷ record {
+      site = drift-full;
+      text =
+          "not chained: cells 1 and 4 clash, and cell 3 between them does not clash with cell 1\n" ∷
+          "nested: of each cell, the lower cells that clash with it clash with one another\n" ∷
+          "the load test fails: cell 4 is over by 1 fragment\n" ∷
+          "not planned: cell 4 is 1 fragment short. The site is full: no plan exists\n" ∷
+          "it takes 3 channel-slots, and no fewer; the site has 2\n" ∷
+          "of all cells that clash with one another these need the most, 3:\n" ∷
+          "  cell 1, load 1\n" ∷
+          "  cell 4, load 2\n" ∷
+          "with 1 channel: 3 slots, and no fewer\n" ∷
+          "with 2 slots: 2 channels, and no fewer\n" ∷
           [];
     }
     ∷ record {
@@ -279,7 +324,8 @@ told =
       site = star-barred;
       text =
           "not chained: cells 1 and 4 clash, and cell 2 between them does not clash with cell 1\n" ∷
-          "the load test fails: cell 4 is over by 1 fragment; off the chain that alone decides nothing\n" ∷
+          "not nested: cells 1 and 2 clash with cell 4, and not with one another\n" ∷
+          "the load test fails: cell 4 is over by 1 fragment; on a site that is not nested that alone decides nothing\n" ∷
           "planned\n" ∷
           "it takes at least 2 channel-slots, and 3 will do; the site has 3 open\n" ∷
           "of all cells that clash with one another these need the most, 2:\n" ∷
@@ -305,6 +351,7 @@ wordsOf s = whySaid s (replicate (size s) 0)
 
 pub letter-by-letter : map (λ e. wordsOf (e .site)) told ≡ map (λ e. letters (e .text)) told
 unfolding firstOf sum any most part forbid marked fill run overloaded lowestOver loadVerdict mostDemand gap breaks breakOf firstBreak chainVerdict
+    second splits splitOf firstSplit classVerdict classAnswer
     bestOf wordOf upTo sizeOk rowBad extraLoad badRow extraBlocked faultOf reaches clashIn planAnswer loadAnswer chainAnswer leastAnswer mutualIn
     heaviestIn heaviestOf digitsOf decimal spoken listText slotWord runStart runEnd runsFrom slotsEnd slotsFrom whyLines takesPhrase setPhrase
     cellPhrase cellPhrases fewest sizePhrase whyPhrases whySaid

@@ -16,7 +16,6 @@ use Rattle.laws.specs.Choice.{pick}
 use Rattle.laws.proofs.Choice.{cases}
 use Rattle.theory.specs.Full.{weight, around}
 use Rattle.theory.proofs.Full.{full, over-full}
-use Rattle.theory.proofs.Exact.{chained-class}
 use Rattle.site.specs.Record.{loadAt, positions, size, faultOf, isFine}
 use Rattle.site.specs.Reach.{netOf}
 use Rattle.site.specs.declared.Site.{Site}
@@ -26,22 +25,25 @@ use Rattle.planner.specs.declared.PlanAnswer.{PlanAnswer}
 use Rattle.planner.specs.declared.PlanAnswer.the-variants as plan
 use Rattle.planner.proofs.Answer.{run-answer}
 use Rattle.planner.proofs.Meaning.{done-means}
-use Rattle.judges.specs.Judges.{counted, chainAnswer, loadAnswer, leastAnswer}
+use Rattle.judges.specs.Judges.{counted, chainAnswer, classAnswer, loadAnswer, leastAnswer}
 use Rattle.judges.specs.declared.LoadAnswer.{LoadAnswer}
 use Rattle.judges.specs.declared.LoadAnswer.the-variants as load
 use Rattle.judges.specs.declared.ChainAnswer.{ChainAnswer}
 use Rattle.judges.specs.declared.ChainAnswer.the-variants as chain
+use Rattle.judges.specs.declared.ClassAnswer.{ClassAnswer}
+use Rattle.judges.specs.declared.ClassAnswer.the-variants as class
 use Rattle.judges.specs.declared.LeastAnswer.{LeastAnswer}
 use Rattle.judges.specs.declared.LeastAnswer.the-variants as least
-use Rattle.judges.proofs.Meaning.{chained-means, broken-means, holds-means, over-means, least-means, enough-means, least-refused, covers-counted}
+use Rattle.judges.proofs.Meaning.{chained-means, broken-means, class-means, outside-means, holds-means, over-means, least-means, enough-means}
+use Rattle.judges.proofs.Meaning.{least-refused, covers-counted}
 use Rattle.heaviest.proofs.Mutual.{heaviest-is}
-use Rattle.heaviest.proofs.Meaning.{done-fine, done-chain}
+use Rattle.heaviest.proofs.Meaning.{done-fine, done-class}
 use Rattle.phrases.specs.declared.Phrase.{Phrase}
 use Rattle.phrases.specs.declared.Phrase.the-variants.{Row}
 use Rattle.say_why.specs.Lines.{cellRow}
-use Rattle.say_why.specs.Said.{chainPhrase, overPhrase, loadPhrase, planPhrase, leastNumber, willDo, takesPhrase, setPhrase, cellPhrase}
-use Rattle.say_why.specs.Said.{openOf, cellPhrases, sizeRow, sizePhrase, slotsPhrase, channelsPhrase, someBlocked, sizesPhrases, whyPhrases}
-use Rattle.say_why.specs.Means.{Planned, ChainHolds, WillDo, AllOpen, set, Means}
+use Rattle.say_why.specs.Said.{chainPhrase, classPhrase, nestedPhrase, overPhrase, loadPhrase, planPhrase, leastNumber, willDo, takesPhrase, setPhrase}
+use Rattle.say_why.specs.Said.{openOf, cellPhrase, cellPhrases, sizeRow, sizePhrase, slotsPhrase, channelsPhrase, someBlocked, sizesPhrases, whyPhrases}
+use Rattle.say_why.specs.Means.{Planned, NestedHolds, WillDo, AllOpen, set, Means}
 use Rattle.say_why.proofs.Numbers.{itself, run-planned, at-least, demand-does, own-does, open-most, fewer-slots, fewer-channels, slots-do}
 use Rattle.say_why.proofs.Numbers.{channels-do}
 
@@ -71,31 +73,41 @@ module _ (s : Site) (fine : faultOf s ≡ Fine) where
   abbrev heavy : ℕ
   heavy = weight (netOf s) (bitAt (set s))
 
-  -- ---- the chain and the load test
+  -- ---- the chain, the class and the load test
 
   chain-true : (a : ChainAnswer) → chainAnswer s ≡ a → Means s (chainPhrase a)
   chain-true chain.Chained e = chained-means s .0 e .1
   chain-true (chain.Broken a b c) e = broken-means s a b c e .1
   chain-true (chain.Refused f) e = tt
 
-  -- a broken chain is no chain
-  off-chain : (a b c : ℕ) → chainAnswer s ≡ chain.Broken a b c → ChainHolds s → ⊥
-  off-chain a b c e ch = let q = chained-means s .1 (fine, ch) in let z : _≡_ {A = ℕ} 0 1 = cc in omega arith
+  class-true : (k : ClassAnswer) → classAnswer s ≡ k → Means s (classPhrase k)
+  class-true class.InClass e = class-means s .0 e .1
+  class-true (class.Outside a b i) e = outside-means s a b i e .1
+  class-true (class.Refused f) e = tt
 
-  over-true : (j : ChainAnswer) → chainAnswer s ≡ j → (cell m : ℕ) → loadAnswer s ≡ load.Over cell m → Means s (overPhrase j cell m)
-  over-true chain.Chained e cell m h =
-      let c = chained-means s .0 e .1 in
+  nested-true : (j : ChainAnswer) (k : ClassAnswer) → classAnswer s ≡ k → Means s (nestedPhrase j k)
+  nested-true chain.Chained k e = tt
+  nested-true (chain.Broken a b c) k e = class-true k e
+  nested-true (chain.Refused f) k e = tt
+
+  -- where three cells are named the site is not nested
+  off-class : (a b i : ℕ) → classAnswer s ≡ class.Outside a b i → NestedHolds s → ⊥
+  off-class a b i e c = let q = class-means s .1 (fine, c) in let z : _≡_ {A = ℕ} 0 1 = cc in omega arith
+
+  over-true : (k : ClassAnswer) → classAnswer s ≡ k → (cell m : ℕ) → loadAnswer s ≡ load.Over cell m → Means s (overPhrase k cell m)
+  over-true class.InClass e cell m h =
+      let c = class-means s .0 e .1 in
       let o = over-means s cell m h .1 in
       let f = o .2 in
-      let w = over-full (netOf s) (o .0) (counted s) (covers-counted s) (chained-class (netOf s) (counted s) c) (f .inside) (f .counts) (f .exceeds) in
+      let w = over-full (netOf s) (o .0) (counted s) (covers-counted s) c (f .inside) (f .counts) (f .exceeds) in
       (c, o, full (netOf s) (around (netOf s) (o .0)) (w .0) (w .1))
-  over-true (chain.Broken a b c) e cell m h = (off-chain a b c e, over-means s cell m h .1)
-  over-true (chain.Refused f) e cell m h = tt
+  over-true (class.Outside a b i) e cell m h = (off-class a b i e, over-means s cell m h .1)
+  over-true (class.Refused f) e cell m h = tt
 
-  load-true : (j : ChainAnswer) → chainAnswer s ≡ j → (a : LoadAnswer) → loadAnswer s ≡ a → Means s (loadPhrase j a)
-  load-true j e load.Holds h = holds-means s .0 h .1
-  load-true j e (load.Over cell m) h = over-true j e cell m h
-  load-true j e (load.Refused f) h = tt
+  load-true : (k : ClassAnswer) → classAnswer s ≡ k → (a : LoadAnswer) → loadAnswer s ≡ a → Means s (loadPhrase k a)
+  load-true k e load.Holds h = holds-means s .0 h .1
+  load-true k e (load.Over cell m) h = over-true k e cell m h
+  load-true k e (load.Refused f) h = tt
 
   -- ---- the two numbers
 
@@ -118,9 +130,9 @@ module _ (s : Site) (fine : faultOf s ≡ Fine) where
     no-true cell short e true h = (same-answer (plan.NoRoom cell short) e, at-least s s (itself s) fine (ltb-true (openOf s) heavy h))
     no-true cell short e false h = (same-answer (plan.NoRoom cell short) e, off, ltb-false (openOf s) heavy h)
       where
-        off : ChainHolds s → ⊥
-        off ch =
-            let d = done-chain s heavy (set s) (done-fine s fine) (chained-means s .1 (fine, ch)) in
+        off : NestedHolds s → ⊥
+        off c =
+            let d = done-class s heavy (set s) (done-fine s fine) (class-means s .1 (fine, c)) in
             let p = least-does (least.Least heavy) d s (itself s) fine (ltb-false (openOf s) heavy h) t long .0 in
             let z : _≡_ {A = ℕ} 0 1 = cc in
             omega arith
@@ -214,15 +226,18 @@ why-true s fine t long p m =
     each-one (Means s) _ (
       chain-true s fine (chainAnswer s) refl,
       (
-        load-true s fine (chainAnswer s) refl (loadAnswer s) refl,
+        nested-true s fine (chainAnswer s) (classAnswer s) refl,
         (
-          plan-true s fine t long a refl,
+          load-true s fine (classAnswer s) refl (loadAnswer s) refl,
           (
-            takes-true s fine _ (up .0),
+            plan-true s fine t long a refl,
             (
-              set-true s fine,
-              each-both (Means s) (cellPhrases (s .loads) (set s) (s .cells)) _ (cells-true s fine (s .cells) (le-refl (s .cells)))
-                  (sizes-true s fine _ (up .0) (up .1) (someBlocked s) refl),
+              takes-true s fine _ (up .0),
+              (
+                set-true s fine,
+                each-both (Means s) (cellPhrases (s .loads) (set s) (s .cells)) _ (cells-true s fine (s .cells) (le-refl (s .cells)))
+                    (sizes-true s fine _ (up .0) (up .1) (someBlocked s) refl),
+              ),
             ),
           ),
         ),
@@ -241,10 +256,14 @@ in-cells loads x i (suc n) l =
     (λ h. Memᴰ·append-left _ (in-cells loads x i n h))
     (eq-or-lt-of-le (le-of-suc-le-suc l))
 
+-- past the three phrases before them
+past-three : {p q r t : Phrase} {ps : List Phrase} → List·Memᴰ p ps → List·Memᴰ p (q ∷ r ∷ t ∷ ps)
+past-three m = List·Memᴰ·tail (List·Memᴰ·tail (List·Memᴰ·tail m))
+
 pub set-said : (s : Site) → faultOf s ≡ Fine → (t : List ℕ) (i : ℕ) → i < s .cells → bitAt (set s) i ≡ true
     → List·Memᴰ (Row cellRow (i + 1) (loadAt s i) 0 0) (whyPhrases s t)
 unfolding whyPhrases cellPhrase
 set-said s fine t i l e =
     let here : List·Memᴰ (Row cellRow (i + 1) (loadAt s i) 0 0) (cellPhrases (s .loads) (set s) (s .cells)) =
     rw e at (in-cells (s .loads) (set s) i (s .cells) l) in
-    rw (done-fine s fine) (List·Memᴰ·tail (List·Memᴰ·tail (List·Memᴰ·tail (List·Memᴰ·tail (List·Memᴰ·tail (Memᴰ·append-left _ here))))))
+    rw (done-fine s fine) (past-three (past-three (Memᴰ·append-left _ here)))

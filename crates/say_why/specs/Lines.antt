@@ -10,7 +10,7 @@ whyLines =
     ∷ "not chained: cells @1 and @3 clash, and cell @2 between them does not clash with cell @1\n"
     ∷ "the load test holds\n"
     ∷ "the load test fails: cell @1 is over by @2 fragment@b\n"
-    ∷ "the load test fails: cell @1 is over by @2 fragment@b; off the chain that alone decides nothing\n"
+    ∷ "the load test fails: cell @1 is over by @2 fragment@b; on a site that is not nested that alone decides nothing\n"
     ∷ "planned\n"
     ∷ "not planned: cell @1 is @2 fragment@b short. The site is full: no plan exists\n"
     ∷ "not planned: cell @1 is @2 fragment@b short. This order found no room, and there may be another\n"
@@ -28,6 +28,8 @@ whyLines =
     ∷ "with @1 slot@a: at least @2 channel@b, and @3 will do\n"
     ∷ "with @1 slot@a: at least @2 channel@b\n"
     ∷ "with @1 slot@a: more than 16 channels, which no site has\n"
+    ∷ "nested: of each cell, the lower cells that clash with it clash with one another\n"
+    ∷ "not nested: cells @1 and @2 clash with cell @3, and not with one another\n"
     ∷ []
 
 -- ---- the rows by name
@@ -44,8 +46,8 @@ holdsRow = 2
 abbrev pub overRow : ℕ
 overRow = 3
 
-abbrev pub offChainRow : ℕ
-offChainRow = 4
+abbrev pub openOverRow : ℕ
+openOverRow = 4
 
 abbrev pub plansRow : ℕ
 plansRow = 5
@@ -75,3 +77,9 @@ slotsRow = 14
 
 abbrev pub channelsRow : ℕ
 channelsRow = 18
+
+abbrev pub nestedRow : ℕ
+nestedRow = 22
+
+abbrev pub splitRow : ℕ
+splitRow = 23

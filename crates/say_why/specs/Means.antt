@@ -7,9 +7,9 @@ use mathlib.Core.Bool.{true}
 use mathlib.Core.List.{List, [], _∷_}
 use lib.ListN.{length}
 use Rattle.laws.specs.Bits.{bitAt}
-use Rattle.theory.specs.Net.{Reserved, Valid, LoadTest, Chained}
+use Rattle.theory.specs.Net.{Reserved, Valid, LoadTest, Chained, Class}
 use Rattle.theory.specs.Full.{weight}
-use Rattle.theory.specs.Named.{FirstOver, FirstBreaks}
+use Rattle.theory.specs.Named.{FirstOver, FirstBreaks, FirstSplits}
 use Rattle.theory.specs.Greedy.{reserved}
 use Rattle.site.specs.Alike.{Alike}
 use Rattle.site.specs.Record.{loadAt, positions, size, faultOf}
@@ -40,6 +40,10 @@ Short s cell short = (table : List ℕ) → size s ≤ length table → planAnsw
 abbrev pub ChainHolds : Site → Type 0
 ChainHolds s = Chained (netOf s) (counted s)
 
+-- `nested`: W9: "every loaded cell's loaded, lower-numbered clashing cells clash with one another"
+abbrev pub NestedHolds : Site → Type 0
+NestedHolds s = Class (netOf s) (counted s)
+
 -- `cell .. is over by ..`: the lowest cell that is
 abbrev pub Over : Site → (cell excess : ℕ) → Type 0
 Over s cell excess = (i : ℕ) × (cell ≡ i + 1) × FirstOver (netOf s) (counted s) i excess
@@ -47,6 +51,10 @@ Over s cell excess = (i : ℕ) × (cell ≡ i + 1) × FirstOver (netOf s) (count
 -- `cells a and c clash, and cell b between them does not clash with cell a`: the first such triple
 abbrev pub Broken : Site → (a b c : ℕ) → Type 0
 Broken s a b c = (x y z : ℕ) × (a ≡ x + 1) × (b ≡ y + 1) × (c ≡ z + 1) × FirstBreaks (netOf s) (counted s) x y z
+
+-- `cells a and b clash with cell i, and not with one another`: the first such triple
+abbrev pub Split : Site → (a b i : ℕ) → Type 0
+Split s a b i = (x y z : ℕ) × (a ≡ x + 1) × (b ≡ y + 1) × (i ≡ z + 1) × FirstSplits (netOf s) (counted s) x y z
 
 -- ---- numbers of channel-slots, on sites that differ in slots, channels and blocked positions alone. What counts are the open ones
 
@@ -130,15 +138,15 @@ meanings s =
     -- `the load test holds`
     ∷ (λ a b c d. LoadTest (netOf s) (counted s))
     -- `the load test fails: cell @1 is over by @2 fragments`
-    ∷ (λ cell excess c d. ChainHolds s × Over s cell excess × NoPlan s)
-    -- `..; off the chain that alone decides nothing`
-    ∷ (λ cell excess c d. (ChainHolds s → ⊥) × Over s cell excess)
+    ∷ (λ cell excess c d. NestedHolds s × Over s cell excess × NoPlan s)
+    -- `..; on a site that is not nested that alone decides nothing`
+    ∷ (λ cell excess c d. (NestedHolds s → ⊥) × Over s cell excess)
     -- `planned`
     ∷ (λ a b c d. Planned s)
     -- `not planned: cell @1 is @2 fragments short. The site is full: no plan exists`
     ∷ (λ cell short c d. Short s cell short × NoPlan s)
     -- `not planned: cell @1 is @2 fragments short. This order found no room, and there may be another`
-    ∷ (λ cell short c d. Short s cell short × (ChainHolds s → ⊥) × (weight (netOf s) (bitAt (set s)) ≤ openOf s))
+    ∷ (λ cell short c d. Short s cell short × (NestedHolds s → ⊥) × (weight (netOf s) (bitAt (set s)) ≤ openOf s))
     -- `it takes @1 channel-slots, and no fewer; the site has @2`
     ∷ (λ n has c d. AtLeast s n × WillDo s n × Has s has)
     -- `..; the site has @2 open`
@@ -167,6 +175,10 @@ meanings s =
     ∷ (λ f lo c d. WithSlots s f × AtLeastChannels s lo)
     -- `with @1 slots: more than 16 channels, which no site has`
     ∷ (λ f b c d. WithSlots s f × AtLeastChannels s 17)
+    -- `nested: of each cell, the lower cells that clash with it clash with one another`
+    ∷ (λ a b c d. NestedHolds s)
+    -- `not nested: cells @1 and @2 clash with cell @3, and not with one another`
+    ∷ (λ a b i d. Split s a b i)
     ∷ []
 
 -- there is no other row

@@ -1,5 +1,5 @@
 -- What `duggfrask why` says of a site: a list of phrases, each a row of the lines with its values, made from the answers of the calls; and a line that
--- lists what is blocked. A site that is not planned is full when L is above N, the count of open positions, chained or not. Only of what is left
+-- lists what is blocked. A site that is not planned is full when L is above N, the count of open positions, nested or not. Only of what is left
 -- `This order found no room, and there may be another` is said.
 use Prim.Native.Nat.{ℕ, zero, suc, _+_, _/_, _%_}
 use mathlib.Core.Bool.{Bool}
@@ -14,11 +14,13 @@ use Rattle.site.specs.declared.Site.{Site}
 use Rattle.planner.specs.Plan.{planAnswer}
 use Rattle.planner.specs.declared.PlanAnswer.{PlanAnswer}
 use Rattle.planner.specs.declared.PlanAnswer.the-variants as plan
-use Rattle.judges.specs.Judges.{chainAnswer, loadAnswer, leastAnswer}
+use Rattle.judges.specs.Judges.{chainAnswer, classAnswer, loadAnswer, leastAnswer}
 use Rattle.judges.specs.declared.LoadAnswer.{LoadAnswer}
 use Rattle.judges.specs.declared.LoadAnswer.the-variants as load
 use Rattle.judges.specs.declared.ChainAnswer.{ChainAnswer}
 use Rattle.judges.specs.declared.ChainAnswer.the-variants as chain
+use Rattle.judges.specs.declared.ClassAnswer.{ClassAnswer}
+use Rattle.judges.specs.declared.ClassAnswer.the-variants as class
 use Rattle.judges.specs.declared.LeastAnswer.{LeastAnswer}
 use Rattle.judges.specs.declared.LeastAnswer.the-variants as least
 use Rattle.heaviest.specs.Sets.{heaviestOf}
@@ -29,8 +31,8 @@ use Rattle.phrases.specs.Phrases.{phrase}
 use Rattle.phrases.specs.declared.Phrase.{Phrase}
 use Rattle.phrases.specs.declared.Phrase.the-variants.{Silent, Row}
 use Rattle.putblocks.specs.Canon.{blockedText}
-use Rattle.say_why.specs.Lines.{whyLines, chainedRow, brokenRow, holdsRow, overRow, offChainRow, plansRow, fullRow, gaveUpRow, exactRow, rangeRow}
-use Rattle.say_why.specs.Lines.{setRow, cellRow, slotsRow, channelsRow}
+use Rattle.say_why.specs.Lines.{whyLines, chainedRow, brokenRow, holdsRow, overRow, openOverRow, plansRow, fullRow, gaveUpRow, exactRow, rangeRow}
+use Rattle.say_why.specs.Lines.{setRow, cellRow, slotsRow, channelsRow, nestedRow, splitRow}
 
 -- "the count of open positions"
 abbrev pub openOf : Site → ℕ
@@ -43,16 +45,27 @@ chainPhrase chain.Chained = Row chainedRow 0 0 0 0
 chainPhrase (chain.Broken a b c) = Row brokenRow a b c 0
 chainPhrase (chain.Refused f) = Silent
 
--- off the chain a load test that fails means nothing, and the sentence says that
-abbrev pub overPhrase : ChainAnswer → (cell excess : ℕ) → Phrase
-overPhrase chain.Chained cell excess = Row overRow cell excess 0 0
-overPhrase (chain.Broken a b c) cell excess = Row offChainRow cell excess 0 0
-overPhrase (chain.Refused f) cell excess = Silent
+abbrev pub classPhrase : ClassAnswer → Phrase
+classPhrase class.InClass = Row nestedRow 0 0 0 0
+classPhrase (class.Outside a b i) = Row splitRow a b i 0
+classPhrase (class.Refused f) = Silent
 
-abbrev pub loadPhrase : ChainAnswer → LoadAnswer → Phrase
-loadPhrase judge load.Holds = Row holdsRow 0 0 0 0
-loadPhrase judge (load.Over cell excess) = overPhrase judge cell excess
-loadPhrase judge (load.Refused f) = Silent
+-- W9: "each chained site is in the class", so that nothing more is said of it
+abbrev pub nestedPhrase : ChainAnswer → ClassAnswer → Phrase
+nestedPhrase chain.Chained class = Silent
+nestedPhrase (chain.Broken a b c) class = classPhrase class
+nestedPhrase (chain.Refused f) class = Silent
+
+-- on a site that is not nested a load test that fails means nothing, and the sentence says that
+abbrev pub overPhrase : ClassAnswer → (cell excess : ℕ) → Phrase
+overPhrase class.InClass cell excess = Row overRow cell excess 0 0
+overPhrase (class.Outside a b i) cell excess = Row openOverRow cell excess 0 0
+overPhrase (class.Refused f) cell excess = Silent
+
+abbrev pub loadPhrase : ClassAnswer → LoadAnswer → Phrase
+loadPhrase class load.Holds = Row holdsRow 0 0 0 0
+loadPhrase class (load.Over cell excess) = overPhrase class cell excess
+loadPhrase class (load.Refused f) = Silent
 
 -- l is the load of the heaviest clash, n the open positions
 abbrev pub planPhrase : (l n : ℕ) → PlanAnswer → Phrase
@@ -118,8 +131,8 @@ channelsPhrase s l u = sizePhrase channelsRow 16 (s .slots) l u
 
 -- ---- all of it
 
-abbrev pub verdictPhrases : ChainAnswer → LoadAnswer → PlanAnswer → (l n : ℕ) → List Phrase
-verdictPhrases judge test reply l n = chainPhrase judge ∷ loadPhrase judge test ∷ planPhrase l n reply ∷ []
+abbrev pub verdictPhrases : ChainAnswer → ClassAnswer → LoadAnswer → PlanAnswer → (l n : ℕ) → List Phrase
+verdictPhrases judge class test reply l n = chainPhrase judge ∷ nestedPhrase judge class ∷ loadPhrase class test ∷ planPhrase l n reply ∷ []
 
 abbrev pub clashPhrases : Site → (l u set : ℕ) → List Phrase
 clashPhrases s l u set = takesPhrase l u (openOf s) (positions s) ∷ setPhrase l ∷ cellPhrases (s .loads) set (s .cells)
@@ -137,7 +150,8 @@ numberPhrases s l u set = clashPhrases s l u set ++ pick (someBlocked s) [] (siz
 -- a refused record has no text here: its fault has it
 abbrev pub sitePhrases : Site → PlanAnswer → HeaviestAnswer → List Phrase
 sitePhrases s reply (heavy.Done l set) =
-    verdictPhrases (chainAnswer s) (loadAnswer s) reply l (openOf s) ++ numberPhrases s l (willDo reply (openOf s) (leastNumber (leastAnswer s))) set
+    verdictPhrases (chainAnswer s) (classAnswer s) (loadAnswer s) reply l (openOf s)
+    ++ numberPhrases s l (willDo reply (openOf s) (leastNumber (leastAnswer s))) set
 sitePhrases s reply (heavy.Refused f) = []
 
 -- what `why` says of a site, with a table for the planner to plan in
@@ -165,6 +179,9 @@ unfoldable pub whySaid : Site → List ℕ → List ℕ
 whySaid s table = texts (whyPhrases s table) ++ blockedSaid s (heaviestOf s)
 
 -- ---- as the code puts it
+
+abbrev pub verdictsSaid : Site → PlanAnswer → (l n : ℕ) → List ℕ
+verdictsSaid s reply l n = texts (verdictPhrases (chainAnswer s) (classAnswer s) (loadAnswer s) reply l n)
 
 -- what comes last: the sizes, or what is blocked
 abbrev pub lastSaid : Site → (l u : ℕ) → List ℕ

@@ -1,6 +1,7 @@
 // What `duggfrask why` says of a site, written into a lent buffer: one public function, which asks the calls and puts their answers into English.
 use heaviest::HeaviestAnswer;
 use judges::ChainAnswer;
+use judges::ClassAnswer;
 use judges::LeastAnswer;
 use judges::LoadAnswer;
 use phrases::Phrase;
@@ -19,14 +20,13 @@ ghost use Rattle.laws.specs.Choice.{pick};
 ghost use Rattle.site.specs.Record.{positions, faultOf};
 ghost use Rattle.site.specs.declared.Fault.the-variants.{Fine};
 ghost use Rattle.planner.specs.Plan.{planTable};
-ghost use Rattle.judges.specs.Judges.{chainAnswer, loadAnswer};
 ghost use Rattle.heaviest.specs.declared.HeaviestAnswer.the-variants.{Done};
 ghost use Rattle.phrases.specs.Put.{Put};
 ghost use Rattle.phrases.specs.Phrases.{phrase, textOf, partIn};
 ghost use Rattle.say_why.specs.Lines.{whyLines, fullRow, gaveUpRow};
-ghost use Rattle.say_why.specs.Said.{openOf, chainPhrase, overPhrase, loadPhrase, planPhrase, leastNumber, willDo, hasRow, takesPhrase, setPhrase};
-ghost use Rattle.say_why.specs.Said.{cellPhrase, cellPhrases, fewest, sizeRow, sizePhrase, verdictPhrases, clashPhrases, sizesPhrases, texts};
-ghost use Rattle.say_why.specs.Said.{listLine, lastSaid, siteSaid, whySaid};
+ghost use Rattle.say_why.specs.Said.{openOf, chainPhrase, classPhrase, nestedPhrase, overPhrase, loadPhrase, planPhrase, leastNumber, willDo, hasRow};
+ghost use Rattle.say_why.specs.Said.{takesPhrase, setPhrase, cellPhrase, cellPhrases, fewest, sizeRow, sizePhrase, verdictsSaid, clashPhrases};
+ghost use Rattle.say_why.specs.Said.{sizesPhrases, texts, listLine, lastSaid, siteSaid, whySaid};
 
 const CHAINED: usize = 0;
 
@@ -36,7 +36,7 @@ const HOLDS: usize = 2;
 
 const OVER: usize = 3;
 
-const OFF_CHAIN: usize = 4;
+const OPEN_OVER: usize = 4;
 
 const PLANNED: usize = 5;
 
@@ -56,6 +56,10 @@ const SLOTS: usize = 14;
 
 const CHANNELS: usize = 18;
 
+const NESTED: usize = 22;
+
+const SPLIT: usize = 23;
+
 // Puts a line: a row of the table with its values, or nothing. It takes ten bytes at most for each of the row's.
 fn put_line(out: &mut [u8], at: usize, what: Phrase) -> usize
     requires { ⌜ at + 10 * length (partIn (textOf whyLines) what) ≤ length (now out) ⌝ }
@@ -68,7 +72,7 @@ fn put_line(out: &mut [u8], at: usize, what: Phrase) -> usize
           not chained: cells @1 and @3 clash, and cell @2 between them does not clash with cell @1\n|\
           the load test holds\n|\
           the load test fails: cell @1 is over by @2 fragment@b\n|\
-          the load test fails: cell @1 is over by @2 fragment@b; off the chain that alone decides nothing\n|\
+          the load test fails: cell @1 is over by @2 fragment@b; on a site that is not nested that alone decides nothing\n|\
           planned\n|\
           not planned: cell @1 is @2 fragment@b short. The site is full: no plan exists\n|\
           not planned: cell @1 is @2 fragment@b short. This order found no room, and there may be another\n|\
@@ -85,7 +89,9 @@ fn put_line(out: &mut [u8], at: usize, what: Phrase) -> usize
           with @1 slot@a: @2 channel@b, and no fewer\n|\
           with @1 slot@a: at least @2 channel@b, and @3 will do\n|\
           with @1 slot@a: at least @2 channel@b\n|\
-          with @1 slot@a: more than 16 channels, which no site has\n|",
+          with @1 slot@a: more than 16 channels, which no site has\n|\
+          nested: of each cell, the lower cells that clash with it clash with one another\n|\
+          not nested: cells @1 and @2 clash with cell @3, and not with one another\n|",
         what,
     )
 }
@@ -109,24 +115,46 @@ fn chain_phrase(reply: ChainAnswer) -> Phrase
     }
 }
 
-// The lowest cell that is over, and what that means.
-fn over_phrase(judge: ChainAnswer, cell: usize, excess: usize) -> Phrase
-    ensures { λ r. ⌜ r ≡ overPhrase judge cell excess ⌝ }
+// Nested, or the triple that shows that it is not.
+fn class_phrase(class: ClassAnswer) -> Phrase
+    ensures { λ r. ⌜ r ≡ classPhrase class ⌝ }
+{
+    match class {
+        ClassAnswer::InClass => Phrase::Row(NESTED, 0, 0, 0, 0),
+        ClassAnswer::Outside(a, b, i) => Phrase::Row(SPLIT, a, b, i, 0),
+        ClassAnswer::Refused(_) => Phrase::Silent,
+    }
+}
+
+// The class of a site that is not chained. A chained site is nested, and nothing is said of that.
+fn nested_phrase(judge: ChainAnswer, class: ClassAnswer) -> Phrase
+    ensures { λ r. ⌜ r ≡ nestedPhrase judge class ⌝ }
 {
     match judge {
-        ChainAnswer::Chained => Phrase::Row(OVER, cell, excess, 0, 0),
-        ChainAnswer::Broken(_, _, _) => Phrase::Row(OFF_CHAIN, cell, excess, 0, 0),
+        ChainAnswer::Chained => Phrase::Silent,
+        ChainAnswer::Broken(_, _, _) => class_phrase(class),
         ChainAnswer::Refused(_) => Phrase::Silent,
     }
 }
 
+// The lowest cell that is over, and what that means.
+fn over_phrase(class: ClassAnswer, cell: usize, excess: usize) -> Phrase
+    ensures { λ r. ⌜ r ≡ overPhrase class cell excess ⌝ }
+{
+    match class {
+        ClassAnswer::InClass => Phrase::Row(OVER, cell, excess, 0, 0),
+        ClassAnswer::Outside(_, _, _) => Phrase::Row(OPEN_OVER, cell, excess, 0, 0),
+        ClassAnswer::Refused(_) => Phrase::Silent,
+    }
+}
+
 // The load test: it holds, or who is over.
-fn load_phrase(judge: ChainAnswer, reply: LoadAnswer) -> Phrase
-    ensures { λ r. ⌜ r ≡ loadPhrase judge reply ⌝ }
+fn load_phrase(class: ClassAnswer, reply: LoadAnswer) -> Phrase
+    ensures { λ r. ⌜ r ≡ loadPhrase class reply ⌝ }
 {
     match reply {
         LoadAnswer::Holds => Phrase::Row(HOLDS, 0, 0, 0, 0),
-        LoadAnswer::Over(cell, excess) => over_phrase(judge, cell, excess),
+        LoadAnswer::Over(cell, excess) => over_phrase(class, cell, excess),
         LoadAnswer::Refused(_) => Phrase::Silent,
     }
 }
@@ -367,16 +395,18 @@ fn put_clash(
     put_cells(out, third, &loads, set, site.cells as usize)
 }
 
-// The verdicts: the chain, the load test and the plan.
+// The verdicts: the chain, the class, the load test and the plan.
 fn put_verdicts(out: &mut [u8], site: Site, reply: PlanAnswer, l: usize, n: usize) -> usize
-    requires { ⌜ 4500 ≤ length (now out) ⌝ }
-    ensures { λ r. ⌜ Put (now (out .entry)) 0 (texts (verdictPhrases (chainAnswer site) (loadAnswer site) reply l n)) 4500 (now (out .exit)) r ⌝ }
+    requires { ⌜ 6000 ≤ length (now out) ⌝ }
+    ensures { λ r. ⌜ Put (now (out .entry)) 0 (verdictsSaid site reply l n) 6000 (now (out .exit)) r ⌝ }
 {
     let judge = judges::chain(site);
+    let class = judges::in_class(site);
     let test = judges::load_test(site);
     let second = put(out, 0, chain_phrase(judge));
-    let third = put(out, second, load_phrase(judge, test));
-    put(out, third, plan_phrase(l, n, reply))
+    let third = put(out, second, nested_phrase(judge, class));
+    let fourth = put(out, third, load_phrase(class, test));
+    put(out, fourth, plan_phrase(l, n, reply))
 }
 
 // All that is said of an accepted site, with the planner's answer and the heaviest clash.

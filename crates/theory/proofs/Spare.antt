@@ -1,5 +1,5 @@
--- A spare cell numbered in at any place changes no verdict of the load test or of the chain: the same cells are named, where they stand then. No search stops
--- at a cell without load, so that each search finds the same cell, moved; and no sum has anything of it.
+-- A spare cell numbered in at any place changes no verdict of the load test, of the chain or of the class: the same cells are named, where they stand then.
+-- No search stops at a cell without load, so that each search finds the same cell, moved; and no sum has anything of it.
 -- Assumes nothing.
 use mathlib.Core.Path.{_≡_, refl, sym, ap, ap₂, _∙_}
 use mathlib.Core.Bool.{Bool, true, false, _&&_, not, and-false}
@@ -17,9 +17,10 @@ use Rattle.laws.proofs.Choice.{cases, alike}
 use Rattle.laws.proofs.Most.{most-above, most-within}
 use Rattle.laws.proofs.Search.{first-most, first-least, first-passes, first-before, first-none, first-is}
 use Rattle.theory.specs.Net.{Net, demand, loaded}
-use Rattle.theory.specs.Spare.{past, SparePut, loadPast, chainPast}
+use Rattle.theory.specs.Spare.{past, SparePut, loadPast, chainPast, classPast}
 use Rattle.theory.specs.Verdict.{over, overloaded, lowestOver, overAt, loadVerdict, asks, mostDemand}
 use Rattle.theory.specs.Verdict.{gap, breaks, breakOf, firstBreak, brokenAt, chainVerdict}
+use Rattle.theory.specs.Verdict.{nearTo, second, splits, splitOf, firstSplit, outsideAt, classVerdict}
 
 -- ---- where the cells stand
 
@@ -256,3 +257,64 @@ module _ (p : ℕ) (s t : Net) (put : SparePut p s t) where
       let outside : ltb (past p a) (t .cells) ≡ false = ap (ltb (past p a)) end ∙ past-ltb p a (s .cells) ∙ e in
       rw (e, outside))
       (cases (ltb a (s .cells)))
+
+  -- ---- the class
+
+  near-past : (i a : ℕ) → a < i → i < s .cells → nearTo t (loaded t) (past p i) (past p a) ≡ nearTo s (loaded s) i a
+  near-past i a l m = ap₂ _&&_ (counts a (omega arith)) (put .same-clash a i l m)
+
+  second-past : (i a : ℕ) → a < i → i < s .cells → second t (loaded t) (past p i) (past p a) ≡ past p (second s (loaded s) i a)
+  unfolding second
+  second-past i a l m =
+      first-past p (λ b. nearTo t (loaded t) (past p i) b && not (t .clash (past p a) b)) (λ b. nearTo s (loaded s) i b && not (s .clash a b))
+      (past p a + 1) (a + 1) i (omega arith) (next a) (after a)
+      (rw spare-out)
+      (λ b lo hi. ap₂ (λ (x y : Bool). x && not y) (near-past i b hi m) (put .same-clash a b (omega arith) (omega arith)))
+
+  splits-past : (i a : ℕ) → a < i → i < s .cells → splits t (loaded t) (past p i) (past p a) ≡ splits s (loaded s) i a
+  unfolding splits
+  splits-past i a l m =
+      ap₂ _&&_ (near-past i a l m) (ap (λ (g : ℕ). ltb g (past p i)) (second-past i a l m) ∙ past-ltb p (second s (loaded s) i a) i)
+
+  split-past : (i : ℕ) → i < s .cells → splitOf t (loaded t) (past p i) ≡ past p (splitOf s (loaded s) i)
+  unfolding splitOf splits
+  split-past i m =
+      ap₂ (λ (b : Bool) (n : ℕ). pick b n (past p i)) (counts i m)
+      (first-past p (splits t (loaded t) (past p i)) (splits s (loaded s) i) 0 0 i zero-le zero-le (λ j _. zero-le) (rw spare-out)
+      (λ a _ l. splits-past i a l m))
+      ∙ either (loaded s i) (first (splits s (loaded s) i) 0 i)
+    where
+      either : (b : Bool) (n : ℕ) → pick b (past p n) (past p i) ≡ past p (pick b n i)
+      either true n = refl
+      either false n = refl
+
+  -- the spare cell does not count
+  spare-in : ltb (splitOf t (loaded t) p) p ≡ false
+  unfolding splitOf
+  spare-in = rw spare-out (le-ltb p p (omega arith))
+
+  first-split-past : firstSplit t (loaded t) ≡ past p (firstSplit s (loaded s))
+  unfolding firstSplit
+  first-split-past =
+      ap (first (λ i. ltb (splitOf t (loaded t) i) i) 0) end
+      ∙ first-past p (λ i. ltb (splitOf t (loaded t) i) i) (λ i. ltb (splitOf s (loaded s) i) i) 0 0 (s .cells) zero-le zero-le (λ i _. zero-le)
+      spare-in
+      (λ i _ l. ap (λ (n : ℕ). ltb n (past p i)) (split-past i l) ∙ past-ltb p (splitOf s (loaded s) i) i)
+
+  -- the class: the same verdict, about the same cells
+  pub class-past : classVerdict t (loaded t) ≡ classPast p (classVerdict s (loaded s))
+  unfolding classVerdict firstSplit
+  class-past =
+      let i = firstSplit s (loaded s) in
+      let a = splitOf s (loaded s) i in
+      ap (outsideAt t (loaded t)) first-split-past
+      ∙ ⊎-elim
+      (λ e.
+      let l = ltb-true i (s .cells) e in
+      let inside : ltb (past p i) (t .cells) ≡ true = ap (ltb (past p i)) end ∙ past-ltb p i (s .cells) ∙ e in
+      let m : a < i = ltb-true _ _ (first-passes (λ i. ltb (splitOf s (loaded s) i) i) 0 (s .cells) zero-le l) in
+      rw (e, inside, split-past i l, second-past i a m l))
+      (λ e.
+      let none : ltb (past p i) (t .cells) ≡ false = ap (ltb (past p i)) end ∙ past-ltb p i (s .cells) ∙ e in
+      rw (e, none))
+      (cases (ltb i (s .cells)))

@@ -1,5 +1,6 @@
 -- What is named where a verdict is not the good one, said without the search that finds it: the first of its kind, and that it is one.
--- That the verdicts of specs/Verdict.antt and the run of specs/Greedy.antt name just these is proved in proofs/: LoadLaws, ChainLaws, TableLaws, Run.
+-- That the verdicts of specs/Verdict.antt and the run of specs/Greedy.antt name just these is proved in proofs/:
+-- LoadLaws, ChainLaws, ClassLaws, TableLaws, Run.
 use mathlib.Core.Path.{_≡_}
 use mathlib.Core.Bool.{Bool, true, false}
 use mathlib.Core.List.{List}
@@ -36,6 +37,23 @@ pub record Breaks (s : Net) (who : ℕ → Bool) (a b c : ℕ) : Type 0 where
 pub record FirstBreaks (s : Net) (who : ℕ → Bool) (a b c : ℕ) : Type 0 where
   pub shows : Breaks s who a b c
   pub earliest : (x y z : ℕ) → Breaks s who x y z → NoEarlier a c b x z y
+
+-- a, b and i show that s is outside the class: a and b are lower clashing cells of i, and do not clash with one another
+pub record Splits (s : Net) (who : ℕ → Bool) (a b i : ℕ) : Type 0 where
+  pub ab : a < b
+  pub bi : b < i
+  pub inside : i < s .cells
+  pub who-a : who a ≡ true
+  pub who-b : who b ≡ true
+  pub who-i : who i ≡ true
+  pub one : s .clash a i ≡ true
+  pub other : s .clash b i ≡ true
+  pub far : s .clash a b ≡ false
+
+-- the first such cells in rising order of i, then a, then b
+pub record FirstSplits (s : Net) (who : ℕ → Bool) (a b i : ℕ) : Type 0 where
+  pub shows : Splits s who a b i
+  pub earliest : (x y z : ℕ) → Splits s who x y z → NoEarlier i a b z x y
 
 -- W8: "reservation on a blocked position": cell i's, at position k
 pub record Barred (s : Net) (res : Reserved) (k i : ℕ) : Type 0 where

@@ -4,7 +4,7 @@ use Prim.Native.Nat.{ℕ, _+_, _≤_, _<_}
 use lib.Dec.{ltb}
 use Rattle.laws.specs.Choice.{pick}
 use Rattle.theory.specs.Net.{Net, room}
-use Rattle.theory.specs.Verdict.{LoadVerdict, holds, over, ChainVerdict, chained, broken}
+use Rattle.theory.specs.Verdict.{LoadVerdict, holds, over, ChainVerdict, chained, broken, ClassVerdict, inClass, outside}
 
 -- where a cell stands then
 unfoldable pub past : ℕ → ℕ → ℕ
@@ -27,3 +27,7 @@ loadPast p (over i m) = over (past p i) m
 abbrev pub chainPast : ℕ → ChainVerdict → ChainVerdict
 chainPast p chained = chained
 chainPast p (broken a b c) = broken (past p a) (past p b) (past p c)
+
+abbrev pub classPast : ℕ → ClassVerdict → ClassVerdict
+classPast p inClass = inClass
+classPast p (outside a b i) = outside (past p a) (past p b) (past p i)

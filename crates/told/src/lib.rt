@@ -3,6 +3,7 @@ use admission::AdmitAnswer;
 use checker::CheckAnswer;
 use heaviest::HeaviestAnswer;
 use judges::ChainAnswer;
+use judges::ClassAnswer;
 use judges::LeastAnswer;
 use judges::LoadAnswer;
 use mender::MendAnswer;
@@ -13,7 +14,7 @@ use site::Fault;
 use wordtable::FormAnswer;
 ghost use mathlib.Core.Path.{_≡_};
 ghost use Rattle.site.specs.Given.{faultGiven, clashGiven};
-ghost use Rattle.judges.specs.Given.{loadGiven, chainGiven, leastGiven};
+ghost use Rattle.judges.specs.Given.{loadGiven, chainGiven, classGiven, leastGiven};
 ghost use Rattle.heaviest.specs.Given.{heaviestGiven};
 ghost use Rattle.planner.specs.Given.{planGiven};
 ghost use Rattle.checker.specs.Given.{checkGiven};
@@ -80,6 +81,16 @@ pub fn chain_answer(said: ChainAnswer) -> Answer
         ChainAnswer::Chained => give(0, 0, 0, 0),
         ChainAnswer::Broken(a, b, c) => give(0, a, b, c),
         ChainAnswer::Refused(f) => fault_answer(f),
+    }
+}
+
+pub fn class_answer(said: ClassAnswer) -> Answer
+    ensures { λ r. ⌜ r ≡ told (classGiven said) ⌝ }
+{
+    match said {
+        ClassAnswer::InClass => give(0, 0, 0, 0),
+        ClassAnswer::Outside(a, b, i) => give(0, a, b, i),
+        ClassAnswer::Refused(f) => fault_answer(f),
     }
 }
 
@@ -170,7 +181,7 @@ pub fn admit_answer(said: AdmitAnswer) -> Answer
     match said {
         AdmitAnswer::Admitted(set) => give(0, set as usize, 0, 0),
         AdmitAnswer::TooMany => give(18, 0, 0, 0),
-        AdmitAnswer::NotChained => give(19, 0, 0, 0),
+        AdmitAnswer::NotNested => give(19, 0, 0, 0),
         AdmitAnswer::BadCell(flow) => give(2, flow, 0, 0),
         AdmitAnswer::BadFlow(flow) => give(15, flow, 0, 0),
         AdmitAnswer::BigShare(flow) => give(16, flow, 0, 0),

@@ -3,20 +3,22 @@
 use super::wording::counted;
 use crate::blocklist::write_list;
 use crate::heaviest::{heaviest, Heaviest};
-use crate::judge::{chain, least, load_test};
+use crate::judge::{chain, least, load_test, nested};
 use crate::planner::plan;
 use crate::site::{Site, MOST_CHANNELS, MOST_SLOTS};
 
-/// Whether the site is chained, the load test, the plan or what a no means; how many channel-slots it takes and the
+/// Whether the site is chained, and if not whether it is nested; the load test, the plan or what a no means; how many channel-slots it takes and the
 /// heaviest clash; and so how many slots and channels, or where something is blocked what. The site comes from a reader,
 /// and is sound.
 pub fn why(site: &Site) -> String {
     let gap = chain(site).expect("a sound site");
     let clash = heaviest(site).expect("a sound site");
+    let split = nested(site).expect("a sound site");
     let chain = match gap {
         None => String::from("chained\n"),
         Some((a, b, c)) => {
             format!("not chained: cells {a} and {c} clash, and cell {b} between them does not clash with cell {a}\n")
+                + &nested_line(split)
         }
     };
     let room = site.room();
@@ -28,17 +30,24 @@ pub fn why(site: &Site) -> String {
         Err(no) => no_line(no.value[0], no.value[1], clash.load > room),
     };
     chain
-        + &load_line(site, gap.is_none())
+        + &load_line(site, split.is_none())
         + &plan
         + &takes_lines(site, &clash, enough)
         + &if site.has_blocked() { blocked_line(site) } else { size_lines(site, clash.load, enough) }
 }
 
-fn load_line(site: &Site, chained: bool) -> String {
+fn nested_line(split: Option<(usize, usize, usize)>) -> String {
+    match split {
+        None => String::from("nested: of each cell, the lower cells that clash with it clash with one another\n"),
+        Some((a, b, i)) => format!("not nested: cells {a} and {b} clash with cell {i}, and not with one another\n"),
+    }
+}
+
+fn load_line(site: &Site, nested: bool) -> String {
     let Some((cell, excess)) = load_test(site).expect("a sound site") else {
         return String::from("the load test holds\n");
     };
-    let decides = if chained { "" } else { "; off the chain that alone decides nothing" };
+    let decides = if nested { "" } else { "; on a site that is not nested that alone decides nothing" };
     format!("the load test fails: cell {cell} is over by {}{decides}\n", counted(excess, "fragment"))
 }
 
@@ -167,7 +176,8 @@ mod tests {
         site.loads[..4].fill(1);
         let expected = "\
 not chained: cells 1 and 3 clash, and cell 2 between them does not clash with cell 1
-the load test fails: cell 4 is over by 1 fragment; off the chain that alone decides nothing
+not nested: cells 2 and 3 clash with cell 4, and not with one another
+the load test fails: cell 4 is over by 1 fragment; on a site that is not nested that alone decides nothing
 not planned: cell 4 is 1 fragment short. This order found no room, and there may be another
 it takes at least 2 channel-slots, and 3 will do; the site has 2
 of all cells that clash with one another these need the most, 2:
@@ -175,6 +185,28 @@ of all cells that clash with one another these need the most, 2:
   cell 3, load 1
 with 1 channel: at least 2 slots, and 3 will do
 with 2 slots: at least 1 channel, and 2 will do
+";
+        assert_eq!(why(&site), expected);
+    }
+
+    #[test]
+    fn a_side_drift_whose_no_is_final() {
+        let mut site = Site::sized(4, 2, 1);
+        for (from, to) in [(1, 2), (2, 3), (1, 4)] {
+            site = site.with_reach(from, to, true).unwrap();
+        }
+        site.loads[..4].copy_from_slice(&[1, 1, 1, 2]);
+        let expected = "\
+not chained: cells 1 and 4 clash, and cell 3 between them does not clash with cell 1
+nested: of each cell, the lower cells that clash with it clash with one another
+the load test fails: cell 4 is over by 1 fragment
+not planned: cell 4 is 1 fragment short. The site is full: no plan exists
+it takes 3 channel-slots, and no fewer; the site has 2
+of all cells that clash with one another these need the most, 3:
+  cell 1, load 1
+  cell 4, load 2
+with 1 channel: 3 slots, and no fewer
+with 2 slots: 2 channels, and no fewer
 ";
         assert_eq!(why(&site), expected);
     }
@@ -210,7 +242,8 @@ blocked: *.2
     fn planned_with_less_than_the_load_test_asks_for() {
         let expected = "\
 not chained: cells 1 and 14 clash, and cell 2 between them does not clash with cell 1
-the load test fails: cell 14 is over by 12 fragments; off the chain that alone decides nothing
+not nested: cells 1 and 2 clash with cell 14, and not with one another
+the load test fails: cell 14 is over by 12 fragments; on a site that is not nested that alone decides nothing
 planned
 it takes at least 20 channel-slots, and 128 will do; the site has 128
 of all cells that clash with one another these need the most, 20:

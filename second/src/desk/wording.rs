@@ -88,10 +88,10 @@ pub fn no_room_beside(no: &Answer) -> String {
     )
 }
 
-/// Refusal 19, with the three cells that break the chain.
-pub fn not_chained((a, b, c): (usize, usize, usize)) -> String {
+/// Refusal 19, with the three cells that show it.
+pub fn not_nested((a, b, i): (usize, usize, usize)) -> String {
     let sentence = meaning(NUMBERS, 19);
-    format!("refused 19: {sentence}: cells {a} and {c} clash, and cell {b} between them does not clash with cell {a}\n")
+    format!("refused 19: {sentence}: cells {a} and {b} clash with cell {i}, and not with one another\n")
 }
 
 /// Who reaches whom, of two cells that clash.

@@ -9,21 +9,23 @@ use borrow.Author.Needs.{needs}
 use borrow.Author.Tests.{not-true, not-false}
 use Rattle.laws.proofs.Sums.{count-most}
 use Rattle.theory.specs.Net.{everyone}
-use Rattle.theory.specs.Verdict.{chainVerdict}
+use Rattle.theory.specs.Verdict.{classVerdict}
 use Rattle.positions.specs.Blocked.{blockedAt}
 use Rattle.site.specs.Record.{positions, faultOf}
-use Rattle.site.specs.Reach.{netOf}
+use Rattle.site.specs.Reach.{clashOf, netOf}
 use Rattle.site.specs.declared.Fault.the-variants.{Fine}
+use Rattle.chainwords.proofs.Rows.{mirrored-by}
+use Rattle.site.proofs.Reach.{clash-sym}
 use Rattle.site.proofs.Faults.{not-fine, fine-sized, few-positions}
 use Rattle.bestset.proofs.Problem.{best-in-is}
 use Rattle.flowlist.specs.List.{zeroFlow}
 use Rattle.flowlist.specs.declared.Flow.{Flow}
 use Rattle.flowlist.specs.declared.FlowList.{FlowList}
-use Rattle.admission.specs.Admit.{isChained}
+use Rattle.admission.specs.Admit.{isNested}
 use Rattle.admission.specs.declared.AdmitAnswer.the-variants.{Admitted}
-use Rattle.admission.proofs.Answer.{fault-answer, many-answer, broken-answer, bad-answer, set-answer}
+use Rattle.admission.proofs.Answer.{fault-answer, many-answer, outside-answer, bad-answer, set-answer}
 use Rattle.admission.proofs.Arrays.{inside-most, stands, same-best}
-use Rattle.admission.proofs.Chain.{chain-of}
+use Rattle.admission.proofs.Suits.{class-in-rows}
 use Rattle.admission.proofs.decide.Statement.{statement}
 use Rattle.admission.proofs.decide.Tie as tie
 
@@ -53,29 +55,33 @@ returns-2 c = let a = c .before .before .before .before .args in sym (many-answe
 clash-rows-requires : tie.Need-clash-rows-requires
 clash-rows-requires c κs = search needs
 
-cast-chained : tie.Need-cast-chained
-cast-chained c = search needs
+cast-nested : tie.Need-cast-nested
+cast-nested c = search needs
 
-chained-requires : tie.Need-chained-requires
-chained-requires c κs = fine-sized _ (fine (c .before .before .before)) .cells-most
+nested-requires : tie.Need-nested-requires
+nested-requires c κs =
+    let site = c .before .before .before .before .before .before .args .site in
+    let ok = fine (c .before .before .before) in
+    let rows = c .before .clash-rows in
+    (fine-sized site ok .cells-most, mirrored-by (rows .result) (clashOf site) (rows .ensures .1 ok) (clash-sym (site .reach)))
 
--- what the test of the chain says of the site
-verdict : (c : tie.After-chained) → c .chained .result ≡ isChained (chainVerdict
+-- what the test of the class says of the site
+verdict : (c : tie.After-nested) → c .nested .result ≡ isNested (classVerdict
     (netOf (c .before .before .before .before .before .before .before .args .site)) everyone)
 verdict c =
     let a = c .before .before .before .before .before .before .before .args in
-    c .chained .ensures ∙ ap isChained (chain-of (a .site) (c .before .before .clash-rows .result)
+    c .nested .ensures ∙ ap isNested (class-in-rows (a .site) (c .before .before .clash-rows .result)
     (c .before .before .clash-rows .ensures .1 (fine (c .before .before .before .before))))
 
 returns-3 : tie.Need-returns-3
 returns-3 c =
     let a = c .before .before .before .before .before .before .before .before .args in
-    sym (broken-answer (a .site) (here (a .l)) (a .count) (fine (c .before .before .before .before .before)) (c .before .before .before .before .if1 .left)
+    sym (outside-answer (a .site) (here (a .l)) (a .count) (fine (c .before .before .before .before .before)) (c .before .before .before .before .if1 .left)
     (sym (verdict (c .before)) ∙ not-true _ (c .if2 .taken)))
 
--- past the test it is chained
-chain : (c : tie.Else2) → isChained (chainVerdict (netOf (c .before .before .before .before .before .before .before .before .args .site)) everyone) ≡ true
-chain c = sym (verdict (c .before)) ∙ not-false _ (c .if2 .left)
+-- past the test it is in the class
+class : (c : tie.Else2) → isNested (classVerdict (netOf (c .before .before .before .before .before .before .before .before .args .site)) everyone) ≡ true
+class c = sym (verdict (c .before)) ∙ not-false _ (c .if2 .left)
 
 ask-all-requires : tie.Need-ask-all-requires
 ask-all-requires c κs = c .before .before .before .before .if1 .left
@@ -97,7 +103,7 @@ returns-4 c =
     let a = c .before .before .before .before .before .before .before .before .before .before .before .before .before .args in
     c .refusal .ensures
     ∙ sym (bad-answer (a .site) (here (a .l)) (a .count) (fine (c .before .before .before .before .before .before .before .before .before .before))
-    (c .before .before .before .before .before .before .before .before .before .if1 .left) (chain (c .before .before .before .before .before)) _
+    (c .before .before .before .before .before .before .before .before .before .if1 .left) (class (c .before .before .before .before .before)) _
     (c .before .before .before .before .ask-all .ensures .0) (c .before .before .before .if3 .taken))
 
 cast-n : tie.Need-cast-n
@@ -166,15 +172,15 @@ returns-5 c =
     let clash = rows o .clash-rows in
     let fine-here = fine (told o) in
     let own = r .result .cells in
-    let chain-here = chain (asked o .before) in
+    let class-here = class (asked o .before) in
     ap Admitted
     (c .best-set .ensures
     ∙ best-in-is _ (clash .result) own (r .result .shares) (r .result .values) (a .count) (few o) (netOf (a .site))
     (stands (a .site) fine-here f (a .count) (few o) (r .result .bad) (r .ensures .0) (all o) own (r .ensures .1 .0) (o .open-count .result)
-    (o .open-count .ensures) (clash .result) (clash .ensures .1 fine-here) chain-here)
+    (o .open-count .ensures) (clash .result) (clash .ensures .1 fine-here) class-here)
     ∙ same-best (a .site) fine-here f (a .count) (few o) (r .result .bad) (r .ensures .0) (all o) own (r .ensures .1 .0) (r .result .shares)
     (r .result .values) (r .ensures .1 .1 .0) (r .ensures .1 .1 .1))
-    ∙ sym (set-answer (a .site) f (a .count) fine-here (few o) chain-here (rw (← r .ensures .0) (all o)))
+    ∙ sym (set-answer (a .site) f (a .count) fine-here (few o) class-here (rw (← r .ensures .0) (all o)))
 
 pub decide-spec : {M : Type 1} → statement M
 decide-spec =
@@ -185,8 +191,8 @@ decide-spec =
     returns
     returns-2
     clash-rows-requires
-    cast-chained
-    chained-requires
+    cast-nested
+    nested-requires
     returns-3
     ask-all-requires
     mul-refusal

@@ -1,11 +1,12 @@
--- `judges::least` meets its contract: the greatest of what the rows ask is the greatest demand, and the search over the rows says whether the site is chained.
+-- `judges::least` meets its contract: the greatest of what the rows ask is the greatest demand, and the search over the rows says
+-- whether the site is in the class.
 -- Assumes nothing.
 use mathlib.Core.Path.{_≡_, sym, _∙_}
 use Rattle.site.specs.Record.{faultOf}
 use Rattle.site.specs.declared.Fault.the-variants.{Fine}
 use Rattle.site.proofs.Faults.{not-fine, fine-sized}
 use Rattle.judges.specs.Judges.{leastAnswer}
-use Rattle.judges.proofs.Laws.{least-enough, least-chained}
+use Rattle.judges.proofs.Laws.{least-enough, least-exact}
 use borrow.Author.Needs.{needs}
 use Rattle.judges.proofs.least.Statement.{statement}
 use Rattle.judges.proofs.least.Tie as tie
@@ -39,8 +40,8 @@ most-demand-requires c κs = fine-sized _ (fine (c .before .before .before .befo
 cast-n : tie.Need-cast-n
 cast-n c = search needs
 
-first-break-requires : tie.Need-first-break-requires
-first-break-requires c κs = fine-sized _ (fine (c .before .before .before .before .before .before .before .before .before)) .cells-most
+first-split-requires : tie.Need-first-split-requires
+first-split-requires c κs = fine-sized _ (fine (c .before .before .before .before .before .before .before .before .before)) .cells-most
 
 returns-2 : tie.Need-returns-2
 returns-2 c =
@@ -49,7 +50,7 @@ returns-2 c =
     let rows = count .before .before in
     let ok = fine (rows .before .before .before) in
     sym (least-enough _ ok (rows .clash-rows .result) (rows .clash-rows .ensures .1 ok) (count .loaded .result) (count .loaded .ensures)
-    (most .most-demand .result) (most .most-demand .ensures) (c .before .first-break .result) (c .before .first-break .ensures) (c .if1 .taken))
+    (most .most-demand .result) (most .most-demand .ensures) (c .before .first-split .result) (c .before .first-split .ensures) (c .if1 .taken))
 
 returns-3 : tie.Need-returns-3
 returns-3 c =
@@ -57,8 +58,8 @@ returns-3 c =
     let count = most .before .before .before in
     let rows = count .before .before in
     let ok = fine (rows .before .before .before) in
-    sym (least-chained _ ok (rows .clash-rows .result) (rows .clash-rows .ensures .1 ok) (count .loaded .result) (count .loaded .ensures)
-    (most .most-demand .result) (most .most-demand .ensures) (c .before .first-break .result) (c .before .first-break .ensures) (c .if1 .left))
+    sym (least-exact _ ok (rows .clash-rows .result) (rows .clash-rows .ensures .1 ok) (count .loaded .result) (count .loaded .ensures)
+    (most .most-demand .result) (most .most-demand .ensures) (c .before .first-split .result) (c .before .first-split .ensures) (c .if1 .left))
 
 pub least-spec : {M : Type 1} → statement M
 least-spec =
@@ -72,6 +73,6 @@ least-spec =
     loaded-requires
     most-demand-requires
     cast-n
-    first-break-requires
+    first-split-requires
     returns-2
     returns-3)

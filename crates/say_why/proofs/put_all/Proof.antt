@@ -5,7 +5,7 @@ use native.Mathlib.Nat.{mul-le-mul}
 use native.Mathlib.Omega.{arith}
 use borrow.Author.Needs.{needs}
 use Rattle.site.proofs.Faults.{fine-sized, few-positions}
-use Rattle.judges.specs.Judges.{chainAnswer, loadAnswer, leastAnswer}
+use Rattle.judges.specs.Judges.{chainAnswer, classAnswer, loadAnswer, leastAnswer}
 use Rattle.phrases.proofs.Put.{put-both, put-wide, put-long}
 use Rattle.say_why.specs.Said.{openOf, leastNumber, willDo, someBlocked, verdictPhrases, clashPhrases, sizesPhrases, listLine}
 use Rattle.say_why.proofs.Texts.{said-parts}
@@ -55,8 +55,8 @@ returns c =
     let least = m .least-number .ensures ∙ ap leastNumber (m .before .least .ensures) in
     let is : w .will-do .result ≡ u = w .will-do .ensures ∙ ap₂ (willDo (args .reply)) n least in
     let numbers = put-both _ _ (rw is at (q .put-clash .ensures)) (rw is at (a .put-last .ensures)) in
-    rw (said-parts (verdictPhrases (chainAnswer site) (loadAnswer site) (args .reply) (args .l) (openOf site)) (clashPhrases site (args .l) u (args .set))
-    (sizesPhrases site (args .l) u) (listLine site) (someBlocked site))
+    rw (said-parts (verdictPhrases (chainAnswer site) (classAnswer site) (loadAnswer site) (args .reply) (args .l) (openOf site))
+    (clashPhrases site (args .l) u (args .set)) (sizesPhrases site (args .l) u) (listLine site) (someBlocked site))
     (put-wide 60000 (omega arith) (put-both _ _ (rw n at (v .put-verdicts .ensures)) numbers))
 
 pub put-all-spec : {M : Type 1} → statement M

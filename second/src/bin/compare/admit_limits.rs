@@ -89,9 +89,11 @@ fn sums(run: &mut Run) {
     }
 }
 
-/// The record's faults before 18, 18 before 19, 19 before a flow's 2; a chain that only a spare cell breaks is 19 here.
+/// The record's faults before 18, 18 before 19, 19 before a flow's 2; a site that only a spare cell keeps from being nested
+/// is 19 here, and one that is nested and not chained is admitted.
 fn orders(run: &mut Run) {
-    let broken = Site::sized(3, 2, 1).with_reach(1, 3, true).unwrap();
+    let drift = Site::sized(3, 2, 1).with_reach(1, 3, true).unwrap();
+    let broken = drift.with_reach(3, 2, true).unwrap();
     let mut spare = broken;
     spare.loads = [0; 32];
     (spare.loads[0], spare.loads[2]) = (1, 1);
@@ -99,7 +101,7 @@ fn orders(run: &mut Run) {
     faulty.reach[1] |= 2;
     let mut loaded = broken;
     loaded.loads[31] = 1;
-    for site in [broken, spare, faulty, loaded, Site { cells: 33, ..broken }, Site::default(), tunnel(3, 2, 1)] {
+    for site in [drift, broken, spare, faulty, loaded, Site { cells: 33, ..broken }, Site::default(), tunnel(3, 2, 1)] {
         for count in [0, 1, 3, 16, 17] {
             for cell in [0, 1, 2, 3, 4] {
                 admit(run, site, &vec![flow(cell, 1); count]);

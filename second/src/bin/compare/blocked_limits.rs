@@ -78,7 +78,7 @@ fn fitting(site: &Site) -> Site {
 }
 
 fn every_call(run: &mut Run, site: &Site) {
-    for call in [Call::Fault, Call::LoadTest, Call::Chain, Call::Least, Call::Heaviest] {
+    for call in [Call::Fault, Call::LoadTest, Call::Chain, Call::Class, Call::Least, Call::Heaviest] {
         run.compare(&Case::of(call, *site));
     }
     for call in [Call::Clash, Call::SetLoad, Call::SetReach, Call::ClearReach] {
@@ -139,7 +139,7 @@ fn orders(run: &mut Run) {
 }
 
 fn every_order(run: &mut Run, site: &Site) {
-    for call in [Call::Fault, Call::LoadTest, Call::Chain, Call::Least, Call::Heaviest] {
+    for call in [Call::Fault, Call::LoadTest, Call::Chain, Call::Class, Call::Least, Call::Heaviest] {
         run.compare(&Case::of(call, *site));
     }
     for call in [Call::Clash, Call::SetLoad, Call::SetReach, Call::ClearReach] {

@@ -73,14 +73,14 @@ fn largest_sums(run: &mut Run) {
     for i in 0..32 {
         site.reach[i] = !(1 << i);
     }
-    for call in [Call::LoadTest, Call::Chain, Call::Least, Call::Heaviest] {
+    for call in [Call::LoadTest, Call::Chain, Call::Class, Call::Least, Call::Heaviest] {
         run.compare(&Case::of(call, site));
     }
 }
 
 fn every_call(run: &mut Run, cells: u16, slots: u16, channels: u16) {
     let site = tunnel(cells, slots, channels);
-    for call in [Call::Fault, Call::LoadTest, Call::Chain, Call::Least, Call::Heaviest] {
+    for call in [Call::Fault, Call::LoadTest, Call::Chain, Call::Class, Call::Least, Call::Heaviest] {
         run.compare(&Case::of(call, site));
     }
     for call in [Call::Clash, Call::SetLoad, Call::SetReach, Call::ClearReach] {

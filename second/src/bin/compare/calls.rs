@@ -14,6 +14,7 @@ extern "C" {
     fn dugg_clear_reach(site: Site, from: u16, to: u16) -> Edited;
     fn dugg_load_test(site: Site) -> Answer;
     fn dugg_chain(site: Site) -> Answer;
+    fn dugg_class(site: Site) -> Answer;
     fn dugg_least(site: Site) -> Answer;
     fn dugg_heaviest(site: Site) -> Answer;
     fn dugg_plan(site: Site, table: *mut u8, len: usize) -> Answer;
@@ -42,6 +43,7 @@ pub struct Calls {
     pub clear_reach: unsafe extern "C" fn(Site, u16, u16) -> Edited,
     pub load_test: unsafe extern "C" fn(Site) -> Answer,
     pub chain: unsafe extern "C" fn(Site) -> Answer,
+    pub class: unsafe extern "C" fn(Site) -> Answer,
     pub least: unsafe extern "C" fn(Site) -> Answer,
     pub heaviest: unsafe extern "C" fn(Site) -> Answer,
     pub plan: unsafe extern "C" fn(Site, *mut u8, usize) -> Answer,
@@ -70,6 +72,7 @@ pub const LIBRARY: Calls = Calls {
     clear_reach: dugg_clear_reach,
     load_test: dugg_load_test,
     chain: dugg_chain,
+    class: dugg_class,
     least: dugg_least,
     heaviest: dugg_heaviest,
     plan: dugg_plan,
@@ -98,6 +101,7 @@ pub const SECOND: Calls = Calls {
     clear_reach: second_clear_reach,
     load_test: second_load_test,
     chain: second_chain,
+    class: second_class,
     least: second_least,
     heaviest: second_heaviest,
     plan: second_plan,

@@ -22,6 +22,7 @@ const CALLS: &[Call] = &[
     Call::ClearReach,
     Call::LoadTest,
     Call::Chain,
+    Call::Class,
     Call::Least,
     Call::Heaviest,
     Call::Heaviest,

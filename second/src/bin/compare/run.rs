@@ -34,7 +34,7 @@ impl Run {
         if seen.answer.number != 0 {
             return;
         }
-        for call in [Call::Fault, Call::LoadTest, Call::Chain, Call::Least, Call::Heaviest] {
+        for call in [Call::Fault, Call::LoadTest, Call::Chain, Call::Class, Call::Least, Call::Heaviest] {
             self.compare(&Case::of(call, seen.site));
         }
         let write = Case::of(Call::WriteSite, seen.site);

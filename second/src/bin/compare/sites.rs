@@ -61,15 +61,21 @@ pub fn block_past(random: &mut Random, site: &mut Site) {
     }
 }
 
-/// Clashes that are scattered, or lie along a tunnel (and so are chained), each in one direction or in both.
+/// Clashes that are scattered, or lie along a tunnel (and so are chained), or along side drifts that leave one another (and
+/// so are nested); each in one direction or in both.
 fn set_reach(random: &mut Random, site: &mut Site) {
     let cells = site.count();
     let one_in = random.pick(&[1, 2, 2, 3, 8, 40]);
     let width = random.between(0, 6);
     let tunnel = random.once_in(2);
+    let drifts: Option<Vec<usize>> = random.once_in(3).then(|| (0..=cells).map(|b| random.below(b.max(1))).collect());
     for a in 1..=cells {
         for b in a + 1..=cells {
-            let clash = if tunnel { b - a <= width } else { random.once_in(one_in) };
+            let clash = match &drifts {
+                Some(before) => before[b] == a,
+                None if tunnel => b - a <= width,
+                None => random.once_in(one_in),
+            };
             let ways = if clash { random.between(1, 3) } else { 0 };
             site.reach[a - 1] |= (ways as u32 & 1) << (b - 1);
             site.reach[b - 1] |= (ways as u32 >> 1) << (a - 1);

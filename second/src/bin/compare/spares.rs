@@ -25,7 +25,7 @@ pub fn compare(run: &mut Run) {
 }
 
 fn verdicts(run: &mut Run, site: Site) {
-    for call in [Call::LoadTest, Call::Chain, Call::Least, Call::Heaviest] {
+    for call in [Call::LoadTest, Call::Chain, Call::Class, Call::Least, Call::Heaviest] {
         run.compare(&Case::of(call, site));
     }
 }
