@@ -37,6 +37,8 @@ typedef struct {
     dugg_answer (*to_bytes)(dugg_site, const uint32_t *, size_t, uint8_t *, size_t);
     dugg_answer (*mend)(dugg_site, uint8_t *, size_t, uint16_t *, size_t);
     dugg_answer (*heaviest)(dugg_site);
+    dugg_renumbered (*renumber)(dugg_site);
+    dugg_answer (*carry)(dugg_site, const uint8_t *, size_t, uint8_t *, size_t);
 } maker;
 
 extern const maker makers[MAKERS];
@@ -90,6 +92,8 @@ int mend_agree(void);
 void mend_table(void);
 int heaviest_agree(void);
 void heaviest_table(void);
+int number_agree(void);
+void number_table(void);
 int blocked_agree(void);
 void blocked_table(void);
 

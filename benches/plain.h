@@ -32,7 +32,10 @@
     dugg_answer P##check_words(dugg_site site, const uint32_t *words, size_t count);                                  \
     dugg_answer P##to_words(dugg_site site, const uint8_t *table, size_t len, uint32_t *words, size_t count);         \
     dugg_answer P##to_bytes(dugg_site site, const uint32_t *words, size_t count, uint8_t *table, size_t len);         \
-    dugg_answer P##mend(dugg_site site, uint8_t *table, size_t len, uint16_t *changes, size_t count);
+    dugg_answer P##mend(dugg_site site, uint8_t *table, size_t len, uint16_t *changes, size_t count);                 \
+    dugg_renumbered P##renumber(dugg_site site);                                                                      \
+    dugg_answer P##carry(dugg_site site, const uint8_t *new_table, size_t new_len, uint8_t *old_table,                \
+                         size_t old_len);
 
 /* The name of a call in a file that is compiled with -DPREFIX=name_ . */
 #define JOIN(a, b) a##b

@@ -1,6 +1,6 @@
 /* Duggfrask, the C interface: plans channel time-slots for the cells of a wireless fieldbus, and checks finished plans.
  *
- * Every call answers a number and up to three values. Number 0 is "done"; 1 to 22 are the refusals of
+ * Every call answers a number and up to three values. Number 0 is "done"; 1 to 23 are the refusals of
  * docs/RULES.md. Values that are not named below are 0. No call keeps anything between calls.
  *
  *    1  cells, slots or channels out of range
@@ -26,6 +26,7 @@
  *   20  a blocked position that the site does not have (value: lowest such position)
  *   21  the record of blocked positions in a site file blocks none
  *   22  a cell transmits at a blocked position (values: position, cell)
+ *   23  no numbering of the cells puts the site in the class
  *
  * A refused file read has one value: where in the file the refused record begins (12: the first byte too many;
  * 4: 0). A sheet has no records: its 17 gives the line, its 3 the lowest row, its 20 the lowest position.
@@ -63,6 +64,9 @@ typedef struct { dugg_site site; dugg_answer answer; } dugg_edited;
 
 /* What a plan file says of its site, or three zeros if the file is refused, and the answer. */
 typedef struct { uint16_t cells, slots, channels; dugg_answer answer; } dugg_plan_read;
+
+/* A site in new numbers, for each old number the new one and for each new number the old one, and the answer. */
+typedef struct { dugg_site site; uint16_t new_of_old[32], old_of_new[32]; dugg_answer answer; } dugg_renumbered;
 
 /* A flow that asks to be admitted: its cell by number, its burst in fragments, its period in slots, how many times each
  * fragment is sent, and what it is worth. */
@@ -147,6 +151,18 @@ dugg_answer dugg_to_bytes(dugg_site site, const uint32_t *words, size_t count, u
  * without room, and how many fragments are short; 13: how many changes there are, where the list has no room for them.
  * A refusal leaves table and list as they were. */
 dugg_answer dugg_mend(dugg_site site, uint8_t *table, size_t len, uint16_t *changes, size_t count);
+
+/* Numbers the cells anew, idle ones too, so that each cell's lower clashing cells clash with one another: then the load
+ * test is exact, whatever the loads. The last number goes to the highest old number whose clashing cells all clash with
+ * one another, then the same for those left. Done: the site in new numbers, the new number of each old one
+ * (new_of_old[a-1] for cell a) and the old number of each new one, 0 past the cells. Loads and reach go with the cells,
+ * everything else stays. Refusal 23: there is no such numbering. Any refusal gives the site as it came, and numbers all 0. */
+dugg_renumbered dugg_renumber(dugg_site site);
+
+/* Carries a table for the renumbered site back: "site" is the old one, and the rows of new_table, byte for byte, come to
+ * stand in old_table at their old numbers. It is valid for the old site when new_table is for the renumbered one. Bytes
+ * past cells * slots * channels are not written. Refusals: 23, then 4 for either table; they write nothing. */
+dugg_answer dugg_carry(dugg_site site, const uint8_t *new_table, size_t new_len, uint8_t *old_table, size_t old_len);
 
 /* What a flow needs, from its burst in fragments and its period in slots, each fragment sent once. Done: its share in
  * fragments per superframe, its queue bound in fragments, its delay bound in slots. */

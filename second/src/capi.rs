@@ -4,7 +4,7 @@ use crate::admit::Flow;
 use crate::answer::{done, Answer, Outcome};
 use crate::share::{Fragments, Repeats, Share, Slots};
 use crate::site::{Positions, Site};
-use crate::{admit, checker, files, heaviest, judge, mender, planner, share, sheet, words};
+use crate::{admit, checker, files, heaviest, judge, mender, numbering, planner, share, sheet, words};
 
 #[repr(C)]
 #[derive(Clone, Copy, Debug, PartialEq, Eq)]
@@ -26,6 +26,15 @@ pub struct PlanRead {
     pub cells: u16,
     pub slots: u16,
     pub channels: u16,
+    pub answer: Answer,
+}
+
+#[repr(C)]
+#[derive(Clone, Copy, Debug, PartialEq, Eq)]
+pub struct Renumbered {
+    pub site: Site,
+    pub new_of_old: [u16; 32],
+    pub old_of_new: [u16; 32],
     pub answer: Answer,
 }
 
@@ -264,4 +273,30 @@ pub unsafe extern "C" fn second_mend(
     count: usize,
 ) -> Answer {
     answer(mender::mend(&site, lent_out(table, len), lent_out(changes, count)), |changes| [changes as u64])
+}
+
+#[no_mangle]
+pub extern "C" fn second_renumber(site: Site) -> Renumbered {
+    match numbering::renumber(&site) {
+        Ok(found) => Renumbered {
+            site: found.site,
+            new_of_old: found.new_of_old,
+            old_of_new: found.old_of_new,
+            answer: done(&[]),
+        },
+        Err(answer) => Renumbered { site, new_of_old: [0; 32], old_of_new: [0; 32], answer },
+    }
+}
+
+/// # Safety
+/// `new_table` has `new_len` bytes, `old_table` has `old_len`, and they do not overlap.
+#[no_mangle]
+pub unsafe extern "C" fn second_carry(
+    site: Site,
+    new_table: *const u8,
+    new_len: usize,
+    old_table: *mut u8,
+    old_len: usize,
+) -> Answer {
+    answer(numbering::carry(&site, lent(new_table, new_len), lent_out(old_table, old_len)), |()| [])
 }

@@ -13,6 +13,7 @@ use crate::checker;
 use crate::files::{read_plan, read_site, write_plan, write_site};
 use crate::judge::first_split;
 use crate::mender;
+use crate::numbering;
 use crate::planner;
 use crate::share::{share as share_once, share_of, Fragments, Repeats, Share, Slots};
 use crate::sheet::{read_sheet, write_sheet};
@@ -104,6 +105,23 @@ pub fn mend(site_file: Input, plan_file: Input) -> Told {
         words += &change_line(&site, change);
     }
     Ok(Done { result: written(|file| write_plan(&site, &table, file)), words })
+}
+
+pub fn renumber(site_file: Input) -> Told {
+    let site = site_in(site_file)?;
+    let found = numbering::renumber(&site).map_err(|no| refused(no.number, Place::Nowhere))?;
+    let mut words = String::new();
+    for (cell, new) in (1..=site.cells).zip(found.new_of_old) {
+        words += &format!("cell {cell} is now cell {new}\n");
+    }
+    Ok(Done { result: written(|file| write_site(&found.site, file)), words })
+}
+
+pub fn carry(site_file: Input, plan_file: Input) -> Told {
+    let (site, new_numbered) = site_and_table(site_file, plan_file)?;
+    let mut table = vec![0; site.table_len()];
+    numbering::carry(&site, &new_numbered, &mut table).map_err(|no| refused(no.number, Place::Nowhere))?;
+    result(written(|file| write_plan(&site, &table, file)))
 }
 
 pub fn why(site_file: Input) -> Told {
@@ -226,7 +244,7 @@ mod tests {
     fn the_site_first_then_the_plan_then_the_sizes() {
         let other = plan_of(&Site::sized(2, 1, 1), &[0, 0]);
         let line = "f: refused: the plan is for 2 cells, 1 slot and 1 channel, and the site is of another size\n";
-        for command in [check, mend] {
+        for command in [check, mend, carry] {
             assert_eq!(command(file(&one(1)), file(&other)), Err(line.into()));
             let start = |told: Told| told.unwrap_err().rsplit_once(": a ").unwrap().0.to_string();
             let plan = "f is a site file; a plan file is asked for: refused 9, byte 10 of the plan file";
@@ -235,6 +253,26 @@ mod tests {
             assert_eq!(start(command(file(&other), file(&other))), site);
             assert!(command(file(b""), file(b"")).unwrap_err().starts_with("f: refused 8, byte 0 of the site file: "));
         }
+    }
+
+    /// Cells 1 and 2 clash with cell 3 and not with one another; the last number goes to cell 2, the one before to cell 3.
+    #[test]
+    fn a_fork_renumbered_and_its_plan_carried_back() {
+        let fork = Site::sized(3, 1, 2).with_reach(3, 1, true).and_then(|site| site.with_reach(2, 3, true)).unwrap();
+        let fork = fork.with_load(1, 1).and_then(|site| site.with_load(3, 2)).unwrap();
+        let made = Site::sized(3, 1, 2).with_reach(2, 1, true).and_then(|site| site.with_reach(3, 2, true)).unwrap();
+        let made = made.with_load(1, 1).and_then(|site| site.with_load(2, 2)).unwrap();
+        let [old, new] = [fork, made].map(|site| written(|file| write_site(&site, file)));
+        let words = String::from("cell 1 is now cell 1\ncell 2 is now cell 3\ncell 3 is now cell 2\n");
+        assert_eq!(renumber(file(&old)), Ok(Done { result: new, words }));
+        let [from, to] = [[1, 0, 0, 1, 1, 1], [1, 0, 1, 1, 0, 1]].map(|table| plan_of(&fork, &table));
+        assert_eq!(carry(file(&old), file(&from)), result(to));
+        let ring = [(1, 2), (2, 3), (3, 4), (4, 1)];
+        let ring = ring.iter().fold(Site::sized(4, 1, 1), |site, &(a, b)| site.with_reach(a, b, true).unwrap());
+        let ring_file = written(|file| write_site(&ring, file));
+        let line = "refused 23: no numbering makes the site nested when all its cells count, the spare ones too\n";
+        assert_eq!(renumber(file(&ring_file)), Err(line.into()));
+        assert_eq!(carry(file(&ring_file), file(&plan_of(&ring, &[0; 4]))), Err(line.into()));
     }
 
     #[test]

@@ -12,6 +12,7 @@ pub mod heaviest;
 pub mod judge;
 pub mod listing;
 pub mod mender;
+pub mod numbering;
 pub mod old_reader;
 pub mod planner;
 pub mod share;

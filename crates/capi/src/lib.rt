@@ -5,6 +5,7 @@ use shares::Repeats;
 use shares::Slots;
 use site::Site;
 use told::Answer;
+use told::RenumberedC;
 use toldfiles::Blocked;
 use toldfiles::EditedSite;
 use toldfiles::PlanReadC;
@@ -27,6 +28,9 @@ ghost use Rattle.wordtable.specs.Forms.{formAnswer, toWords, toBytes};
 ghost use Rattle.wordtable.specs.Given.{formGiven};
 ghost use Rattle.mender.specs.Mend.{mendAnswer, mendTable, mendList};
 ghost use Rattle.mender.specs.Given.{mendGiven};
+ghost use Rattle.numbering.specs.Renumber.{renumberOf};
+ghost use Rattle.numbering.specs.Carried.{carryAnswer, carryTable};
+ghost use Rattle.numbering.specs.Given.{carryGiven};
 ghost use Rattle.shares.specs.Share.{shareOf, defaultRepeats};
 ghost use Rattle.shares.specs.Given.{shareGiven};
 ghost use Rattle.records.specs.Given.{writtenGiven};
@@ -39,7 +43,7 @@ ghost use Rattle.sheet.specs.Read.{readSheet};
 ghost use Rattle.sheet.specs.Write.{sheetWritten, sheetOut};
 ghost use Rattle.admission.specs.Admit.{admitAnswer};
 ghost use Rattle.admission.specs.Given.{admitGiven};
-ghost use Rattle.told.specs.Told.{told};
+ghost use Rattle.told.specs.Told.{told, toldRenumbered};
 ghost use Rattle.toldfiles.specs.Files.{toldEdited, toldSiteRead, toldPlanRead, toldSheetRead};
 
 // The exports. Each makes its call and converts the answer; a cell is named by a number of two bytes.
@@ -166,6 +170,21 @@ pub extern "C" fn dugg_mend(site: Site, table: &mut [u8], changes: &mut [u16]) -
     ensures { λ _. ⌜ now (changes .exit) ≡ mendList site (now (table .entry)) (now (changes .entry)) ⌝ }
 {
     told::mend_answer(mender::mend(site, table, changes))
+}
+
+#[no_mangle]
+pub extern "C" fn dugg_renumber(site: Site) -> RenumberedC
+    ensures { λ r. ⌜ r ≡ toldRenumbered (renumberOf site) ⌝ }
+{
+    told::renumbered_site(numbering::renumber(site))
+}
+
+#[no_mangle]
+pub extern "C" fn dugg_carry(site: Site, from: &[u8], to: &mut [u8]) -> Answer
+    ensures { λ r. ⌜ r ≡ told (carryGiven (carryAnswer site (now (from .entry)) (now (to .entry)))) ⌝ }
+    ensures { λ _. ⌜ now (to .exit) ≡ carryTable site (now (from .entry)) (now (to .entry)) ⌝ }
+{
+    told::carry_answer(numbering::carry(site, from, to))
 }
 
 #[no_mangle]

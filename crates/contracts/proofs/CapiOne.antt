@@ -7,9 +7,10 @@ use Rattle.admission.specs.Admit.{admitAnswer}
 use Rattle.admission.specs.Given.{admitGiven}
 use Rattle.checker.specs.Check.{checkAnswer}
 use Rattle.checker.specs.Given.{checkGiven}
-use Rattle.contracts.specs.CapiSays.{DuggAdmit, DuggChain, DuggCheck, DuggCheckWords, DuggClash, DuggClass, DuggClearReach, DuggFault, DuggHeaviest}
-use Rattle.contracts.specs.CapiSays.{DuggLeast, DuggLoadTest, DuggMend, DuggPlan, DuggPlanWords, DuggReadPlan, DuggReadSheet, DuggReadSite, DuggSetLoad}
-use Rattle.contracts.specs.CapiSays.{DuggSetReach, DuggShare, DuggShareRepeated, DuggToBytes, DuggToWords, DuggWritePlan, DuggWriteSheet, DuggWriteSite}
+use Rattle.contracts.specs.CapiSays.{DuggAdmit, DuggCarry, DuggChain, DuggCheck, DuggCheckWords, DuggClash, DuggClass, DuggClearReach, DuggFault}
+use Rattle.contracts.specs.CapiSays.{DuggHeaviest, DuggLeast, DuggLoadTest, DuggMend, DuggPlan, DuggPlanWords, DuggReadPlan, DuggReadSheet, DuggReadSite}
+use Rattle.contracts.specs.CapiSays.{DuggRenumber, DuggSetLoad, DuggSetReach, DuggShare, DuggShareRepeated, DuggToBytes, DuggToWords, DuggWritePlan}
+use Rattle.contracts.specs.CapiSays.{DuggWriteSheet, DuggWriteSite}
 use Rattle.flowlist.specs.declared.Flow.{Flow}
 use Rattle.heaviest.specs.Given.{heaviestGiven}
 use Rattle.heaviest.specs.Sets.{heaviestOf}
@@ -17,6 +18,9 @@ use Rattle.judges.specs.Given.{chainGiven, classGiven, leastGiven, loadGiven}
 use Rattle.judges.specs.Judges.{chainAnswer, classAnswer, leastAnswer, loadAnswer}
 use Rattle.mender.specs.Given.{mendGiven}
 use Rattle.mender.specs.Mend.{mendAnswer, mendList, mendTable}
+use Rattle.numbering.specs.Carried.{carryAnswer, carryTable}
+use Rattle.numbering.specs.Given.{carryGiven}
+use Rattle.numbering.specs.Renumber.{renumberOf}
 use Rattle.planfile.specs.Given.{planWrittenGiven}
 use Rattle.planfile.specs.Read.{planTableRead, readPlan}
 use Rattle.planfile.specs.Write.{planOut, planWritten}
@@ -34,8 +38,9 @@ use Rattle.site.specs.Record.{faultOf}
 use Rattle.site.specs.declared.Site.{Site}
 use Rattle.sitefile.specs.Read.{readSite}
 use Rattle.sitefile.specs.Write.{siteOut, siteWritten}
-use Rattle.told.specs.Told.{told}
+use Rattle.told.specs.Told.{told, toldRenumbered}
 use Rattle.told.specs.declared.Answer.{Answer}
+use Rattle.told.specs.declared.RenumberedC.{RenumberedC}
 use Rattle.toldfiles.specs.Files.{toldEdited, toldPlanRead, toldSheetRead, toldSiteRead}
 use Rattle.toldfiles.specs.declared.Blocked.{Blocked}
 use Rattle.toldfiles.specs.declared.EditedSite.{EditedSite}
@@ -219,6 +224,27 @@ duggMend-one site table changes = (
   mendList site table changes,
   record { answer = refl; table-after = refl; changes-after = refl },
   λ q table″ changes″ says. (says .answer, says .table-after, says .changes-after),
+)
+
+-- capi::dugg_renumber
+pub duggRenumber-one : (site : Site)
+    → (r : RenumberedC) × (DuggRenumber site r)
+    × ((q : RenumberedC) → DuggRenumber site q → (q ≡ r))
+duggRenumber-one site = (
+  toldRenumbered (renumberOf site),
+  record { answer = refl },
+  λ q says. says .answer,
+)
+
+-- capi::dugg_carry
+pub duggCarry-one : (site : Site) (from : List ℕ) (to : List ℕ)
+    → (r : Answer) × (to′ : List ℕ) × (DuggCarry site from to r to′)
+    × ((q : Answer) (to″ : List ℕ) → DuggCarry site from to q to″ → (q ≡ r) × (to″ ≡ to′))
+duggCarry-one site from to = (
+  told (carryGiven (carryAnswer site from to)),
+  carryTable site from to,
+  record { answer = refl; to-after = refl },
+  λ q to″ says. (says .answer, says .to-after),
 )
 
 -- capi::dugg_share

@@ -1,14 +1,16 @@
 -- Every call of the product has one answer: crate by crate. Made by tools/surface from the source. Assumes nothing.
 use Rattle.contracts.proofs.AdmissionOne.{admit-one, decide-one, shareIn-one}
-use Rattle.contracts.proofs.CapiOne.{duggAdmit-one, duggChain-one, duggCheck-one, duggCheckWords-one, duggClash-one, duggClass-one, duggClearReach-one}
-use Rattle.contracts.proofs.CapiOne.{duggFault-one, duggHeaviest-one, duggLeast-one, duggLoadTest-one, duggMend-one, duggPlan-one, duggPlanWords-one}
-use Rattle.contracts.proofs.CapiOne.{duggReadPlan-one, duggReadSheet-one, duggReadSite-one, duggSetLoad-one, duggSetReach-one, duggShare-one}
-use Rattle.contracts.proofs.CapiOne.{duggShareRepeated-one, duggToBytes-one, duggToWords-one, duggWritePlan-one, duggWriteSheet-one, duggWriteSite-one}
+use Rattle.contracts.proofs.CapiOne.{duggAdmit-one, duggCarry-one, duggChain-one, duggCheck-one, duggCheckWords-one, duggClash-one, duggClass-one}
+use Rattle.contracts.proofs.CapiOne.{duggClearReach-one, duggFault-one, duggHeaviest-one, duggLeast-one, duggLoadTest-one, duggMend-one, duggPlan-one}
+use Rattle.contracts.proofs.CapiOne.{duggPlanWords-one, duggReadPlan-one, duggReadSheet-one, duggReadSite-one, duggRenumber-one, duggSetLoad-one}
+use Rattle.contracts.proofs.CapiOne.{duggSetReach-one, duggShare-one, duggShareRepeated-one, duggToBytes-one, duggToWords-one, duggWritePlan-one}
+use Rattle.contracts.proofs.CapiOne.{duggWriteSheet-one, duggWriteSite-one}
 use Rattle.contracts.proofs.CheckerOne.{check-one}
 use Rattle.contracts.proofs.FlowsheetOne.{readFlows-one}
 use Rattle.contracts.proofs.HeaviestOne.{heaviest-one}
 use Rattle.contracts.proofs.JudgesOne.{chain-one, inClass-one, least-one, loadTest-one}
 use Rattle.contracts.proofs.MenderOne.{mend-one, mendOnly-one}
+use Rattle.contracts.proofs.NumberingOne.{carry-one, renumber-one}
 use Rattle.contracts.proofs.PlanfileOne.{readPlan-one, writePlan-one}
 use Rattle.contracts.proofs.PlannerOne.{plan-one}
 use Rattle.contracts.proofs.SharesOne.{share-one, shareOf-one}
@@ -41,6 +43,8 @@ every-call = record {
   share = share-one;
   mend = mend-one;
   mendOnly = mendOnly-one;
+  renumber = renumber-one;
+  carry = carry-one;
   planWords = planWords-one;
   checkWords = checkWords-one;
   toWords = toWords-one;
@@ -72,6 +76,8 @@ every-call = record {
   duggToWords = duggToWords-one;
   duggToBytes = duggToBytes-one;
   duggMend = duggMend-one;
+  duggRenumber = duggRenumber-one;
+  duggCarry = duggCarry-one;
   duggShare = duggShare-one;
   duggShareRepeated = duggShareRepeated-one;
   duggReadSite = duggReadSite-one;

@@ -10,6 +10,7 @@ pub mod FlowlistOne
 pub mod BestsetOne
 pub mod ChainwordsOne
 pub mod DemandsOne
+pub mod NumberrowsOne
 pub mod RowsOne
 pub mod JudgesOne
 pub mod PlannerOne
@@ -21,6 +22,7 @@ pub mod StandingOne
 pub mod ChangelistOne
 pub mod MenderOne
 pub mod WordformsOne
+pub mod NumberingOne
 pub mod WordtableOne
 pub mod AdmissionOne
 pub mod RecordsOne
@@ -42,6 +44,7 @@ pub mod SayListingOne
 pub mod ListingOne
 pub mod SayVerdictsOne
 pub mod SayFlowsheetOne
+pub mod SayNumberingOne
 pub mod SayFlowsOne
 pub mod SayWhyOne
 pub mod ToldOne

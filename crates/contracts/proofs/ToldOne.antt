@@ -6,8 +6,9 @@ use Rattle.admission.specs.Given.{admitGiven}
 use Rattle.admission.specs.declared.AdmitAnswer.{AdmitAnswer}
 use Rattle.checker.specs.Given.{checkGiven}
 use Rattle.checker.specs.declared.CheckAnswer.{CheckAnswer}
-use Rattle.contracts.specs.ToldSays.{ToldAdmitAnswer, ToldChainAnswer, ToldCheckAnswer, ToldClashAnswer, ToldClassAnswer, ToldFaultAnswer, ToldFormAnswer}
-use Rattle.contracts.specs.ToldSays.{ToldGive, ToldHeaviestAnswer, ToldLeastAnswer, ToldLoadAnswer, ToldMendAnswer, ToldPlanAnswer, ToldShareAnswer}
+use Rattle.contracts.specs.ToldSays.{ToldAdmitAnswer, ToldCarryAnswer, ToldChainAnswer, ToldCheckAnswer, ToldClashAnswer, ToldClassAnswer}
+use Rattle.contracts.specs.ToldSays.{ToldFaultAnswer, ToldFormAnswer, ToldGive, ToldHeaviestAnswer, ToldLeastAnswer, ToldLoadAnswer, ToldMendAnswer}
+use Rattle.contracts.specs.ToldSays.{ToldPlanAnswer, ToldRenumberAnswer, ToldRenumberedSite, ToldShareAnswer}
 use Rattle.heaviest.specs.Given.{heaviestGiven}
 use Rattle.heaviest.specs.declared.HeaviestAnswer.{HeaviestAnswer}
 use Rattle.judges.specs.Given.{chainGiven, classGiven, leastGiven, loadGiven}
@@ -17,6 +18,10 @@ use Rattle.judges.specs.declared.LeastAnswer.{LeastAnswer}
 use Rattle.judges.specs.declared.LoadAnswer.{LoadAnswer}
 use Rattle.mender.specs.Given.{mendGiven}
 use Rattle.mender.specs.declared.MendAnswer.{MendAnswer}
+use Rattle.numbering.specs.Given.{carryGiven, renumberGiven}
+use Rattle.numbering.specs.declared.CarryAnswer.{CarryAnswer}
+use Rattle.numbering.specs.declared.RenumberAnswer.{RenumberAnswer}
+use Rattle.numbering.specs.declared.Renumbered.{Renumbered}
 use Rattle.planner.specs.Given.{planGiven}
 use Rattle.planner.specs.declared.PlanAnswer.{PlanAnswer}
 use Rattle.shares.specs.Given.{shareGiven}
@@ -24,8 +29,9 @@ use Rattle.shares.specs.declared.ShareAnswer.{ShareAnswer}
 use Rattle.site.specs.Given.{clashGiven, faultGiven}
 use Rattle.site.specs.declared.ClashAnswer.{ClashAnswer}
 use Rattle.site.specs.declared.Fault.{Fault}
-use Rattle.told.specs.Told.{numbered, told}
+use Rattle.told.specs.Told.{numbered, told, toldRenumbered}
 use Rattle.told.specs.declared.Answer.{Answer}
+use Rattle.told.specs.declared.RenumberedC.{RenumberedC}
 use Rattle.wordtable.specs.Given.{formGiven}
 use Rattle.wordtable.specs.declared.FormAnswer.{FormAnswer}
 
@@ -149,6 +155,26 @@ toldMendAnswer-one said = (
   λ q says. says .answer,
 )
 
+-- told::renumber_answer
+pub toldRenumberAnswer-one : (said : RenumberAnswer)
+    → (r : Answer) × (ToldRenumberAnswer said r)
+    × ((q : Answer) → ToldRenumberAnswer said q → (q ≡ r))
+toldRenumberAnswer-one said = (
+  told (renumberGiven said),
+  record { answer = refl },
+  λ q says. says .answer,
+)
+
+-- told::carry_answer
+pub toldCarryAnswer-one : (said : CarryAnswer)
+    → (r : Answer) × (ToldCarryAnswer said r)
+    × ((q : Answer) → ToldCarryAnswer said q → (q ≡ r))
+toldCarryAnswer-one said = (
+  told (carryGiven said),
+  record { answer = refl },
+  λ q says. says .answer,
+)
+
 -- told::share_answer
 pub toldShareAnswer-one : (said : ShareAnswer)
     → (r : Answer) × (ToldShareAnswer said r)
@@ -165,6 +191,16 @@ pub toldAdmitAnswer-one : (said : AdmitAnswer)
     × ((q : Answer) → ToldAdmitAnswer said q → (q ≡ r))
 toldAdmitAnswer-one said = (
   told (admitGiven said),
+  record { answer = refl },
+  λ q says. says .answer,
+)
+
+-- told::renumbered_site
+pub toldRenumberedSite-one : (e : Renumbered)
+    → (r : RenumberedC) × (ToldRenumberedSite e r)
+    × ((q : RenumberedC) → ToldRenumberedSite e q → (q ≡ r))
+toldRenumberedSite-one e = (
+  toldRenumbered e,
   record { answer = refl },
   λ q says. says .answer,
 )

@@ -14,6 +14,9 @@ use Rattle.judges.specs.Given.{chainGiven, classGiven, leastGiven, loadGiven}
 use Rattle.judges.specs.Judges.{chainAnswer, classAnswer, leastAnswer, loadAnswer}
 use Rattle.mender.specs.Given.{mendGiven}
 use Rattle.mender.specs.Mend.{mendAnswer, mendList, mendTable}
+use Rattle.numbering.specs.Carried.{carryAnswer, carryTable}
+use Rattle.numbering.specs.Given.{carryGiven}
+use Rattle.numbering.specs.Renumber.{renumberOf}
 use Rattle.planfile.specs.Given.{planWrittenGiven}
 use Rattle.planfile.specs.Read.{planTableRead, readPlan}
 use Rattle.planfile.specs.Write.{planOut, planWritten}
@@ -31,8 +34,9 @@ use Rattle.site.specs.Record.{faultOf}
 use Rattle.site.specs.declared.Site.{Site}
 use Rattle.sitefile.specs.Read.{readSite}
 use Rattle.sitefile.specs.Write.{siteOut, siteWritten}
-use Rattle.told.specs.Told.{told}
+use Rattle.told.specs.Told.{told, toldRenumbered}
 use Rattle.told.specs.declared.Answer.{Answer}
+use Rattle.told.specs.declared.RenumberedC.{RenumberedC}
 use Rattle.toldfiles.specs.Files.{toldEdited, toldPlanRead, toldSheetRead, toldSiteRead}
 use Rattle.toldfiles.specs.declared.Blocked.{Blocked}
 use Rattle.toldfiles.specs.declared.EditedSite.{EditedSite}
@@ -115,6 +119,15 @@ pub record DuggMend (site : Site) (table : List ℕ) (changes : List ℕ) (r : A
   pub answer : r ≡ told (mendGiven (mendAnswer site table changes))
   pub table-after : table′ ≡ mendTable site table changes
   pub changes-after : changes′ ≡ mendList site table changes
+
+-- capi::dugg_renumber
+pub record DuggRenumber (site : Site) (r : RenumberedC) : Type 0 where
+  pub answer : r ≡ toldRenumbered (renumberOf site)
+
+-- capi::dugg_carry
+pub record DuggCarry (site : Site) (from : List ℕ) (to : List ℕ) (r : Answer) (to′ : List ℕ) : Type 0 where
+  pub answer : r ≡ told (carryGiven (carryAnswer site from to))
+  pub to-after : to′ ≡ carryTable site from to
 
 -- capi::dugg_share
 pub record DuggShare (slots : ℕ) (burst : ℕ) (period : ℕ) (r : Answer) : Type 0 where

@@ -7,14 +7,16 @@ use Prim.Native.Nat.{ℕ}
 use Rattle.admission.specs.declared.AdmitAnswer.{AdmitAnswer}
 use Rattle.checker.specs.declared.CheckAnswer.{CheckAnswer}
 use Rattle.contracts.specs.AdmissionSays.{Admit, Decide, ShareIn}
-use Rattle.contracts.specs.CapiSays.{DuggAdmit, DuggChain, DuggCheck, DuggCheckWords, DuggClash, DuggClass, DuggClearReach, DuggFault, DuggHeaviest}
-use Rattle.contracts.specs.CapiSays.{DuggLeast, DuggLoadTest, DuggMend, DuggPlan, DuggPlanWords, DuggReadPlan, DuggReadSheet, DuggReadSite, DuggSetLoad}
-use Rattle.contracts.specs.CapiSays.{DuggSetReach, DuggShare, DuggShareRepeated, DuggToBytes, DuggToWords, DuggWritePlan, DuggWriteSheet, DuggWriteSite}
+use Rattle.contracts.specs.CapiSays.{DuggAdmit, DuggCarry, DuggChain, DuggCheck, DuggCheckWords, DuggClash, DuggClass, DuggClearReach, DuggFault}
+use Rattle.contracts.specs.CapiSays.{DuggHeaviest, DuggLeast, DuggLoadTest, DuggMend, DuggPlan, DuggPlanWords, DuggReadPlan, DuggReadSheet, DuggReadSite}
+use Rattle.contracts.specs.CapiSays.{DuggRenumber, DuggSetLoad, DuggSetReach, DuggShare, DuggShareRepeated, DuggToBytes, DuggToWords, DuggWritePlan}
+use Rattle.contracts.specs.CapiSays.{DuggWriteSheet, DuggWriteSite}
 use Rattle.contracts.specs.CheckerSays.{Check}
 use Rattle.contracts.specs.FlowsheetSays.{ReadFlows}
 use Rattle.contracts.specs.HeaviestSays.{Heaviest}
 use Rattle.contracts.specs.JudgesSays.{Chain, InClass, Least, LoadTest}
 use Rattle.contracts.specs.MenderSays.{Mend, MendOnly}
+use Rattle.contracts.specs.NumberingSays.{Carry, Renumber}
 use Rattle.contracts.specs.PlanfileSays.{ReadPlan, WritePlan}
 use Rattle.contracts.specs.PlannerSays.{Plan}
 use Rattle.contracts.specs.SharesSays.{Share, ShareOf}
@@ -31,6 +33,8 @@ use Rattle.judges.specs.declared.ClassAnswer.{ClassAnswer}
 use Rattle.judges.specs.declared.LeastAnswer.{LeastAnswer}
 use Rattle.judges.specs.declared.LoadAnswer.{LoadAnswer}
 use Rattle.mender.specs.declared.MendAnswer.{MendAnswer}
+use Rattle.numbering.specs.declared.CarryAnswer.{CarryAnswer}
+use Rattle.numbering.specs.declared.Renumbered.{Renumbered}
 use Rattle.planfile.specs.declared.PlanRead.{PlanRead}
 use Rattle.planfile.specs.declared.PlanWritten.{PlanWritten}
 use Rattle.planner.specs.declared.PlanAnswer.{PlanAnswer}
@@ -46,6 +50,7 @@ use Rattle.site.specs.declared.Fault.{Fault}
 use Rattle.site.specs.declared.Site.{Site}
 use Rattle.sitefile.specs.declared.SiteRead.{SiteRead}
 use Rattle.told.specs.declared.Answer.{Answer}
+use Rattle.told.specs.declared.RenumberedC.{RenumberedC}
 use Rattle.toldfiles.specs.declared.Blocked.{Blocked}
 use Rattle.toldfiles.specs.declared.EditedSite.{EditedSite}
 use Rattle.toldfiles.specs.declared.PlanReadC.{PlanReadC}
@@ -132,6 +137,14 @@ pub record EveryCall : Type 0 where
   pub mendOnly : (site : Site) (table : List ℕ)
       → (r : MendAnswer) × (table′ : List ℕ) × (MendOnly site table r table′)
       × ((q : MendAnswer) (table″ : List ℕ) → MendOnly site table q table″ → (q ≡ r) × (table″ ≡ table′))
+  -- numbering::renumber
+  pub renumber : (site : Site)
+      → (r : Renumbered) × (Renumber site r)
+      × ((q : Renumbered) → Renumber site q → (q ≡ r))
+  -- numbering::carry
+  pub carry : (site : Site) (from : List ℕ) (to : List ℕ)
+      → (r : CarryAnswer) × (to′ : List ℕ) × (Carry site from to r to′)
+      × ((q : CarryAnswer) (to″ : List ℕ) → Carry site from to q to″ → (q ≡ r) × (to″ ≡ to′))
   -- wordtable::plan_words
   pub planWords : (site : Site) (words : List ℕ)
       → (r : PlanAnswer) × (words′ : List ℕ) × (PlanWords site words r words′)
@@ -257,6 +270,14 @@ pub record EveryCall : Type 0 where
       → (r : Answer) × (table′ : List ℕ) × (changes′ : List ℕ) × (DuggMend site table changes r table′ changes′)
       × ((q : Answer) (table″ : List ℕ) (changes″ : List ℕ) → DuggMend site table changes q table″ changes″
       → (q ≡ r) × (table″ ≡ table′) × (changes″ ≡ changes′))
+  -- capi::dugg_renumber
+  pub duggRenumber : (site : Site)
+      → (r : RenumberedC) × (DuggRenumber site r)
+      × ((q : RenumberedC) → DuggRenumber site q → (q ≡ r))
+  -- capi::dugg_carry
+  pub duggCarry : (site : Site) (from : List ℕ) (to : List ℕ)
+      → (r : Answer) × (to′ : List ℕ) × (DuggCarry site from to r to′)
+      × ((q : Answer) (to″ : List ℕ) → DuggCarry site from to q to″ → (q ≡ r) × (to″ ≡ to′))
   -- capi::dugg_share
   pub duggShare : (slots : ℕ) (burst : ℕ) (period : ℕ)
       → (r : Answer) × (DuggShare slots burst period r)

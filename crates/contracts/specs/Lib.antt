@@ -10,6 +10,7 @@ pub mod FlowlistSays
 pub mod BestsetSays
 pub mod ChainwordsSays
 pub mod DemandsSays
+pub mod NumberrowsSays
 pub mod RowsSays
 pub mod JudgesSays
 pub mod PlannerSays
@@ -21,6 +22,7 @@ pub mod StandingSays
 pub mod ChangelistSays
 pub mod MenderSays
 pub mod WordformsSays
+pub mod NumberingSays
 pub mod WordtableSays
 pub mod AdmissionSays
 pub mod RecordsSays
@@ -42,6 +44,7 @@ pub mod SayListingSays
 pub mod ListingSays
 pub mod SayVerdictsSays
 pub mod SayFlowsheetSays
+pub mod SayNumberingSays
 pub mod SayFlowsSays
 pub mod SayWhySays
 pub mod ToldSays

@@ -15,6 +15,10 @@ use Rattle.judges.specs.declared.LeastAnswer.{LeastAnswer}
 use Rattle.judges.specs.declared.LoadAnswer.{LoadAnswer}
 use Rattle.mender.specs.Given.{mendGiven}
 use Rattle.mender.specs.declared.MendAnswer.{MendAnswer}
+use Rattle.numbering.specs.Given.{carryGiven, renumberGiven}
+use Rattle.numbering.specs.declared.CarryAnswer.{CarryAnswer}
+use Rattle.numbering.specs.declared.RenumberAnswer.{RenumberAnswer}
+use Rattle.numbering.specs.declared.Renumbered.{Renumbered}
 use Rattle.planner.specs.Given.{planGiven}
 use Rattle.planner.specs.declared.PlanAnswer.{PlanAnswer}
 use Rattle.shares.specs.Given.{shareGiven}
@@ -22,8 +26,9 @@ use Rattle.shares.specs.declared.ShareAnswer.{ShareAnswer}
 use Rattle.site.specs.Given.{clashGiven, faultGiven}
 use Rattle.site.specs.declared.ClashAnswer.{ClashAnswer}
 use Rattle.site.specs.declared.Fault.{Fault}
-use Rattle.told.specs.Told.{numbered, told}
+use Rattle.told.specs.Told.{numbered, told, toldRenumbered}
 use Rattle.told.specs.declared.Answer.{Answer}
+use Rattle.told.specs.declared.RenumberedC.{RenumberedC}
 use Rattle.wordtable.specs.Given.{formGiven}
 use Rattle.wordtable.specs.declared.FormAnswer.{FormAnswer}
 
@@ -75,6 +80,14 @@ pub record ToldFormAnswer (said : FormAnswer) (r : Answer) : Type 0 where
 pub record ToldMendAnswer (said : MendAnswer) (r : Answer) : Type 0 where
   pub answer : r ≡ told (mendGiven said)
 
+-- told::renumber_answer
+pub record ToldRenumberAnswer (said : RenumberAnswer) (r : Answer) : Type 0 where
+  pub answer : r ≡ told (renumberGiven said)
+
+-- told::carry_answer
+pub record ToldCarryAnswer (said : CarryAnswer) (r : Answer) : Type 0 where
+  pub answer : r ≡ told (carryGiven said)
+
 -- told::share_answer
 pub record ToldShareAnswer (said : ShareAnswer) (r : Answer) : Type 0 where
   pub answer : r ≡ told (shareGiven said)
@@ -82,3 +95,7 @@ pub record ToldShareAnswer (said : ShareAnswer) (r : Answer) : Type 0 where
 -- told::admit_answer
 pub record ToldAdmitAnswer (said : AdmitAnswer) (r : Answer) : Type 0 where
   pub answer : r ≡ told (admitGiven said)
+
+-- told::renumbered_site
+pub record ToldRenumberedSite (e : Renumbered) (r : RenumberedC) : Type 0 where
+  pub answer : r ≡ toldRenumbered e

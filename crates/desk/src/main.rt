@@ -13,6 +13,8 @@ use flowsheet::FlowsAnswer;
 use inputs::Input;
 use libc::STDIN_FILENO;
 use mender::MendAnswer;
+use numbering::CarryAnswer;
+use numbering::RenumberAnswer;
 use planfile::PlanRead;
 use planfile::PlanWritten;
 use planner::PlanAnswer;
@@ -284,6 +286,76 @@ fn mend(
     put_mended(site, old, table, out, text, end);
 }
 
+// A site in new numbers: the site file, and the text, a line for each cell. The lines are a part of the result: where they can't be written it is none.
+fn put_renumbered(site: Site, out: &mut [u8], text: &[u8], end: usize) {
+    let written = sitefile::write_site(site, out);
+    let Written::Done(size) = written else {
+        reply::unwritten();
+        return;
+    };
+    if !reply::result(out, size) {
+        reply::unwritten();
+        return;
+    }
+    if !reply::message(text, end) {
+        reply::unwritten();
+        return;
+    }
+    reply::fine();
+}
+
+// Numbers the cells of a site anew.
+fn renumber(input: &[u8], out: &mut [u8], text: &mut [u8])
+    requires { ⌜ 65536 ≤ length (now text) ⌝ }
+{
+    let read = sitefile::read_site(input);
+    let answer = read.answer;
+    let site = read.site;
+    let ReadAnswer::Done = answer else {
+        refuse(text, input, answer);
+        return;
+    };
+    let renumbered = numbering::renumber(site);
+    let found = renumbered.answer;
+    let new = renumbered.new;
+    let moved = renumbered.site;
+    let end = say_numbering::put_renumber(text, 0, new, found);
+    let RenumberAnswer::Done = found else {
+        no(text, end);
+        return;
+    };
+    put_renumbered(moved, out, text, end);
+}
+
+// Carries a plan of the renumbered site back into the old numbers.
+fn carry(
+    input: &[u8],
+    second: &[u8],
+    from: &mut [u8],
+    table: &mut [u8],
+    out: &mut [u8],
+    text: &mut [u8],
+)
+    requires { ⌜ 65536 ≤ length (now text) ⌝ }
+{
+    let pair = read_pair(input, second, from, text);
+    if !pair.good {
+        return;
+    }
+    let site = pair.site;
+    let carried = numbering::carry(site, from, table);
+    let end = say_numbering::put_carry(text, 0, carried);
+    let CarryAnswer::Done = carried else {
+        no(text, end);
+        return;
+    };
+    if !put_plan(site, table, out) {
+        reply::unwritten();
+        return;
+    }
+    reply::fine();
+}
+
 // The verdicts on a site, in English.
 fn why(input: &[u8], table: &mut [u8], text: &mut [u8])
     requires { ⌜ 65536 ≤ length (now table) ⌝ }
@@ -516,6 +588,8 @@ enum Command {
     Site,
     Share,
     Admit,
+    Renumber,
+    Carry,
     Unknown,
 }
 
@@ -544,6 +618,12 @@ fn asked() -> Command {
     }
     if is(b"admit") {
         return Command::Admit;
+    }
+    if is(b"renumber") {
+        return Command::Renumber;
+    }
+    if is(b"carry") {
+        return Command::Carry;
     }
     Command::Unknown
 }
@@ -585,6 +665,15 @@ fn main() {
             &mut text,
         ),
         Command::Admit => admit(&input[..n], &second[..m], &mut text),
+        Command::Renumber => renumber(&input[..n], &mut out, &mut text),
+        Command::Carry => carry(
+            &input[..n],
+            &second[..m],
+            &mut old,
+            &mut table,
+            &mut out,
+            &mut text,
+        ),
         Command::Unknown => no(b"duggfrask: there is no such command\n", 36),
     }
 }

@@ -1,11 +1,11 @@
--- P1 to P12, and sites with spare cells, with the words of W6, the mended tables of W7, the blocked positions of W8 and the side drift of W9, in one
--- theorem: the sites' faults first, and then both sides are computed. Assumes nothing.
+-- P1 to P12, and sites with spare cells, with the words of W6, the mended tables of W7, the blocked positions of W8, the side drift of W9 and the
+-- renumbered sites of W10, in one theorem: the sites' faults first, and then both sides are computed. Assumes nothing.
 use mathlib.Core.Path.{_≡_, refl, sym, ap₂, _∙_}
 use mathlib.Core.List.{List, _++_, map-append}
 use Rattle.laws.specs.Search.{firstOf}
 use Rattle.laws.specs.Sum.{sum, any}
 use Rattle.laws.specs.Most.{most}
-use Rattle.laws.specs.Part.{part, listOf}
+use Rattle.laws.specs.Part.{part, put, listOf}
 use Rattle.theory.specs.Greedy.{forbid, marked, fill, unmet, run}
 use Rattle.theory.specs.Verdict.{overloaded, lowestOver, loadVerdict, mostDemand, gap, breaks, breakOf, firstBreak, chainVerdict}
 use Rattle.theory.specs.Verdict.{second, splits, splitOf, firstSplit, classVerdict}
@@ -26,9 +26,15 @@ use Rattle.wordtable.specs.Forms.{formAnswer, toWords, toBytes}
 use Rattle.mending.specs.Mend.{stand, overlay}
 use Rattle.mending.specs.Changes.{cellChanges, changes}
 use Rattle.mender.specs.Mend.{mendAnswer, mendTable, mendList}
+use Rattle.renumbering.specs.Numbering.{last, missing, odd, fit, giveNumbers, numbering}
+use Rattle.renumbering.specs.Carry.{carried}
+use Rattle.numberrows.specs.Numbers.{movedBy, movedRows}
+use Rattle.numbering.specs.Renumber.{numberingOf, movedSite, renumberOf}
+use Rattle.numbering.specs.Carried.{carryAnswer, carryTable}
 use Rattle.promises.specs.Desk.{withZeros, P1, P1spare, P2, P3, P3spare, P4, P6, P7, alone, spareFirst, pair, noChannels}
-use Rattle.promises.specs.Desk.{P1blocked, P1lighter, P1far, aloneBlocked, sideDriftSite}
-use Rattle.promises.specs.Desk.{DeskLine, deskRules, deskLeast, deskNested, deskWords, deskMended, deskBlocked, deskHeaviest, deskTable, Answered}
+use Rattle.promises.specs.Desk.{P1blocked, P1lighter, P1far, aloneBlocked, sideDriftSite, P4inARow, ring}
+use Rattle.promises.specs.Desk.{DeskLine, deskRules, deskLeast, deskNested, deskWords, deskMended, deskBlocked, deskNumbered, deskHeaviest}
+use Rattle.promises.specs.Desk.{deskTable, Answered}
 use Rattle.promises.proofs.Faults.{usedWords, usedTo, pastIn, faultIn, fault-in}
 
 -- what is wrong with each site: nothing, or what its line says
@@ -54,6 +60,8 @@ faults : (faultOf P1 ≡ Fine)
     × (faultOf (P1blocked 193) ≡ Blocked 6)
     × (faultOf P1far ≡ Blocked 65)
     × (faultOf sideDriftSite ≡ Fine)
+    × (faultOf P4inARow ≡ Fine)
+    × (faultOf ring ≡ Fine)
 unfolding withZeros firstOf upTo sizeOk rowBad extraLoad badRow usedWords usedTo pastIn faultIn
 faults = (
   fault-in P1,
@@ -78,6 +86,8 @@ faults = (
   fault-in (P1blocked 193),
   fault-in P1far,
   fault-in sideDriftSite,
+  fault-in P4inARow,
+  fault-in ring,
 )
 
 rules : Answered deskRules
@@ -115,6 +125,12 @@ unfolding withZeros firstOf sum any part listOf forbid marked fill unmet run rea
     overlay cellChanges changes mendAnswer mendTable mendList
 blocked = rw (faults .14, faults .15, faults .16, faults .17, faults .18, faults .19, faults .20) refl
 
+renumbered : Answered deskNumbered
+unfolding withZeros firstOf sum any part put listOf forbid marked fill unmet run reaches clashIn holderAt barredAt lowestBarred secondAt clashesAt firstAt
+    lowestClash wrongIn lowestWrong openVerdict tableVerdict verdictOf checkAnswer planAnswer planTable wordOf last missing odd fit giveNumbers numbering
+    carried movedBy movedRows numberingOf movedSite renumberOf carryAnswer carryTable
+renumbered = rw (faults .0, faults .5, faults .7, faults .13, faults .22, faults .23) refl
+
 heaviest : Answered deskHeaviest
 unfolding withZeros firstOf sum any most listOf reaches clashIn wordOf bestOf mutualIn heaviestIn heaviestOf
 heaviest = rw (faults .0, faults .1, faults .2, faults .3, faults .4, faults .5, faults .6, faults .7, faults .8, faults .10, faults .13) refl
@@ -124,9 +140,10 @@ joined xs ys p q = map-append (λ l. l .asked) xs ys ∙ ap₂ _++_ p q ∙ sym 
 
 pub desk-holds : Answered deskTable
 desk-holds =
-    joined deskRules (deskLeast ++ (deskNested ++ (deskWords ++ (deskMended ++ (deskBlocked ++ deskHeaviest))))) rules
-    (joined deskLeast (deskNested ++ (deskWords ++ (deskMended ++ (deskBlocked ++ deskHeaviest)))) least
-    (joined deskNested (deskWords ++ (deskMended ++ (deskBlocked ++ deskHeaviest))) nested
-    (joined deskWords (deskMended ++ (deskBlocked ++ deskHeaviest)) words
-    (joined deskMended (deskBlocked ++ deskHeaviest) mended
-    (joined deskBlocked deskHeaviest blocked heaviest)))))
+    joined deskRules (deskLeast ++ (deskNested ++ (deskWords ++ (deskMended ++ (deskBlocked ++ (deskNumbered ++ deskHeaviest)))))) rules
+    (joined deskLeast (deskNested ++ (deskWords ++ (deskMended ++ (deskBlocked ++ (deskNumbered ++ deskHeaviest))))) least
+    (joined deskNested (deskWords ++ (deskMended ++ (deskBlocked ++ (deskNumbered ++ deskHeaviest)))) nested
+    (joined deskWords (deskMended ++ (deskBlocked ++ (deskNumbered ++ deskHeaviest))) words
+    (joined deskMended (deskBlocked ++ (deskNumbered ++ deskHeaviest)) mended
+    (joined deskBlocked (deskNumbered ++ deskHeaviest) blocked
+    (joined deskNumbered deskHeaviest renumbered heaviest))))))

@@ -5,7 +5,7 @@
 use mathlib.Core.Path.{_≡_, refl, ap}
 use mathlib.Core.Logic.{_↔_}
 use mathlib.Core.Bool.{true, false≢true}
-use mathlib.Core.List.{[], _∷_}
+use mathlib.Core.List.{List, [], _∷_}
 use Prim.Native.Nat.{ℕ}
 use native.Mathlib.Omega.{arith}
 use lib.ListN.{getD}
@@ -28,9 +28,17 @@ use Rattle.heaviest.specs.declared.HeaviestAnswer.{HeaviestAnswer}
 use Rattle.heaviest.specs.declared.HeaviestAnswer.the-variants as heaviest
 use Rattle.heaviest.proofs.Given.{heaviest-proper}
 use Rattle.judges.proofs.Meaning.{over-means, broken-means, outside-means}
+use Rattle.numbering.specs.Renumber.{renumberOf}
+use Rattle.numbering.specs.Carried.{carryAnswer}
+use Rattle.numbering.specs.Given.{renumberGiven, renumberProper, carryGiven, carryProper}
+use Rattle.numbering.specs.declared.RenumberAnswer.{RenumberAnswer}
+use Rattle.numbering.specs.declared.RenumberAnswer.the-variants as renumber
+use Rattle.numbering.specs.declared.CarryAnswer.{CarryAnswer}
+use Rattle.numbering.specs.declared.CarryAnswer.the-variants as carry
+use Rattle.numbering.proofs.Given.{renumber-proper, carry-proper}
 use Rattle.told.specs.Told.{numbered, told}
 use Rattle.told.specs.declared.Answer.{Answer}
-use Rattle.promises.specs.Numbers.{done, doneWith}
+use Rattle.promises.specs.Numbers.{done, doneWith, refused}
 
 numberIn : Answer → ℕ
 numberIn a = a .number
@@ -117,3 +125,51 @@ module _ (s : Site) where
       → told (heaviestGiven (heaviestOf s)) ≡ numbered 0 load cells 0 ↔ heaviestGiven (heaviestOf s) ≡ doneWith (load ∷ cells ∷ [])
   unfolding told
   heaviest-in-c load cells = (heaviest-told (heaviestOf s) load cells (heaviest-proper s), ap told)
+
+-- ---- W10: the numbers 0, 23 and 4 carry no values
+
+renumber-zero : (a : RenumberAnswer) → renumberProper a ≡ true → told (renumberGiven a) .number ≡ 0 → renumberGiven a ≡ done
+unfolding told
+renumber-zero renumber.Done p e = refl
+renumber-zero renumber.NoNumbering p e = absurd (omega arith)
+renumber-zero (renumber.Refused Fine) p e = absurd (false≢true p)
+renumber-zero (renumber.Refused Size) p e = absurd (omega arith)
+renumber-zero (renumber.Refused (Load i)) p e = absurd (omega arith)
+renumber-zero (renumber.Refused (Reach i)) p e = absurd (omega arith)
+renumber-zero (renumber.Refused (Blocked i)) p e = absurd (omega arith)
+
+renumber-none : (a : RenumberAnswer) → told (renumberGiven a) .number ≡ 23 → renumberGiven a ≡ refused 23 []
+unfolding told
+renumber-none renumber.Done e = absurd (omega arith)
+renumber-none renumber.NoNumbering e = refl
+renumber-none (renumber.Refused Fine) e = absurd (omega arith)
+renumber-none (renumber.Refused Size) e = absurd (omega arith)
+renumber-none (renumber.Refused (Load i)) e = absurd (omega arith)
+renumber-none (renumber.Refused (Reach i)) e = absurd (omega arith)
+renumber-none (renumber.Refused (Blocked i)) e = absurd (omega arith)
+
+carry-zero : (a : CarryAnswer) → carryProper a ≡ true → told (carryGiven a) .number ≡ 0 → carryGiven a ≡ done
+unfolding told
+carry-zero carry.Done p e = refl
+carry-zero carry.NoNumbering p e = absurd (omega arith)
+carry-zero carry.TableShort p e = absurd (omega arith)
+carry-zero (carry.Refused Fine) p e = absurd (false≢true p)
+carry-zero (carry.Refused Size) p e = absurd (omega arith)
+carry-zero (carry.Refused (Load i)) p e = absurd (omega arith)
+carry-zero (carry.Refused (Reach i)) p e = absurd (omega arith)
+carry-zero (carry.Refused (Blocked i)) p e = absurd (omega arith)
+
+module _ (s : Site) where
+  -- `dugg_renumber` gives 0 exactly where a numbering is found, and 23 exactly where there is none
+  pub renumber-in-c : (told (renumberGiven (renumberOf s .answer)) .number ≡ 0 ↔ renumberGiven (renumberOf s .answer) ≡ done)
+      × (told (renumberGiven (renumberOf s .answer)) .number ≡ 23 ↔ renumberGiven (renumberOf s .answer) ≡ refused 23 [])
+  unfolding told
+  renumber-in-c = (
+    (renumber-zero (renumberOf s .answer) (renumber-proper s), ap (λ g. g .number)),
+    (renumber-none (renumberOf s .answer), ap (λ g. g .number)),
+  )
+
+  -- `dugg_carry` gives 0 exactly where the rows are carried
+  pub carry-in-c : (from to : List ℕ) → told (carryGiven (carryAnswer s from to)) .number ≡ 0 ↔ carryGiven (carryAnswer s from to) ≡ done
+  unfolding told
+  carry-in-c from to = (carry-zero (carryAnswer s from to) (carry-proper s from to), ap (λ g. g .number))

@@ -22,3 +22,4 @@ pub mod Printed
 pub mod InC
 pub mod Untouched
 pub mod Top
+pub mod Numbered

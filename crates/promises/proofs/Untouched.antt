@@ -1,14 +1,22 @@
 -- What a refusal leaves in lent memory, call by call: each call's own theorem, by its contract. In C the number is that of the call. Assumes nothing.
-use mathlib.Core.Path.{_≡_, _∙_}
+use mathlib.Core.Path.{_≡_, refl, _∙_}
+use mathlib.Core.Bool.{Bool, true, false}
 use mathlib.Core.List.{List}
 use Prim.Native.Nat.{ℕ}
-use Rattle.site.specs.Record.{positions, size}
+use Rattle.site.specs.Record.{positions, size, faultOf}
 use Rattle.site.specs.declared.Site.{Site}
+use Rattle.site.specs.declared.Fault.{Fault}
+use Rattle.site.specs.declared.Fault.the-variants.{Fine, Size, Load, Reach, Blocked}
 use Rattle.planner.specs.Plan.{planAnswer, planTable}
 use Rattle.planner.specs.Given.{planGiven}
 use Rattle.wordtable.specs.Plan.{planWordsAnswer, planWords}
 use Rattle.wordtable.specs.Forms.{formAnswer, toWords, toBytes}
 use Rattle.wordtable.specs.Given.{formGiven}
+use Rattle.renumbering.specs.Numbering.{Numbering, numbered, stuck}
+use Rattle.numbering.specs.Renumber.{numberingOf}
+use Rattle.numbering.specs.Carried.{eitherShort, carryAnswer, carryTable}
+use Rattle.numbering.specs.Given.{carryGiven}
+use Rattle.numbering.proofs.Ways.{carry-refused, carry-none, carry-short}
 use Rattle.told.specs.Told.{told}
 use Rattle.toldfiles.specs.Files.{toldPlanRead}
 use Rattle.promises.specs.Untouched.{Idle, Refused, RefusedElse, IdleIfNoRoom, Untouched, UntouchedInC}
@@ -36,6 +44,21 @@ plan-untouched s table z = plan-leaves s table .if-refused (z .0) (z .1)
 plan-no-room : (s : Site) (table : List ℕ) → planGiven (planAnswer s table) .number ≡ 5 → Idle (size s) table (planTable s table)
 plan-no-room s table e = plan-leaves s table .if-no-room e
 
+module _ (s : Site) (from to : List ℕ) where
+  kept-at : (f : Fault) (x : Numbering) (short : Bool) → faultOf s ≡ f → numberingOf s ≡ x → eitherShort s from to ≡ short
+      → Refused (carryGiven (carryAnswer s from to) .number) → carryTable s from to ≡ to
+  unfolding carryAnswer
+  kept-at Fine (numbered new old) true e g h z = carry-short s from to new old e g h .1
+  kept-at Fine (numbered new old) false e g h z = absurd ((rw (e, g, h) at z) refl)
+  kept-at Fine stuck short e g h z = carry-none s from to e g .1
+  kept-at Size x short e g h z = carry-refused s from to Size e refl .1
+  kept-at (Load k) x short e g h z = carry-refused s from to (Load k) e refl .1
+  kept-at (Reach k) x short e g h z = carry-refused s from to (Reach k) e refl .1
+  kept-at (Blocked k) x short e g h z = carry-refused s from to (Blocked k) e refl .1
+
+  pub carry-untouched : Refused (carryGiven (carryAnswer s from to) .number) → carryTable s from to ≡ to
+  carry-untouched = kept-at (faultOf s) (numberingOf s) (eitherShort s from to) refl refl refl
+
 pub idle-if-no-room : IdleIfNoRoom
 unfolding told
 idle-if-no-room = record {
@@ -54,6 +77,7 @@ untouched = record {
   mend = λ site table changes table′ changes′ r says z.
       let u = refused-untouched site table changes (rw (says .answer) at z) in (says .table-after ∙ u .0, says .changes-after ∙ u .1);
   mend-only = λ site table table′ r says z. says .table-after ∙ refused-untouched site table _ (rw (says .answer) at z) .0;
+  carry = λ site from to to′ r says z. says .to-after ∙ carry-untouched site from to (rw (says .answer) at z);
   write-site = λ site out out′ r says z. says .out-after ∙ site-write-leaves site out .if-refused (rw (says .answer) at z);
   read-plan = λ bytes table table′ r says z. says .table-after ∙ plan-read-leaves bytes table .if-refused (rw (says .answer) at z);
   write-plan = λ site table out out′ r says z. says .out-after ∙ plan-write-leaves site table out .if-refused (rw (says .answer) at z);
@@ -71,6 +95,7 @@ untouched-in-c = record {
   to-bytes = λ site words table table′ r says z. says .table-after ∙ to-bytes-untouched site words table (rw (says .answer) at z);
   mend = λ site table changes table′ changes′ r says z.
       let u = refused-untouched site table changes (rw (says .answer) at z) in (says .table-after ∙ u .0, says .changes-after ∙ u .1);
+  carry = λ site from to to′ r says z. says .to-after ∙ carry-untouched site from to (rw (says .answer) at z);
   write-site = λ site out out′ r says z. says .out-after ∙ site-write-leaves site out .if-refused (rw (says .answer) at z);
   read-plan = λ bytes table table′ r says z. says .table-after ∙ plan-read-leaves bytes table .if-refused (rw (says .answer) at z);
   write-plan = λ site table out out′ r says z. says .out-after ∙ plan-write-leaves site table out .if-refused (rw (says .answer) at z);

@@ -1,6 +1,6 @@
 -- The desk examples P1 to P12 of document 01, and sites with a spare cell for W2, as site records, and what each is said to come to, in numbers; for W6 words,
--- for W7 mended tables, for W8 sites with blocked positions, for W9 a side drift. "Loads are listed by cell. .. where no file gives the reach, the lower cell
--- reaches the higher. Where only N is given, T=N and F=1." Proved in proofs/Desk.antt, in one theorem.
+-- for W7 mended tables, for W8 sites with blocked positions, for W9 a side drift, for W10 sites renumbered. "Loads are listed by cell. .. where no file gives
+-- the reach, the lower cell reaches the higher. Where only N is given, T=N and F=1." Proved in proofs/Desk.antt, in one theorem.
 use mathlib.Core.List.{List, [], _∷_, _++_, map}
 use mathlib.Core.Path.{_≡_}
 use Prim.Native.Nat.{ℕ, zero, suc, _+_}
@@ -22,6 +22,9 @@ use Rattle.wordtable.specs.Forms.{formAnswer, toWords, toBytes}
 use Rattle.wordtable.specs.Given.{formGiven}
 use Rattle.mender.specs.Mend.{mendAnswer, mendTable, mendList}
 use Rattle.mender.specs.Given.{mendGiven}
+use Rattle.numbering.specs.Renumber.{renumberOf}
+use Rattle.numbering.specs.Carried.{carryAnswer, carryTable}
+use Rattle.numbering.specs.Given.{renumberGiven, carryGiven}
 use Rattle.promises.specs.Numbers.{done, doneWith, refused}
 
 -- a list filled up with zeros to n
@@ -67,6 +70,14 @@ P4 = siteWith 2 1 (1 ∷ 1 ∷ 1 ∷ 1 ∷ []) (4 ∷ 8 ∷ 8 ∷ [])
 abbrev pub sideDriftSite : Site
 sideDriftSite = siteWith 2 1 (1 ∷ 1 ∷ 1 ∷ 1 ∷ []) (10 ∷ 4 ∷ [])
 
+-- W10: P4 renumbered. Its cells 1, 3, 4, 2 stand in a row, and are now 1, 2, 3, 4
+abbrev pub P4inARow : Site
+P4inARow = siteWith 2 1 (1 ∷ 1 ∷ 1 ∷ 1 ∷ []) (2 ∷ 4 ∷ 0 ∷ 4 ∷ [])
+
+-- W10: four cells in a ring
+abbrev pub ring : Site
+ring = siteWith 2 1 (1 ∷ 1 ∷ 1 ∷ 1 ∷ []) (2 ∷ 4 ∷ 8 ∷ 1 ∷ [])
+
 abbrev pub P6 : Site
 P6 = siteWith 2 1 (1 ∷ 1 ∷ 1 ∷ 1 ∷ 1 ∷ []) (8 ∷ 4 ∷ 16 ∷ 16 ∷ [])
 
@@ -100,11 +111,12 @@ P1far = siteBlocked 3 2 (5 ∷ 1 ∷ 4 ∷ []) (0 ∷ 5 ∷ []) (0 ∷ 2 ∷ [])
 abbrev pub aloneBlocked : Site
 aloneBlocked = siteBlocked 1 1 (0 ∷ []) [] (1 ∷ [])
 
--- what a call gives back, and what it leaves in the table or the words; for the mender also in the list
+-- what a call gives back, and what it leaves in the table or the words; for the mender also in the list; for `renumber` the site, new and old numbers
 pub data Reply : Type 0 where
   gives : Given → Reply
   leaves : Given → List ℕ → Reply
   mends : Given → List ℕ → List ℕ → Reply
+  renumbers : Given → Site → List ℕ → List ℕ → Reply
 
 -- the planner on a table of 9s that is one byte longer than the site's: the last 9 must stay
 abbrev pub nines : Site → List ℕ
@@ -151,6 +163,13 @@ toBytesCall s words = leaves (formGiven (formAnswer s (nines s) words)) (toBytes
 abbrev pub mendCall : Site → List ℕ → ℕ → Reply
 mendCall s table room =
     mends (mendGiven (mendAnswer s table (replicate room 9))) (mendTable s table (replicate room 9)) (mendList s table (replicate room 9))
+
+-- W10: the numbers as they are given, 0 past the cells; and a table carried into 9s
+abbrev pub renumberCall : Site → Reply
+renumberCall s = renumbers (renumberGiven (renumberOf s .answer)) (renumberOf s .site) (renumberOf s .new) (renumberOf s .old)
+
+abbrev pub carryCall : Site → List ℕ → Reply
+carryCall s from = leaves (carryGiven (carryAnswer s from (nines s))) (carryTable s from (nines s))
 
 -- "The planner's refusal 5 leaves the first IN bytes 0"
 abbrev pub allIdle : Site → List ℕ
@@ -313,6 +332,28 @@ deskBlocked =
     ∷ planCall P1far ⇒ leaves (refused 20 (65 ∷ [])) (nines P1)
     ∷ []
 
+-- W10: sites renumbered, and tables carried back
+abbrev pub deskNumbered : List DeskLine
+deskNumbered =
+    -- P4: 1~3, 2~4, 3~4. The last number goes to cell 2, which clashes with cell 4 alone: cell 4 clashes with 2 and 3, and these do not clash, cell 3 with 1
+    -- and 4. Of 1, 3 and 4 then cell 4, which clashes with cell 3 alone; of 1 and 3 cell 3
+    renumberCall P4 ⇒ renumbers done P4inARow (withZeros 32 (1 ∷ 4 ∷ 2 ∷ 3 ∷ [])) (withZeros 32 (1 ∷ 3 ∷ 4 ∷ 2 ∷ []))
+    -- its plan 10, 21, 12, 21 in new numbers; carried, cell 2 has the fourth row, cell 3 the second and cell 4 the third, and that is valid for P4
+    ∷ planCall P4inARow ⇒ leaves done (1 ∷ 0 ∷ 2 ∷ 1 ∷ 1 ∷ 2 ∷ 2 ∷ 1 ∷ 9 ∷ [])
+    ∷ carryCall P4 (1 ∷ 0 ∷ 2 ∷ 1 ∷ 1 ∷ 2 ∷ 2 ∷ 1 ∷ []) ⇒ leaves done (1 ∷ 0 ∷ 2 ∷ 1 ∷ 2 ∷ 1 ∷ 1 ∷ 2 ∷ 9 ∷ [])
+    ∷ checkCall P4 (1 ∷ 0 ∷ 2 ∷ 1 ∷ 2 ∷ 1 ∷ 1 ∷ 2 ∷ []) ⇒ gives done
+    ∷ carryCall P4 (1 ∷ 0 ∷ 2 ∷ 1 ∷ 1 ∷ 2 ∷ 2 ∷ []) ⇒ leaves (refused 4 []) (nines P4)
+    -- P7: 1~4, 2~3, 3~5, 4~5, and cell 2 is spare. The last number goes to cell 2 all the same, then 4 to cell 3, 3 to cell 5 and 2 to cell 4
+    ∷ renumberCall P7
+    ⇒ renumbers done (siteWith 2 1 (1 ∷ 1 ∷ 1 ∷ 1 ∷ 0 ∷ []) (2 ∷ 4 ∷ 0 ∷ 4 ∷ 8 ∷ [])) (withZeros 32 (1 ∷ 5 ∷ 4 ∷ 2 ∷ 3 ∷ []))
+    (withZeros 32 (1 ∷ 4 ∷ 5 ∷ 3 ∷ 2 ∷ []))
+    -- a chained site whose numbers stay; a ring of four has none, and is as it was given
+    ∷ renumberCall P1 ⇒ renumbers done P1 (withZeros 32 (1 ∷ 2 ∷ 3 ∷ [])) (withZeros 32 (1 ∷ 2 ∷ 3 ∷ []))
+    ∷ renumberCall ring ⇒ renumbers (refused 23 []) ring (withZeros 32 []) (withZeros 32 [])
+    ∷ carryCall ring [] ⇒ leaves (refused 23 []) (nines ring)
+    ∷ renumberCall noChannels ⇒ renumbers (refused 1 []) noChannels (withZeros 32 []) (withZeros 32 [])
+    ∷ []
+
 -- the heaviest clash
 abbrev pub deskHeaviest : List DeskLine
 deskHeaviest =
@@ -335,7 +376,7 @@ deskHeaviest =
 
 -- all of them: one table
 abbrev pub deskTable : List DeskLine
-deskTable = deskRules ++ (deskLeast ++ (deskNested ++ (deskWords ++ (deskMended ++ (deskBlocked ++ deskHeaviest)))))
+deskTable = deskRules ++ (deskLeast ++ (deskNested ++ (deskWords ++ (deskMended ++ (deskBlocked ++ (deskNumbered ++ deskHeaviest))))))
 
 -- what is asked is answered as the table says, line by line
 abbrev pub Answered : List DeskLine → Type 0

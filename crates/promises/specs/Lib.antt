@@ -6,3 +6,4 @@ pub mod Desk
 pub mod Untouched
 pub mod Top
 pub mod Spare
+pub mod Numbered

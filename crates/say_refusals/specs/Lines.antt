@@ -30,6 +30,7 @@ refusalMeanings =
     ∷ "a blocked position is one that the site does not have: its slots and channels end before it\n"
     ∷ "the record of blocked positions blocks none\n"
     ∷ "the call was refused\n"
+    ∷ "no numbering makes the site nested when all its cells count, the spare ones too\n"
     ∷ []
 
 -- the number, and the place

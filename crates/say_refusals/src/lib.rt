@@ -10,7 +10,7 @@ ghost use Rattle.say_refusals.specs.Said.{meaningPhrase, meaning, headPh
 ghost use Rattle.say_refusals.specs.Sentences.{sentenceIn, sentenceRoom};
 
 // The number of rows of meanings.
-const MEANINGS: usize = 23;
+const MEANINGS: usize = 24;
 
 const ALONE: usize = 0;
 
@@ -84,7 +84,8 @@ fn put_meaning(out: &mut [u8], at: usize, number: usize) -> usize
           the site is not nested when all its cells count, the spare ones too\n|\
           a blocked position is one that the site does not have: its slots and channels end before it\n|\
           the record of blocked positions blocks none\n|\
-          the call was refused\n|",
+          the call was refused\n|\
+          no numbering makes the site nested when all its cells count, the spare ones too\n|",
         meaning_phrase(number),
     )
 }

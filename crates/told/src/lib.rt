@@ -7,10 +7,14 @@ use judges::ClassAnswer;
 use judges::LeastAnswer;
 use judges::LoadAnswer;
 use mender::MendAnswer;
+use numbering::CarryAnswer;
+use numbering::RenumberAnswer;
+use numbering::Renumbered;
 use planner::PlanAnswer;
 use shares::ShareAnswer;
 use site::ClashAnswer;
 use site::Fault;
+use site::Site;
 use wordtable::FormAnswer;
 ghost use mathlib.Core.Path.{_≡_};
 ghost use Rattle.site.specs.Given.{faultGiven, clashGiven};
@@ -20,15 +24,25 @@ ghost use Rattle.planner.specs.Given.{planGiven};
 ghost use Rattle.checker.specs.Given.{checkGiven};
 ghost use Rattle.wordtable.specs.Given.{formGiven};
 ghost use Rattle.mender.specs.Given.{mendGiven};
+ghost use Rattle.numbering.specs.Given.{renumberGiven, carryGiven};
 ghost use Rattle.shares.specs.Given.{shareGiven};
 ghost use Rattle.admission.specs.Given.{admitGiven};
-ghost use Rattle.told.specs.Told.{numbered, told};
+ghost use Rattle.told.specs.Told.{numbered, told, toldRenumbered};
 
 // dugg_answer: the number given back, and the values that belong to it.
 #[repr(C)]
 pub struct Answer {
     pub number: u64,
     pub value: [u64; 3],
+}
+
+// dugg_renumbered: a site in new numbers, the new number of each old one and the old number of each new one, and the answer.
+#[repr(C)]
+pub struct RenumberedC {
+    pub site: Site,
+    pub new: [u16; 32],
+    pub old: [u16; 32],
+    pub answer: Answer,
 }
 
 // A number and its three values; 0 stands for a value that the document does not name.
@@ -159,6 +173,27 @@ pub fn mend_answer(said: MendAnswer) -> Answer
     }
 }
 
+pub fn renumber_answer(said: RenumberAnswer) -> Answer
+    ensures { λ r. ⌜ r ≡ told (renumberGiven said) ⌝ }
+{
+    match said {
+        RenumberAnswer::Done => give(0, 0, 0, 0),
+        RenumberAnswer::NoNumbering => give(23, 0, 0, 0),
+        RenumberAnswer::Refused(f) => fault_answer(f),
+    }
+}
+
+pub fn carry_answer(said: CarryAnswer) -> Answer
+    ensures { λ r. ⌜ r ≡ told (carryGiven said) ⌝ }
+{
+    match said {
+        CarryAnswer::Done => give(0, 0, 0, 0),
+        CarryAnswer::NoNumbering => give(23, 0, 0, 0),
+        CarryAnswer::TableShort => give(4, 0, 0, 0),
+        CarryAnswer::Refused(f) => fault_answer(f),
+    }
+}
+
 pub fn share_answer(said: ShareAnswer) -> Answer
     ensures { λ r. ⌜ r ≡ told (shareGiven said) ⌝ }
 {
@@ -186,5 +221,20 @@ pub fn admit_answer(said: AdmitAnswer) -> Answer
         AdmitAnswer::BadFlow(flow) => give(15, flow, 0, 0),
         AdmitAnswer::BigShare(flow) => give(16, flow, 0, 0),
         AdmitAnswer::Refused(f) => fault_answer(f),
+    }
+}
+
+pub fn renumbered_site(e: Renumbered) -> RenumberedC
+    ensures { λ r. ⌜ r ≡ toldRenumbered e ⌝ }
+{
+    let site = e.site;
+    let new = e.new;
+    let old = e.old;
+    let a = e.answer;
+    RenumberedC {
+        site,
+        new,
+        old,
+        answer: renumber_answer(a),
     }
 }

@@ -33,6 +33,8 @@ extern "C" {
     fn dugg_to_words(site: Site, table: *const u8, len: usize, words: *mut u32, count: usize) -> Answer;
     fn dugg_to_bytes(site: Site, words: *const u32, count: usize, table: *mut u8, len: usize) -> Answer;
     fn dugg_mend(site: Site, table: *mut u8, len: usize, changes: *mut u16, count: usize) -> Answer;
+    fn dugg_renumber(site: Site) -> Renumbered;
+    fn dugg_carry(site: Site, new_table: *const u8, new_len: usize, old_table: *mut u8, old_len: usize) -> Answer;
 }
 
 pub struct Calls {
@@ -62,6 +64,8 @@ pub struct Calls {
     pub to_words: unsafe extern "C" fn(Site, *const u8, usize, *mut u32, usize) -> Answer,
     pub to_bytes: unsafe extern "C" fn(Site, *const u32, usize, *mut u8, usize) -> Answer,
     pub mend: unsafe extern "C" fn(Site, *mut u8, usize, *mut u16, usize) -> Answer,
+    pub renumber: unsafe extern "C" fn(Site) -> Renumbered,
+    pub carry: unsafe extern "C" fn(Site, *const u8, usize, *mut u8, usize) -> Answer,
 }
 
 pub const LIBRARY: Calls = Calls {
@@ -91,6 +95,8 @@ pub const LIBRARY: Calls = Calls {
     to_words: dugg_to_words,
     to_bytes: dugg_to_bytes,
     mend: dugg_mend,
+    renumber: dugg_renumber,
+    carry: dugg_carry,
 };
 
 pub const SECOND: Calls = Calls {
@@ -120,4 +126,6 @@ pub const SECOND: Calls = Calls {
     to_words: second_to_words,
     to_bytes: second_to_bytes,
     mend: second_mend,
+    renumber: second_renumber,
+    carry: second_carry,
 };

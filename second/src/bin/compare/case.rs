@@ -35,6 +35,8 @@ pub enum Call {
     ToWords,
     ToBytes,
     Mend,
+    Renumber,
+    Carry,
 }
 
 /// A call and what it is given. What a call does not take is left zero or empty. The sheet reader takes of the site its
@@ -61,6 +63,8 @@ pub struct Case {
 pub struct Seen {
     pub answer: Answer,
     pub site: Site,
+    /// New numbers by old ones, and old ones by new ones.
+    pub numbers: [[u16; 32]; 2],
     pub input: Lent<u8>,
     pub output: Lent<u8>,
     pub flows: Lent<Flow>,
@@ -115,6 +119,7 @@ impl Case {
         let (site, [x, y, z, w]) = (self.site, self.numbers);
         let (inp, ilen, out, olen) = (input.pointer(), input.len(), output.pointer_mut(), output.len());
         let (read, write, count) = (words.pointer(), words.pointer_mut(), words.len());
+        let mut numbers = [[0; 32]; 2];
         let alone = |answer| (Site::default(), answer);
         // Each pointer has the length that is lent with it, and no two lent parts overlap.
         let (site, answer) = unsafe {
@@ -145,9 +150,15 @@ impl Case {
                 Call::ToWords => alone((calls.to_words)(site, inp, ilen, write, count)),
                 Call::ToBytes => alone((calls.to_bytes)(site, read, count, out, olen)),
                 Call::Mend => alone((calls.mend)(site, out, olen, list.pointer_mut(), list.len())),
+                Call::Renumber => {
+                    let found = (calls.renumber)(site);
+                    numbers = [found.new_of_old, found.old_of_new];
+                    (found.site, found.answer)
+                }
+                Call::Carry => alone((calls.carry)(site, inp, ilen, out, olen)),
             }
         };
-        Seen { answer, site, input, output, flows, words, list }
+        Seen { answer, site, numbers, input, output, flows, words, list }
     }
 
     /// Was all that may not be written left as it was: what is lent to be read, every guard, and what is lent to be
@@ -163,7 +174,7 @@ impl Case {
     /// How many bytes a call with this answer may write.
     fn bytes_written(&self, seen: &Seen) -> usize {
         match (self.call, seen.answer.number) {
-            (Call::Plan, 0 | 5) | (Call::ToBytes | Call::Mend, 0) => self.site.table_len(),
+            (Call::Plan, 0 | 5) | (Call::ToBytes | Call::Mend | Call::Carry, 0) => self.site.table_len(),
             (Call::ReadPlan, 0) => seen.site.table_len(),
             (Call::WriteSite | Call::WritePlan | Call::WriteSheet, 0) => seen.answer.value[0] as usize,
             _ => 0,

@@ -16,6 +16,7 @@ mod lent;
 mod make;
 mod mend_limits;
 mod mends;
+mod numberings;
 mod random;
 mod run;
 mod samples;

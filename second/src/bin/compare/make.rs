@@ -1,11 +1,12 @@
 //! Makes random cases: sites, tables, files and flows that are valid, nearly valid or damaged, so that every number is
 //! given often. Sites and tables are made in `sites`, files in `files`, range sheets in `sheets`, lists of flows in
-//! `admits`, tables of words in `word_tables`, tables to mend in `mends`.
+//! `admits`, tables of words in `word_tables`, tables to mend in `mends`, sites to renumber in `numberings`.
 
 use crate::admits;
 use crate::case::{Call, Case};
 use crate::files::{plan_file, site_file};
 use crate::mends;
+use crate::numberings;
 use crate::random::Random;
 use crate::run::Run;
 use crate::sheets::{self, sheet};
@@ -48,6 +49,9 @@ const CALLS: &[Call] = &[
     Call::ToBytes,
     Call::Mend,
     Call::Mend,
+    Call::Renumber,
+    Call::Renumber,
+    Call::Carry,
 ];
 
 /// Makes one case and compares it; a file that is accepted is also written back.
@@ -80,6 +84,9 @@ pub fn compare(run: &mut Run, random: &mut Random) {
         }
         Call::Mend => {
             run.compare(&mends::case(random));
+        }
+        Call::Renumber | Call::Carry => {
+            run.compare(&numberings::case(random, call));
         }
         _ => {
             let case = with_site(random, call).numbers_for(random);

@@ -8,7 +8,7 @@ use second::site::{Positions, Site};
 #[derive(Default)]
 pub struct Run {
     pub cases: u64,
-    pub given: [u64; 23],
+    pub given: [u64; 24],
 }
 
 impl Run {
@@ -71,7 +71,7 @@ impl Run {
         self.compare(&write.output(&vec![0xA5; bytes.len() - 1], mark));
     }
 
-    /// Prints how often each number was given, and says whether each of 0 to 22 was.
+    /// Prints how often each number was given, and says whether each of 0 to 23 was.
     pub fn report(&self) -> bool {
         for (number, times) in self.given.iter().enumerate() {
             println!("number {number} was given {times} times");

@@ -43,7 +43,7 @@ fn wrong() -> Said {
 fn said(words: &[&str]) -> io::Result<Said> {
     let mut files = Vec::new();
     let count = match words.first() {
-        Some(&("check" | "mend" | "admit")) => 2,
+        Some(&("check" | "mend" | "admit" | "carry")) => 2,
         Some(&"share") => 0,
         _ => 1,
     };
@@ -72,6 +72,8 @@ fn said(words: &[&str]) -> io::Result<Said> {
             desk::share(number(slots), number(burst), number(period), Some(number(repeats)))
         }
         ["admit", _, _] => desk::admit(file(0), file(1)),
+        ["renumber", _] => desk::renumber(file(0)),
+        ["carry", _, _] => desk::carry(file(0), file(1)),
         _ => return Ok(wrong()),
     }))
 }

@@ -1,0 +1,3 @@
+-- The definitions of crate `numberrows`, module by module.
+pub mod Words
+pub mod Numbers

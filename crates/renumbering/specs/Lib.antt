@@ -1,0 +1,4 @@
+-- The definitions of crate `renumbering`, module by module.
+pub mod Numbering
+pub mod Renumbers
+pub mod Carry

@@ -1,0 +1,65 @@
+-- `say_numbering::put_numbers` meets its contract: before cell i, the lines of the cells below it are put. Assumes nothing.
+use Prim.Native.Nat.{ℕ, _+_, _*_, _-_, _≤_}
+use mathlib.Core.Path.{_≡_}
+use native.Mathlib.Omega.{arith}
+use borrow.Author.Needs.{needs}
+use Rattle.phrases.specs.Put.{Put}
+use Rattle.phrases.proofs.Put.{put-both, put-wide, put-none, put-long}
+use Rattle.say_numbering.specs.Said.{numbersSaid}
+use Rattle.say_numbering.proofs.Said.{number-more}
+use Rattle.say_numbering.proofs.put_numbers.Statement.{statement}
+use Rattle.say_numbering.proofs.put_numbers.Tie as tie
+
+abbrev Inv-loop : tie.InvT-loop
+Inv-loop out₀ at new next₀ i₀ out next i = (i ≤ 32) × Put out₀ at (numbersSaid new i) (300 * i) out next
+
+abbrev μ-loop : tie.MeasureT-loop
+μ-loop out₀ at new next₀ i₀ out next i = 32 - i
+
+loop-holds : tie.Need-loop-holds Inv-loop μ-loop
+unfolding numbersSaid
+loop-holds c = (omega arith, put-none _ _ _)
+
+put-requires : tie.Need-put-requires Inv-loop μ-loop
+put-requires c κs =
+    let l = c .before .before .before in
+    let p = l .loop .inv .1 in
+    omega (arith, put-long p, p .follows, p .short, l .before .before .pre)
+
+loop-again : tie.Need-loop-again Inv-loop μ-loop
+loop-again c =
+    let p = c .before .before in
+    let q = p .before in
+    let l = q .before .before .before in
+    let a = l .before .before .args in
+    let i = l .loop .i in
+    let so-far = numbersSaid (a .t3) i in
+    let e = rw (q .number-phrase .ensures) at (p .put .ensures) in
+    (omega arith, rw (number-more (a .t3) i) (put-wide (300 * (i + 1)) (omega arith) (put-both so-far _ (l .loop .inv .1) e)))
+
+same-length : tie.Need-same-length Inv-loop μ-loop
+same-length c = put-long (c .before .loop .inv .1)
+
+returns : tie.Need-returns Inv-loop μ-loop
+returns c =
+    let l = c .before in
+    let e : l .loop .i ≡ 32 = omega arith in
+    rw e at (l .loop .inv .1)
+
+pub put-numbers-spec : {M : Type 1} → statement M
+put-numbers-spec =
+    tie.close
+    (tie.spec
+    Inv-loop
+    μ-loop
+    loop-holds
+    (λ c. search needs)
+    (λ c. search needs)
+    (λ c. search needs)
+    (λ c κs. search needs)
+    put-requires
+    (λ c. search needs)
+    (λ c. search needs)
+    loop-again
+    same-length
+    returns)
