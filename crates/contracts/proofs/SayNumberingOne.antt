@@ -3,10 +3,12 @@
 use mathlib.Core.Path.{_≡_, refl}
 use mathlib.Core.List.{List}
 use Prim.Native.Nat.{_+_, ℕ}
-use Rattle.contracts.specs.SayNumberingSays.{SayNumberingPutCarry, SayNumberingPutRenumber}
+use Rattle.contracts.specs.SayNumberingSays.{SayNumberingPutAnew, SayNumberingPutCarry, SayNumberingPutRenumber}
 use Rattle.numbering.specs.declared.CarryAnswer.{CarryAnswer}
 use Rattle.numbering.specs.declared.RenumberAnswer.{RenumberAnswer}
+use Rattle.say_numbering.specs.Anew.{anewSaid, anewTable}
 use Rattle.say_numbering.specs.Said.{carrySaid, renumberSaid}
+use Rattle.site.specs.declared.Site.{Site}
 use lib.ListN.{length}
 use lib.Seq.{sets}
 
@@ -30,4 +32,16 @@ sayNumberingPutCarry-one out at reply = (
   sets out at (carrySaid reply),
   record { answer = refl; out-after = refl },
   λ q out″ says. (says .answer, says .out-after),
+)
+
+-- say_numbering::put_anew
+pub sayNumberingPutAnew-one : (site : Site) (table : List ℕ) (out : List ℕ) (at : ℕ)
+    → (r : ℕ) × (table′ : List ℕ) × (out′ : List ℕ) × (SayNumberingPutAnew site table out at r table′ out′)
+    × ((q : ℕ) (table″ : List ℕ) (out″ : List ℕ) → SayNumberingPutAnew site table out at q table″ out″ → (q ≡ r) × (table″ ≡ table′) × (out″ ≡ out′))
+sayNumberingPutAnew-one site table out at = (
+  at + length (anewSaid site table),
+  anewTable site table,
+  sets out at (anewSaid site table),
+  record { answer = refl; table-after = refl; out-after = refl },
+  λ q table″ out″ says. (says .answer, says .table-after, says .out-after),
 )

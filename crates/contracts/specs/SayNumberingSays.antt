@@ -5,7 +5,9 @@ use mathlib.Core.List.{List}
 use Prim.Native.Nat.{_+_, ℕ}
 use Rattle.numbering.specs.declared.CarryAnswer.{CarryAnswer}
 use Rattle.numbering.specs.declared.RenumberAnswer.{RenumberAnswer}
+use Rattle.say_numbering.specs.Anew.{anewSaid, anewTable}
 use Rattle.say_numbering.specs.Said.{carrySaid, renumberSaid}
+use Rattle.site.specs.declared.Site.{Site}
 use lib.ListN.{length}
 use lib.Seq.{sets}
 
@@ -18,3 +20,9 @@ pub record SayNumberingPutRenumber (out : List ℕ) (at : ℕ) (new : List ℕ) 
 pub record SayNumberingPutCarry (out : List ℕ) (at : ℕ) (reply : CarryAnswer) (r : ℕ) (out′ : List ℕ) : Type 0 where
   pub answer : r ≡ at + length (carrySaid reply)
   pub out-after : out′ ≡ sets out at (carrySaid reply)
+
+-- say_numbering::put_anew
+pub record SayNumberingPutAnew (site : Site) (table : List ℕ) (out : List ℕ) (at : ℕ) (r : ℕ) (table′ : List ℕ) (out′ : List ℕ) : Type 0 where
+  pub answer : r ≡ at + length (anewSaid site table)
+  pub out-after : out′ ≡ sets out at (anewSaid site table)
+  pub table-after : table′ ≡ anewTable site table

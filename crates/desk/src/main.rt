@@ -356,7 +356,7 @@ fn carry(
     reply::fine();
 }
 
-// The verdicts on a site, in English.
+// The verdicts on a site, in English, and last what a numbering of a site that is not nested says.
 fn why(input: &[u8], table: &mut [u8], text: &mut [u8])
     requires { ⌜ 65536 ≤ length (now table) ⌝ }
     requires { ⌜ 65536 ≤ length (now text) ⌝ }
@@ -369,7 +369,8 @@ fn why(input: &[u8], table: &mut [u8], text: &mut [u8])
         return;
     };
     let end = say_why::put_why(site, table, text);
-    yes(text, end);
+    let last = say_numbering::put_anew(site, table, text, end);
+    yes(text, last);
 }
 
 // A site as a range sheet.

@@ -1,16 +1,32 @@
--- What is said of a numbering, computed letter by letter: cell 3 clashes with cells 1 and 2, which do not clash. Assumes nothing.
+-- What is said of a numbering, computed letter by letter: cell 3 clashes with cells 1 and 2, which do not clash. And what the site in new numbers says of
+-- small sites: each sentence once, and none of a nested site. Assumes nothing.
 use mathlib.Core.List.{List, [], _∷_, _++_}
 use mathlib.Core.Path.{_≡_, refl}
 use Prim.Native.Nat.{ℕ}
 use lib.ListN.{replicate}
+use Rattle.laws.specs.Bits.{wordOf}
+use Rattle.laws.specs.Part.{part, listOf}
+use Rattle.laws.specs.Search.{firstOf}
+use Rattle.laws.specs.Sum.{sum, any}
+use Rattle.theory.specs.Greedy.{forbid, marked, fill, run}
+use Rattle.theory.specs.Verdict.{second, splits, splitOf, firstSplit, classVerdict}
+use Rattle.site.specs.Record.{siteOf, size, upTo, sizeOk, rowBad, extraLoad, badRow, extraBlocked, faultOf}
+use Rattle.site.specs.Reach.{reaches, clashIn}
+use Rattle.site.specs.declared.Site.{Site}
+use Rattle.judges.specs.Judges.{classAnswer}
+use Rattle.planner.specs.Plan.{planAnswer}
+use Rattle.renumbering.specs.Numbering.{last, missing, odd, fit, giveNumbers, numbering}
+use Rattle.numberrows.specs.Numbers.{movedBy, movedRows}
+use Rattle.numbering.specs.Renumber.{numberingOf, movedSite, renumberOf}
 use Rattle.text.specs.Decimal.{digitsOf, decimal}
 use Rattle.speech.specs.Speech.{bytes, spoken}
 use Rattle.numbering.specs.declared.RenumberAnswer.the-variants as renumber
 use Rattle.numbering.specs.declared.CarryAnswer.the-variants as carry
 use Rattle.say_refusals.specs.Said.{refusedLine}
 use Rattle.say_refusals.specs.declared.Place.the-variants.{Nowhere}
-use Rattle.say_numbering.specs.Lines.{numberLines}
+use Rattle.say_numbering.specs.Lines.{numberLines, anewLines}
 use Rattle.say_numbering.specs.Said.{numbersSaid, renumberSaid, carrySaid}
+use Rattle.say_numbering.specs.Anew.{anewSaid}
 
 -- the new number of each old one, 0 past the cells
 abbrev new : List ℕ
@@ -25,3 +41,34 @@ refusals-said :
     renumberSaid new renumber.NoNumbering ∷ carrySaid carry.NoNumbering ∷ carrySaid carry.TableShort ∷ carrySaid carry.Done ∷ []
     ≡ refusedLine 23 Nowhere ∷ refusedLine 23 Nowhere ∷ refusedLine 4 Nowhere ∷ [] ∷ []
 refusals-said = refl
+
+-- ---- the site in new numbers
+
+-- P4: 1~3, 2~4, 3~4, and two positions
+p4 : Site
+p4 = siteOf 4 2 1 (1 ∷ 1 ∷ 1 ∷ 1 ∷ replicate 28 0) (4 ∷ 8 ∷ 8 ∷ replicate 29 0) []
+
+-- cell 3 clashes with cells 1 and 2, and there is one position for all
+full : Site
+full = siteOf 3 1 1 (1 ∷ 1 ∷ 1 ∷ replicate 29 0) (4 ∷ 4 ∷ replicate 30 0) []
+
+-- a ring of four cells with these loads
+ring : List ℕ → Site
+ring loads = siteOf 4 2 1 (loads ++ replicate 28 0) (2 ∷ 4 ∷ 8 ∷ 1 ∷ replicate 28 0) []
+
+-- with a table that is just long enough
+saidOf : Site → List ℕ
+saidOf s = anewSaid s (replicate (size s) 0)
+
+-- where a cell of the ring is idle the site is nested, and nothing is said
+anew-said :
+    saidOf p4 ∷ saidOf full ∷ saidOf (ring (1 ∷ 1 ∷ 1 ∷ 1 ∷ [])) ∷ saidOf (ring (1 ∷ 1 ∷ 1 ∷ 0 ∷ [])) ∷ []
+    ≡ bytes "renumbered it is nested and can be planned: this site has a plan (duggfrask renumber, plan, carry)\n"
+    ∷ bytes "renumbered it is nested and full: this site has no plan\n"
+    ∷ bytes "no numbering of all its cells, idle ones too, is nested\n"
+    ∷ []
+    ∷ []
+unfolding p4 full ring saidOf firstOf sum any part listOf forbid marked fill run second splits splitOf firstSplit classVerdict classAnswer wordOf upTo sizeOk
+    rowBad extraLoad badRow extraBlocked faultOf reaches clashIn planAnswer last missing odd fit giveNumbers numbering movedBy movedRows numberingOf movedSite
+    renumberOf spoken anewLines anewSaid
+anew-said = refl

@@ -1,18 +1,31 @@
-// What is said of a numbering of cells, and of a plan carried back from one, written into a lent buffer at `at`. The answer is where the next byte goes.
+// What is said of a numbering of cells, of a plan carried back from one, and of a site by its numbering, written into a lent buffer at `at`. The answer is
+// where the next byte goes.
+use judges::ClassAnswer;
 use numbering::CarryAnswer;
 use numbering::RenumberAnswer;
 use phrases::Phrase;
 use phrases::put_phrase;
+use planner::PlanAnswer;
 use say_refusals::Place;
+use site::Site;
 ghost use mathlib.Core.Path.{_≡_};
 ghost use Prim.Native.Nat.{_+_, _≤_};
 ghost use lib.ListN.{length};
 ghost use Rattle.phrases.specs.Put.{Put};
 ghost use Rattle.phrases.specs.Phrases.{phrase};
-ghost use Rattle.say_numbering.specs.Lines.{numberLines};
+ghost use Rattle.planner.specs.Plan.{planAnswer, planTable};
+ghost use Rattle.numbering.specs.Renumber.{renumberOf};
+ghost use Rattle.say_numbering.specs.Lines.{numberLines, anewLines};
 ghost use Rattle.say_numbering.specs.Said.{numberPhrase, numbersSaid, renumberSaid, carrySaid};
+ghost use Rattle.say_numbering.specs.Anew.{anewPlan, anewNumbered, anewNumberedTable, anewPhrase, anewSaid, anewTable};
 
 const NUMBERED: usize = 0;
+
+const ANEW_PLANNED: usize = 0;
+
+const ANEW_FULL: usize = 1;
+
+const NEVER: usize = 2;
 
 // Puts a line: a row of the table with its values, or nothing.
 fn put(out: &mut [u8], at: usize, what: Phrase) -> usize
@@ -69,4 +82,71 @@ pub fn put_carry(out: &mut [u8], at: usize, reply: CarryAnswer) -> usize
         CarryAnswer::TableShort => say_refusals::put_refused(out, at, 4, Place::Nowhere),
         CarryAnswer::Refused(f) => say_verdicts::put_fault(out, at, f),
     }
+}
+
+// What the plan of the renumbered site says of the site.
+fn anew_plan(reply: PlanAnswer) -> Phrase
+    ensures { λ r. ⌜ r ≡ anewPlan reply ⌝ }
+{
+    match reply {
+        PlanAnswer::Done => Phrase::Row(ANEW_PLANNED, 0, 0, 0, 0),
+        PlanAnswer::TableShort => Phrase::Silent,
+        PlanAnswer::NoRoom(_, _) => Phrase::Row(ANEW_FULL, 0, 0, 0, 0),
+        PlanAnswer::Refused(_) => Phrase::Silent,
+    }
+}
+
+// Plans the renumbered site in `table`.
+fn plan_anew(moved: Site, table: &mut [u8]) -> Phrase
+    ensures phrase { λ r. ⌜ r ≡ anewPlan (planAnswer moved (now (table .entry))) ⌝ }
+    ensures table { λ _. ⌜ now (table .exit) ≡ planTable moved (now (table .entry)) ⌝ }
+{
+    let reply = planner::plan(moved, table);
+    anew_plan(reply)
+}
+
+// Numbers the cells of a site that is not nested, and plans it so.
+fn number_anew(site: Site, table: &mut [u8]) -> Phrase
+    ensures phrase { λ r. ⌜ r ≡ anewNumbered (renumberOf site .answer) (renumberOf site .site) (now (table .entry)) ⌝ }
+    ensures table { λ _. ⌜ now (table .exit) ≡ anewNumberedTable (renumberOf site .answer) (renumberOf site .site) (now (table .entry)) ⌝ }
+{
+    let found = numbering::renumber(site);
+    let answer = found.answer;
+    let moved = found.site;
+    match answer {
+        RenumberAnswer::Done => plan_anew(moved, table),
+        RenumberAnswer::NoNumbering => Phrase::Row(NEVER, 0, 0, 0, 0),
+        RenumberAnswer::Refused(_) => Phrase::Silent,
+    }
+}
+
+// What is said of a site by the site in new numbers; nothing of a nested one.
+fn anew(site: Site, table: &mut [u8]) -> Phrase
+    ensures phrase { λ r. ⌜ r ≡ anewPhrase site (now (table .entry)) ⌝ }
+    ensures table { λ _. ⌜ now (table .exit) ≡ anewTable site (now (table .entry)) ⌝ }
+{
+    let class = judges::in_class(site);
+    match class {
+        ClassAnswer::InClass => Phrase::Silent,
+        ClassAnswer::Outside(_, _, _) => number_anew(site, table),
+        ClassAnswer::Refused(_) => Phrase::Silent,
+    }
+}
+
+// Of a site that is not nested, whether a numbering makes it so, and what its plan then says of the site; of any other, nothing. The planner plans in
+// `table`.
+pub fn put_anew(site: Site, table: &mut [u8], out: &mut [u8], at: usize) -> usize
+    requires { ⌜ at + 1000 ≤ length (now out) ⌝ }
+    ensures text { λ r. ⌜ Put (now (out .entry)) at (anewSaid site (now (table .entry))) 1000 (now (out .exit)) r ⌝ }
+    ensures table { λ _. ⌜ now (table .exit) ≡ anewTable site (now (table .entry)) ⌝ }
+{
+    let what = anew(site, table);
+    put_phrase(
+        out,
+        at,
+        b"renumbered it is nested and can be planned: this site has a plan (duggfrask renumber, plan, carry)\n|\
+          renumbered it is nested and full: this site has no plan\n|\
+          no numbering of all its cells, idle ones too, is nested\n|",
+        what,
+    )
 }

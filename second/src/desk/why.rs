@@ -4,12 +4,13 @@ use super::wording::counted;
 use crate::blocklist::write_list;
 use crate::heaviest::{heaviest, Heaviest};
 use crate::judge::{chain, least, load_test, nested};
+use crate::numbering::renumber;
 use crate::planner::plan;
 use crate::site::{Site, MOST_CHANNELS, MOST_SLOTS};
 
 /// Whether the site is chained, and if not whether it is nested; the load test, the plan or what a no means; how many channel-slots it takes and the
-/// heaviest clash; and so how many slots and channels, or where something is blocked what. The site comes from a reader,
-/// and is sound.
+/// heaviest clash; and so how many slots and channels, or where something is blocked what. Last, of a site that is not nested, what a numbering
+/// says of it. The site comes from a reader, and is sound.
 pub fn why(site: &Site) -> String {
     let gap = chain(site).expect("a sound site");
     let clash = heaviest(site).expect("a sound site");
@@ -34,6 +35,21 @@ pub fn why(site: &Site) -> String {
         + &plan
         + &takes_lines(site, &clash, enough)
         + &if site.has_blocked() { blocked_line(site) } else { size_lines(site, clash.load, enough) }
+        + if split.is_some() { anew_line(site) } else { "" }
+}
+
+/// Whether a numbering of all cells makes the site nested, and if one does whether the renumbered site can be planned: then this one has a plan, and
+/// else none.
+fn anew_line(site: &Site) -> &'static str {
+    let Ok(renumbered) = renumber(site) else {
+        return "no numbering of all its cells, idle ones too, is nested\n";
+    };
+    match plan(&renumbered.site, &mut vec![0; site.table_len()]) {
+        Ok(()) => {
+            "renumbered it is nested and can be planned: this site has a plan (duggfrask renumber, plan, carry)\n"
+        }
+        Err(_) => "renumbered it is nested and full: this site has no plan\n",
+    }
 }
 
 fn nested_line(split: Option<(usize, usize, usize)>) -> String {
@@ -185,8 +201,25 @@ of all cells that clash with one another these need the most, 2:
   cell 3, load 1
 with 1 channel: at least 2 slots, and 3 will do
 with 2 slots: at least 1 channel, and 2 will do
+renumbered it is nested and can be planned: this site has a plan (duggfrask renumber, plan, carry)
 ";
         assert_eq!(why(&site), expected);
+    }
+
+    /// A star with its centre last that is full, and a ring of four, which no numbering makes nested.
+    #[test]
+    fn the_renumbered_site_decides() {
+        let lines = why(&star(1, &[1, 1, 1]));
+        assert!(lines.ends_with("\nrenumbered it is nested and full: this site has no plan\n"), "{lines}");
+        let mut ring = Site::sized(4, 2, 1);
+        for (from, to) in [(1, 2), (2, 3), (3, 4), (4, 1)] {
+            ring = ring.with_reach(from, to, true).unwrap();
+        }
+        ring.loads[..4].fill(1);
+        let lines = why(&ring);
+        assert!(lines.ends_with("\nno numbering of all its cells, idle ones too, is nested\n"), "{lines}");
+        ring.loads[3] = 0;
+        assert!(why(&ring).lines().all(|line| !line.contains("numbering")), "nested: cell 4 is idle");
     }
 
     #[test]
@@ -251,6 +284,7 @@ of all cells that clash with one another these need the most, 20:
   cell 14, load 10
 with 1 channel: at least 20 slots, and 128 will do
 with 128 slots: 1 channel, and no fewer
+renumbered it is nested and can be planned: this site has a plan (duggfrask renumber, plan, carry)
 ";
         assert_eq!(why(&star(128, &[10; 14])), expected);
     }
