@@ -27,7 +27,7 @@ typedef struct {
     dugg_answer (*write_site)(dugg_site, uint8_t *, size_t);
     dugg_plan_read (*read_plan)(const uint8_t *, size_t, uint8_t *, size_t);
     dugg_answer (*write_plan)(dugg_site, const uint8_t *, size_t, uint8_t *, size_t);
-    dugg_edited (*read_sheet)(const uint8_t *, size_t, uint16_t, uint16_t, dugg_blocked);
+    dugg_edited (*read_sheet)(const uint8_t *, size_t, uint16_t, uint16_t, dugg_blocked, uint16_t);
     dugg_answer (*write_sheet)(dugg_site, uint8_t *, size_t);
     dugg_answer (*share_repeated)(uint16_t, uint16_t, uint16_t, uint16_t);
     dugg_answer (*admit)(dugg_site, const dugg_flow *, size_t);
@@ -39,6 +39,7 @@ typedef struct {
     dugg_answer (*heaviest)(dugg_site);
     dugg_renumbered (*renumber)(dugg_site);
     dugg_answer (*carry)(dugg_site, const uint8_t *, size_t, uint8_t *, size_t);
+    dugg_answer (*clash)(dugg_site, uint16_t, uint16_t);
 } maker;
 
 extern const maker makers[MAKERS];
@@ -51,7 +52,7 @@ enum { P1, MIDDLE_TUNNEL, MIDDLE_ALL, TUNNEL, ALL_CLASH, NONE_CLASH, MIXED, NONE
 const char *site_name(int site);
 dugg_site site_of(int site);
 
-/* A site of this size without loads, in which nobody reaches anybody. */
+/* A site of this size and of rule 1, without loads, in which nobody reaches anybody. */
 void size(dugg_site *s, unsigned cells, unsigned slots, unsigned channels);
 
 /* Each cell reaches the next few, one way. */
@@ -96,5 +97,7 @@ int number_agree(void);
 void number_table(void);
 int blocked_agree(void);
 void blocked_table(void);
+int rules_agree(void);
+void rules_table(void);
 
 #endif

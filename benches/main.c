@@ -14,7 +14,8 @@ static const int sites[SITES] = {P1, MIDDLE_TUNNEL, MIDDLE_ALL, TUNNEL, ALL_CLAS
     {name,              P##plan,       P##check,      P##load_test,   P##chain,      P##class,       P##least,        \
      P##read_site,      P##write_site, P##read_plan,  P##write_plan,  P##read_sheet, P##write_sheet,                  \
      P##share_repeated, P##admit,      P##plan_words, P##check_words, P##to_words,   P##to_bytes,                     \
-     P##mend,           P##heaviest,   P##renumber,   P##carry}
+     P##mend,           P##heaviest,   P##renumber,   P##carry, \
+     P##clash} 
 
 const maker makers[MAKERS] = {
     [LIBRARY] = MAKER("library", dugg_),
@@ -103,7 +104,7 @@ static void run(const maker *m, int operation, const work *w, left *l)
     case WRITE_PLAN: l->answer = m->write_plan(w->site, w->table, w->table_len, l->bytes, sizeof l->bytes); break;
     case READ_SHEET: {
         dugg_blocked blocked = blocked_of(&w->site);
-        keep(l, m->read_sheet(w->sheet, w->sheet_len, w->site.slots, w->site.channels, blocked));
+        keep(l, m->read_sheet(w->sheet, w->sheet_len, w->site.slots, w->site.channels, blocked, w->site.rule));
         break;
     }
     case WRITE_SHEET: l->answer = m->write_sheet(w->site, l->bytes, sizeof l->bytes); break;
@@ -146,7 +147,7 @@ static int same_site(const dugg_site *a, const dugg_site *b)
 {
     return a->cells == b->cells && a->slots == b->slots && a->channels == b->channels &&
            memcmp(a->loads, b->loads, sizeof a->loads) == 0 && memcmp(a->reach, b->reach, sizeof a->reach) == 0 &&
-           memcmp(a->blocked, b->blocked, sizeof a->blocked) == 0;
+           memcmp(a->blocked, b->blocked, sizeof a->blocked) == 0 && a->rule == b->rule;
 }
 
 /* Do all that have a call answer alike, and leave the same bytes? */
@@ -283,7 +284,7 @@ int main(void)
         }
         fine &= agree(&w[k]) & agree_when_wrong(&w[k]);
     }
-    fine &= admit_agree() & words_agree() & mend_agree() & heaviest_agree() & number_agree() & blocked_agree();
+    fine &= admit_agree() & words_agree() & mend_agree() & heaviest_agree() & number_agree() & blocked_agree() & rules_agree(); 
     if (!fine)
         return 1;
     printf("All gave the same answers and the same bytes on these inputs before they were timed.\n");
@@ -296,6 +297,7 @@ int main(void)
     heaviest_table();
     number_table();
     blocked_table();
+    rules_table();
     printf("\nPlan and check on the largest sites are %s a quarter of C -O3: the worst ratio is %.2f.\n",
            worst[C3] <= 1.25 ? "within" : "NOT within", worst[C3]);
     printf("\nReading and writing the sheets of the largest sites take %s twice the time of C -O3: the worst ratio is %.2f.\n",

@@ -18,7 +18,9 @@ dugg_answer NAME(clash)(dugg_site site, uint16_t a, uint16_t b)
         return f;
     if (a < 1 || a > site.cells || b < 1 || b > site.cells || a == b)
         return answer(0, 0, 0, 0);
-    return answer(0, (site.reach[a - 1] >> (b - 1) | site.reach[b - 1] >> (a - 1)) & 1, 0, 0);
+    uint32_t first = site.reach[a - 1], second = site.reach[b - 1];
+    bool third = site.rule == 2 && (first & second) != 0;
+    return answer(0, third | ((first >> (b - 1) | second >> (a - 1)) & 1), 0, 0);
 }
 
 dugg_edited NAME(set_load)(dugg_site site, uint16_t cell, uint16_t load)
@@ -309,15 +311,18 @@ static unsigned open(const uint8_t *bytes, size_t len, size_t at, unsigned kind,
     return 0;
 }
 
-/* The head record; it is at offset 0, so refusals carry 0. */
-static unsigned read_head(const uint8_t *bytes, size_t len, dugg_site *s)
+/* The head record, of kind 1 or with its rule of kind 5; it is at offset 0, so refusals carry 0. */
+static unsigned read_head(const uint8_t *bytes, size_t len, bool ruled, dugg_site *s)
 {
-    unsigned bad = open(bytes, len, 0, 1, 8);
+    unsigned bad = ruled ? open(bytes, len, 0, 5, 10) : open(bytes, len, 0, 1, 8);
     if (bad != 0)
         return bad;
     unsigned cells = word(bytes + 4), slots = word(bytes + 6), channels = word(bytes + 8);
     if (!sizes_fine(cells, slots, channels))
         return 1;
+    if (ruled && word(bytes + 10) != 2)
+        return 24;
+    s->rule = ruled ? 2 : 1;
     s->cells = cells;
     s->slots = slots;
     s->channels = channels;
@@ -369,10 +374,11 @@ static dugg_edited read_blocked(const uint8_t *bytes, size_t len, size_t at, con
 dugg_edited NAME(read_site)(const uint8_t *bytes, size_t len)
 {
     dugg_edited r = refused_read(0, 0);
-    unsigned bad = read_head(bytes, len, &r.site);
+    bool ruled = len >= 4 && word(bytes + 2) == 5;
+    unsigned bad = read_head(bytes, len, ruled, &r.site);
     if (bad != 0)
         return refused_read(bad, 0);
-    size_t at = 10;
+    size_t at = ruled ? 12 : 10;
     unsigned cells = r.site.cells;
     bad = open(bytes, len, at, 2, 2 + 2 * cells);
     if (bad != 0)
@@ -390,9 +396,8 @@ dugg_edited NAME(read_site)(const uint8_t *bytes, size_t len)
     return end < len ? read_blocked(bytes, len, end, &r) : r;
 }
 
-static uint8_t *put_head(uint8_t *p, const dugg_site *s)
+static uint8_t *put_sizes(uint8_t *p, const dugg_site *s)
 {
-    p = put_word(put_word(p, 8), 1);
     return put_word(put_word(put_word(p, s->cells), s->slots), s->channels);
 }
 
@@ -405,10 +410,13 @@ dugg_answer NAME(write_site)(dugg_site site, uint8_t *out, size_t len)
     for (unsigned i = 0; i < site.cells; i++)
         pairs += __builtin_popcount(site.reach[i]);
     size_t bits = any_blocked(&site) ? (positions_of(&site) + 7) / 8 : 0;
-    size_t need = 18 + 2 * site.cells + 2 * pairs + (bits == 0 ? 0 : 4 + bits);
+    bool ruled = site.rule == 2;
+    size_t need = (ruled ? 20 : 18) + 2 * site.cells + 2 * pairs + (bits == 0 ? 0 : 4 + bits);
     if (len < need)
         return answer(13, need, 0, 0);
-    uint8_t *p = put_head(out, &site);
+    uint8_t *p = put_sizes(put_word(put_word(out, ruled ? 10 : 8), ruled ? 5 : 1), &site);
+    if (ruled)
+        p = put_word(p, 2);
     p = put_word(put_word(p, 2 + 2 * site.cells), 2);
     for (unsigned i = 0; i < site.cells; i++)
         p = put_word(p, site.loads[i]);
@@ -440,7 +448,7 @@ static void unpack(uint8_t *table, uint8_t byte, size_t bits)
 dugg_plan_read NAME(read_plan)(const uint8_t *bytes, size_t len, uint8_t *table, size_t table_len)
 {
     dugg_site s;
-    unsigned bad = read_head(bytes, len, &s);
+    unsigned bad = read_head(bytes, len, false, &s);
     if (bad != 0)
         return refused_plan(bad, 0);
     size_t bits = s.cells * positions_of(&s), size = (bits + 7) / 8;
@@ -480,7 +488,7 @@ dugg_answer NAME(write_plan)(dugg_site site, const uint8_t *table, size_t table_
         return answer(4, 0, 0, 0);
     if (len < 14 + size)
         return answer(13, 14 + size, 0, 0);
-    uint8_t *p = put_head(out, &site);
+    uint8_t *p = put_sizes(put_word(put_word(out, 8), 1), &site);
     p = put_word(put_word(p, 2 + size), 4);
     for (size_t k = 0; k < bits / 8; k++)
         p[k] = pack(table + 8 * k, 8);
@@ -554,7 +562,8 @@ static const uint8_t *cell_line(const uint8_t *p, const uint8_t *end, unsigned k
     return after(p, end, "\r\n", 2);
 }
 
-dugg_edited NAME(read_sheet)(const uint8_t *bytes, size_t len, uint16_t slots, uint16_t channels, dugg_blocked blocked)
+dugg_edited NAME(read_sheet)(const uint8_t *bytes, size_t len, uint16_t slots, uint16_t channels, dugg_blocked blocked,
+                             uint16_t rule)
 {
     dugg_edited r = refused_read(0, 0);
     const uint8_t *end = bytes + len;
@@ -565,6 +574,7 @@ dugg_edited NAME(read_sheet)(const uint8_t *bytes, size_t len, uint16_t slots, u
     r.site.cells = cells;
     r.site.slots = slots;
     r.site.channels = channels;
+    r.site.rule = rule;
     memcpy(r.site.blocked, blocked.bits, sizeof r.site.blocked);
     for (unsigned k = 0; k < cells; k++) {
         p = cell_line(p, end, k, &r.site);

@@ -25,7 +25,7 @@
     dugg_plan_read P##read_plan(const uint8_t *bytes, size_t len, uint8_t *table, size_t table_len);                  \
     dugg_answer P##write_plan(dugg_site site, const uint8_t *table, size_t table_len, uint8_t *out, size_t len);      \
     dugg_edited P##read_sheet(const uint8_t *bytes, size_t len, uint16_t slots, uint16_t channels,                    \
-                              dugg_blocked blocked);                                                                  \
+                              dugg_blocked blocked, uint16_t rule);                                                   \
     dugg_answer P##write_sheet(dugg_site site, uint8_t *out, size_t len);                                             \
     dugg_answer P##admit(dugg_site site, const dugg_flow *flows, size_t count);                                       \
     dugg_answer P##plan_words(dugg_site site, uint32_t *words, size_t count);                                         \

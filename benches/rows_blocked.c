@@ -97,7 +97,7 @@ static bool same(const left *a, const left *b)
            a->site.slots == b->site.slots && a->site.channels == b->site.channels &&
            memcmp(a->site.loads, b->site.loads, sizeof a->site.loads) == 0 &&
            memcmp(a->site.reach, b->site.reach, sizeof a->site.reach) == 0 &&
-           memcmp(a->site.blocked, b->site.blocked, sizeof a->site.blocked) == 0 &&
+           memcmp(a->site.blocked, b->site.blocked, sizeof a->site.blocked) == 0 && a->site.rule == b->site.rule &&
            memcmp(a->bytes, b->bytes, sizeof a->bytes) == 0 && memcmp(a->words, b->words, sizeof a->words) == 0 &&
            memcmp(a->list, b->list, sizeof a->list) == 0;
 }

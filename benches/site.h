@@ -55,6 +55,8 @@ static inline dugg_answer fault(const dugg_site *s)
 {
     if (!sizes_fine(s->cells, s->slots, s->channels))
         return answer(1, 0, 0, 0);
+    if (s->rule != 1 && s->rule != 2)
+        return answer(24, 0, 0, 0);
     for (unsigned i = s->cells; i < CELLS; i++)
         if (s->loads[i] != 0)
             return answer(2, i + 1, 0, 0);
@@ -106,13 +108,29 @@ static inline dugg_answer stands_blocked(const dugg_site *s, const uint32_t *wor
     return answer(0, 0, 0, 0);
 }
 
-/* For each cell, the cells that it clashes with: either reaches the other. */
+/* Adds to each cell those with which it reaches a third cell. A sound site has no cell that reaches itself. */
+static inline void add_thirds(const dugg_site *s, uint32_t mask[CELLS])
+{
+    uint32_t who[CELLS] = {0};
+    for (unsigned i = 0; i < s->cells; i++)
+        for (uint32_t row = s->reach[i]; row != 0; row &= row - 1)
+            who[__builtin_ctz(row)] |= 1u << i;
+    for (unsigned i = 0; i < s->cells; i++) {
+        for (uint32_t row = s->reach[i]; row != 0; row &= row - 1)
+            mask[i] |= who[__builtin_ctz(row)];
+        mask[i] &= ~(1u << i);
+    }
+}
+
+/* For each cell, the cells that it clashes with: either reaches the other or, under rule 2, both reach a third cell. */
 static inline void clash_masks(const dugg_site *s, uint32_t mask[CELLS])
 {
     memcpy(mask, s->reach, sizeof s->reach);
     for (unsigned i = 0; i < s->cells; i++)
         for (uint32_t row = s->reach[i]; row != 0; row &= row - 1)
             mask[__builtin_ctz(row)] |= 1u << i;
+    if (s->rule == 2)
+        add_thirds(s, mask);
 }
 
 /* What a flow needs: its share and its two bounds, or refusal 1, 15 or 16. */

@@ -5,7 +5,7 @@
 void size(dugg_site *s, unsigned cells, unsigned slots, unsigned channels)
 {
     memset(s, 0, sizeof *s);
-    s->cells = cells, s->slots = slots, s->channels = channels;
+    s->cells = cells, s->slots = slots, s->channels = channels, s->rule = 1;
 }
 
 void tunnel(dugg_site *s, unsigned width)

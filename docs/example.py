@@ -9,7 +9,8 @@ import sys
 
 class Site(ctypes.Structure):
     _fields_ = [("cells", ctypes.c_uint16), ("slots", ctypes.c_uint16), ("channels", ctypes.c_uint16),
-                ("loads", ctypes.c_uint16 * 32), ("reach", ctypes.c_uint32 * 32), ("blocked", ctypes.c_uint64 * 32)]
+                ("loads", ctypes.c_uint16 * 32), ("reach", ctypes.c_uint32 * 32), ("blocked", ctypes.c_uint64 * 32),
+                ("rule", ctypes.c_uint16)]
 
 
 class Answer(ctypes.Structure):

@@ -1,7 +1,7 @@
 /* Duggfrask, the C interface: plans channel time-slots for the cells of a wireless fieldbus, and checks finished plans.
  *
- * Every call answers a number and up to three values. Number 0 is "done"; 1 to 23 are the refusals of
- * docs/RULES.md. Values that are not named below are 0. No call keeps anything between calls.
+ * Every call answers a number and up to three values. Number 0 is "done"; 1 to 24 are the
+ * refusals of docs/RULES.md. Values that are not named below are 0. No call keeps anything between calls.
  *
  *    1  cells, slots or channels out of range
  *    2  a load beyond the last cell (value: lowest such cell), or a load edit of a cell that is not there (the cell)
@@ -27,7 +27,8 @@
  *   21  the record of blocked positions in a site file blocks none
  *   22  a cell transmits at a blocked position (values: position, cell)
  *   23  no numbering of the cells puts the site in the class
- *
+ *   24  the rule is not 1 or 2, or in a site file that gives it not 2
+ * 
  * A refused file read has one value: where in the file the refused record begins (12: the first byte too many;
  * 4: 0). A sheet has no records: its 17 gives the line, its 3 the lowest row, its 20 the lowest position.
  * Cells are numbered from 1, positions from 0: slot t and channel f are position (t-1) * channels + (f-1).
@@ -39,7 +40,7 @@
 #include <stdint.h>
 
 /* The version: one more where a record or a call has another shape than before. */
-#define DUGG_VERSION 2
+#define DUGG_VERSION 3
 
 #ifdef __cplusplus
 extern "C" {
@@ -49,8 +50,15 @@ extern "C" {
  * who reaches whom: bit b-1 of reach[a-1] is set when cell a's transmissions can disturb cell b's. Loads and reach
  * of cells that the site does not have are 0. Where the plant runs its own Wi-Fi a position is blocked: position k is when
  * bit k % 64 of blocked[k / 64] is set. The other positions are open. Bits of positions that the site does not have, from
- * slots * channels on, are 0. Everything may be blocked. */
-typedef struct { uint16_t cells, slots, channels, loads[32]; uint32_t reach[32]; uint64_t blocked[32]; } dugg_site;
+ * slots * channels on, are 0. Everything may be blocked. The rule says which cells clash: under rule 1, that of running
+ * sites, two cells do when either reaches the other; under rule 2 also when some third cell is reached by both. A record
+ * that was all zeros but for its sizes, loads and reach has to be given its rule, 1: a rule of 0 is refusal 24. */
+typedef struct {
+    uint16_t cells, slots, channels, loads[32];
+    uint32_t reach[32];
+    uint64_t blocked[32];
+    uint16_t rule;
+} dugg_site;
 
 /* The blocked positions alone, as a site has them: they are given beside a range sheet. */
 typedef struct { uint64_t bits[32]; } dugg_blocked;
@@ -72,11 +80,12 @@ typedef struct { dugg_site site; uint16_t new_of_old[32], old_of_new[32]; dugg_a
  * fragment is sent, and what it is worth. */
 typedef struct { uint16_t cell, burst, period, repeats, value; } dugg_flow;
 
-/* Is the site record in order? 0, or refusal 1, 2, 3 or 20. Every call that takes a site asks this first. */
+/* Is the site record in order? 0, or refusal 1, 24, 2, 3 or 20, in this order. Every call that takes a site asks this first. */
 dugg_answer dugg_fault(dugg_site site);
 
-/* Do cells a and b clash, that is, does either reach the other? Done: value[0] is 1 for yes and 0 for no. A cell that
- * the site does not have clashes with none, and no cell clashes with itself. */
+/* Do cells a and b clash, that is, does either reach the other or, under rule 2, is a third cell reached by both? Done:
+ * value[0] is 1 for yes and 0 for no. A cell that the site does not have clashes with none, and no cell clashes with
+ * itself. */
 dugg_answer dugg_clash(dugg_site site, uint16_t a, uint16_t b);
 
 /* Sets the load of one cell. Refusal 2 gives the cell asked for. */
@@ -101,7 +110,7 @@ dugg_answer dugg_chain(dugg_site site);
  * lower clashing cells a < b that do not clash, the lowest such a, and for it the lowest b. */
 dugg_answer dugg_class(dugg_site site);
 
-/* How many open positions do for the cells, loads and reach of the site, whatever slots and channels it has and
+/* How many open positions do for the cells, loads, reach and rule of the site, whatever slots and channels it has and
  * whatever is blocked? Done: value[0] is how many: with so many or more the site is planned. It can be above 2,048, the most
  * that a site has. value[1] is 0 on a nested site: fewer never do, whoever plans; otherwise it is 1: fewer may. */
 dugg_answer dugg_least(dugg_site site);
@@ -174,8 +183,8 @@ dugg_answer dugg_share_repeated(uint16_t slots, uint16_t burst, uint16_t period,
 
 /* Which of at most 16 flows to admit on a nested site: the set of greatest total value whose shares, summed by cell,
  * pass the load test; of equals, the set with the smallest number, where flow 1 weighs 1, flow 2 weighs 2, flow 3 weighs
- * 4 and so on. The site's own loads are set aside. Done: value[0] is the set's number. Refusals: the record's 1, 2, 3 or
- * 20; 18; 19; then flow by flow 2 for a cell that the site does not have, 15 and 16, each with the flow's number, from 1. A
+ * 4 and so on. The site's own loads are set aside. Done: value[0] is the set's number. Refusals: the record's 1, 24, 2,
+ * 3 or 20; 18; 19; then flow by flow 2 for a cell that the site does not have, 15 and 16, each with the flow's number, from 1. A
  * flow's 2 has the same number as the record's: dugg_fault tells which it is. */
 dugg_answer dugg_admit(dugg_site site, const dugg_flow *flows, size_t count);
 
@@ -183,11 +192,13 @@ dugg_answer dugg_admit(dugg_site site, const dugg_flow *flows, size_t count);
 dugg_edited dugg_read_site(const uint8_t *bytes, size_t len);
 
 /* Writes a site file. Where something is blocked it ends with a record of kind 6; software that is older than version 2
- * refuses such a file with 12. A site without blocked positions has the file that it had before. Done: value[0] is the
+ * refuses such a file with 12. Under rule 2 it begins with a record of kind 5, which has the rule; software that is older
+ * than version 3 refuses such a file with 9. A rule 1 site without blocked positions has the file that it had before. Done: value[0] is the
  * number of bytes written; bytes past those are not touched. */
 dugg_answer dugg_write_site(dugg_site site, uint8_t *out, size_t len);
 
-/* Reads a plan file into the table, 1 for reserved and 0 for the rest. A refused file writes nothing. */
+/* Reads a plan file into the table, 1 for reserved and 0 for the rest. A refused file writes nothing. A plan file has no
+ * rule: one that begins with kind 5 is refused with 9. */
 dugg_plan_read dugg_read_plan(const uint8_t *bytes, size_t len, uint8_t *table, size_t table_len);
 
 /* Writes the reservations of a site's table as a plan file, without judging them. Done: value[0] is the number of
@@ -196,11 +207,12 @@ dugg_answer dugg_write_plan(dugg_site site, const uint8_t *table, size_t table_l
 
 /* Reads a range sheet: a first line "cell,load,1,2,.." with the cell numbers, then a line for each cell with its number,
  * its load, and for each cell a mark, 1 if it reaches that cell and 0 if not. Every line ends in CR LF. The slots, the
- * channels and the blocked positions of the site come beside it. Refusals: 17, then 1, then 3 for a cell that marks itself,
- * then 20. */
-dugg_edited dugg_read_sheet(const uint8_t *bytes, size_t len, uint16_t slots, uint16_t channels, dugg_blocked blocked);
+ * channels, the blocked positions and the rule of the site come beside it. Refusals: 17, then 1, then 24, then 3 for a cell
+ * that marks itself, then 20. */
+dugg_edited dugg_read_sheet(const uint8_t *bytes, size_t len, uint16_t slots, uint16_t channels, dugg_blocked blocked, uint16_t rule);
 
-/* Writes the range sheet of a site; the blocked positions are not in it. Done: value[0] is the number of bytes written; bytes past those are not touched. */
+/* Writes the range sheet of a site; the blocked positions and the rule are not in it. Done: value[0] is the number of bytes
+ * written; bytes past those are not touched. */
 dugg_answer dugg_write_sheet(dugg_site site, uint8_t *out, size_t len);
 
 #ifdef __cplusplus

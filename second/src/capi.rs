@@ -204,8 +204,9 @@ pub unsafe extern "C" fn second_read_sheet(
     slots: u16,
     channels: u16,
     blocked: Blocked,
+    rule: u16,
 ) -> Edited {
-    edited(sheet::read_sheet(lent(bytes, len), slots, channels, &blocked.bits), Site::default())
+    edited(sheet::read_sheet(lent(bytes, len), slots, channels, &blocked.bits, rule), Site::default())
 }
 
 /// # Safety

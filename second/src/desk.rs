@@ -139,13 +139,14 @@ pub fn blocked(list: &[u8], slots: u16, channels: u16) -> Result<Positions, Stri
 }
 
 /// The site file of a range sheet. Slots and channels above 65,535 are given as 0, which is out of range as well: that
-/// refusal is not the sheet's. Blocked positions come from a list, which names none that the site does not have.
-pub fn site(sheet: Input, slots: u16, channels: u16, blocked: &Positions) -> Told {
+/// refusal is not the sheet's, and so it is with the rule. Blocked positions come from a list, which names none that the
+/// site does not have.
+pub fn site(sheet: Input, slots: u16, channels: u16, blocked: &Positions, rule: u16) -> Told {
     let sheet = seen(sheet);
-    let site = read_sheet(sheet.bytes, slots, channels, blocked).map_err(|no| {
+    let site = read_sheet(sheet.bytes, slots, channels, blocked, rule).map_err(|no| {
         let value = no.value[0];
         match no.number {
-            1 => refused(1, Place::Nowhere),
+            1 | 24 => refused(no.number, Place::Nowhere),
             17 => sheet.refused(Kind::RangeSheet, refused(17, Place::Line(value))),
             number => sheet.refused(Kind::RangeSheet, refused(number, Place::Cell(value))),
         }
@@ -297,7 +298,7 @@ mod tests {
     fn sheets_and_their_refusals() {
         let sheet_of_one = b"cell,load,1\r\n1,1,0\r\n";
         assert_eq!(sheet(file(&one(1))), result(*sheet_of_one));
-        let site = |bytes, slots, channels| site(file(bytes), slots, channels, &[0; 32]);
+        let site = |bytes, slots, channels| site(file(bytes), slots, channels, &[0; 32], 1);
         assert_eq!(site(sheet_of_one, 2, 1), result(one(1)));
         assert!(site(sheet_of_one, 0, 1).unwrap_err().starts_with("refused 1: "));
         assert!(site(b"cell,load,1\r\n1,1,1\r\n", 2, 1).unwrap_err().starts_with("f: refused 3, cell 1: "));
@@ -307,11 +308,32 @@ mod tests {
     #[test]
     fn a_sheet_with_a_list_of_blocked_positions() {
         let set = blocked(b"2.*", 2, 1).unwrap();
-        let made = site(file(b"cell,load,1\r\n1,1,0\r\n"), 2, 1, &set).unwrap().result;
+        let made = site(file(b"cell,load,1\r\n1,1,0\r\n"), 2, 1, &set, 1).unwrap().result;
         assert_eq!(made, [&one(1)[..], &[3, 0, 6, 0, 2]].concat());
         assert_eq!(sheet(file(&made)), result(*b"cell,load,1\r\n1,1,0\r\n"));
         let line = "--blocked: at character 5 stands no slot.channel of this site\n";
         assert_eq!(blocked(b"1.1,3.1", 2, 1), Err(line.into()));
+    }
+
+    #[test]
+    fn a_sheet_with_its_rule() {
+        let (sheet_of_one, none) = (b"cell,load,1\r\n1,1,0\r\n", [0; 32]);
+        let made = site(file(sheet_of_one), 2, 1, &none, 2).unwrap().result;
+        assert_eq!(made, [&[10, 0, 5, 0, 1, 0, 2, 0, 1, 0, 2, 0], &one(1)[10..]].concat());
+        assert_eq!(sheet(file(&made)), result(*sheet_of_one));
+        let line = "refused 24: the rule is not 1 or 2, or not 2 where a site file says it\n";
+        for rule in [0, 3, 65_535] {
+            assert_eq!(site(file(sheet_of_one), 2, 1, &none, rule), Err(line.into()));
+            assert!(site(file(sheet_of_one), 0, 1, &none, rule).unwrap_err().starts_with("refused 1: "));
+            assert!(site(file(b""), 2, 1, &none, rule).unwrap_err().starts_with("f: refused 17, line 1: "));
+        }
+        let mut wrong = made.clone();
+        wrong[10] = 1;
+        let line =
+            "f: refused 24, byte 0 of the site file: the rule is not 1 or 2, or not 2 where a site file says it\n";
+        let named = "f is a site file; a plan file is asked for: refused 9, byte 0 of the plan file: ";
+        assert_eq!(plan(file(&wrong)), Err(line.into()));
+        assert!(check(file(&made), file(&made)).unwrap_err().starts_with(named));
     }
 
     #[test]

@@ -1,15 +1,16 @@
-//! "House files": the site file (kinds 1, 2, 3, and 6 where something is blocked) and the plan file (kinds 1, 4), read and
-//! written. A record is its length (two bytes, counting what follows them), its kind (two bytes) and its body; numbers are
+//! "House files": the site file (kinds 1, 2, 3, and 6 where something is blocked; under rule 2 kind 5 in place of kind 1) and
+//! the plan file (kinds 1, 4), read and written. A record is its length (two bytes, counting what follows them), its kind (two bytes) and its body; numbers are
 //! little-endian.
 
 use crate::answer::{refuse, Outcome};
 use crate::planner::{table_fits, RESERVED};
-use crate::site::{set_of, sizes_in_range, Site};
+use crate::site::{set_of, sizes_in_range, Site, RULE_2};
 
 const HEAD: u16 = 1;
 const LOADS: u16 = 2;
 const REACH: u16 = 3;
 const PLAN: u16 = 4;
+const RULED_HEAD: u16 = 5;
 const BLOCKED: u16 = 6;
 
 /// A record that has the kind and the length that are due, and lies within the file.
@@ -51,14 +52,29 @@ fn open(bytes: &[u8], at: usize, kind: u16, right: impl Fn(usize) -> bool) -> Ou
     Ok(Record { at, body: &bytes[at + 4..end], end })
 }
 
-/// Kind 1. The site that comes of it has its sizes alone.
+/// Kind 1. The site that comes of it has its sizes alone, and rule 1.
 fn read_head(bytes: &[u8]) -> Outcome<(Site, usize)> {
     let head = open(bytes, 0, HEAD, |length| length == 8)?;
+    Ok((read_sizes(&head)?, head.end))
+}
+
+/// Kind 5: the body of kind 1, then the rule, which is 2; 24 comes after 1.
+fn read_ruled_head(bytes: &[u8]) -> Outcome<(Site, usize)> {
+    let head = open(bytes, 0, RULED_HEAD, |length| length == 10)?;
+    let (site, rule) = (read_sizes(&head)?, word(head.body, 6));
+    if rule != RULE_2 {
+        return head.refuse(24);
+    }
+    Ok((Site { rule, ..site }, head.end))
+}
+
+/// The three sizes at the start of a head's body, or refusal 1.
+fn read_sizes(head: &Record) -> Outcome<Site> {
     let (cells, slots, channels) = (word(head.body, 0), word(head.body, 2), word(head.body, 4));
     if sizes_in_range(cells as usize, slots as usize, channels as usize).is_err() {
         return head.refuse(1);
     }
-    Ok((Site::sized(cells as usize, slots as usize, channels as usize), head.end))
+    Ok(Site::sized(cells as usize, slots as usize, channels as usize))
 }
 
 /// Refusal 12, with the offset of the first extra byte.
@@ -71,7 +87,8 @@ fn nothing_after(bytes: &[u8], end: usize) -> Outcome<()> {
 
 /// Reads a site file.
 pub fn read_site(bytes: &[u8]) -> Outcome<Site> {
-    let (mut site, head_end) = read_head(bytes)?;
+    let ruled = bytes.get(2..4) == Some(&RULED_HEAD.to_le_bytes());
+    let (mut site, head_end) = if ruled { read_ruled_head(bytes)? } else { read_head(bytes)? };
     let loads = open(bytes, head_end, LOADS, |length| length == 2 + 2 * site.count())?;
     for cell in 1..=site.count() {
         site.loads[cell - 1] = word(loads.body, 2 * (cell - 1));
@@ -135,11 +152,25 @@ fn push_record(file: &mut Vec<u8>, kind: u16, body: &[u8]) {
 }
 
 fn push_head(file: &mut Vec<u8>, site: &Site) {
+    push_record(file, HEAD, &sizes(site));
+}
+
+/// A site of rule 1 has kind 1, one of rule 2 has kind 5.
+fn push_site_head(file: &mut Vec<u8>, site: &Site) {
+    if site.rule != RULE_2 {
+        return push_head(file, site);
+    }
+    let mut body = sizes(site);
+    push_word(&mut body, site.rule as usize);
+    push_record(file, RULED_HEAD, &body);
+}
+
+fn sizes(site: &Site) -> Vec<u8> {
     let mut body = Vec::new();
     for number in [site.cells, site.slots, site.channels] {
         push_word(&mut body, number as usize);
     }
-    push_record(file, HEAD, &body);
+    body
 }
 
 /// Copies a finished file into the lent output, or refuses with 13 and the bytes needed.
@@ -164,7 +195,7 @@ pub fn write_site(site: &Site, out: &mut [u8]) -> Outcome<usize> {
         }
     }
     let mut file = Vec::new();
-    push_head(&mut file, site);
+    push_site_head(&mut file, site);
     push_record(&mut file, LOADS, &loads);
     push_record(&mut file, REACH, &pairs);
     if site.has_blocked() {
@@ -191,7 +222,7 @@ pub fn read_plan(bytes: &[u8], table: &mut [u8]) -> Outcome<Site> {
     Ok(site)
 }
 
-/// Writes the reservations of a table as a plan file and gives the number of bytes written.
+/// Writes the reservations of a table as a plan file, which begins with kind 1 under either rule, and gives the number of bytes written.
 pub fn write_plan(site: &Site, table: &[u8], out: &mut [u8]) -> Outcome<usize> {
     site.sound()?;
     table_fits(site, table.len())?;

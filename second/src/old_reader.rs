@@ -1,13 +1,14 @@
-//! The site-file reader as it was before blocked positions, kept to say what a station with old software answers to a
-//! file of today. A site file was kinds 1, 2 and 3, and whatever stood after kind 3 was refused with 12. Nothing else
-//! uses it.
+//! The site-file reader as it was at two times, kept to say what a station with old software answers to a file of today.
+//! Before blocked positions a site file was kinds 1, 2 and 3, and whatever stood after kind 3 was refused with 12. Before
+//! the two rules it was that, and kind 6 where something was blocked; no file began with kind 5. Nothing else uses it.
 
 use crate::answer::{refuse, Outcome};
-use crate::site::{sizes_in_range, Site};
+use crate::site::{set_of, sizes_in_range, Site};
 
 const HEAD: u16 = 1;
 const LOADS: u16 = 2;
 const REACH: u16 = 3;
+const BLOCKED: u16 = 6;
 
 /// A record that has the kind and the length that are due, and lies within the file.
 struct Record<'a> {
@@ -66,8 +67,35 @@ fn nothing_after(bytes: &[u8], end: usize) -> Outcome<()> {
     Ok(())
 }
 
-/// Reads a site file. The site that comes of it has no blocked positions.
-pub fn old_read_site(bytes: &[u8]) -> Outcome<Site> {
+/// Reads a site file as before blocked positions. The site that comes of it has none.
+pub fn read_before_blocked(bytes: &[u8]) -> Outcome<Site> {
+    let (site, end) = read_to_reach(bytes)?;
+    nothing_after(bytes, end)?;
+    Ok(site)
+}
+
+/// Reads a site file as before the two rules. The site that comes of it has rule 1, as all had.
+pub fn read_before_rules(bytes: &[u8]) -> Outcome<Site> {
+    let (mut site, at) = read_to_reach(bytes)?;
+    if at == bytes.len() {
+        return Ok(site);
+    }
+    let bits = site.positions();
+    let blocked = open(bytes, at, BLOCKED, |length| length == 2 + bits.div_ceil(8))?;
+    let set = |k: usize| blocked.body[k / 8] >> (k % 8) & 1 == 1;
+    if (bits..8 * blocked.body.len()).any(set) {
+        return blocked.refuse(14);
+    }
+    site.blocked = set_of((0..bits).filter(|&k| set(k)));
+    if !site.has_blocked() {
+        return blocked.refuse(21);
+    }
+    nothing_after(bytes, blocked.end)?;
+    Ok(site)
+}
+
+/// Kinds 1, 2 and 3, which both have in common: the site so far, and the offset after them.
+fn read_to_reach(bytes: &[u8]) -> Outcome<(Site, usize)> {
     let (mut site, head_end) = read_head(bytes)?;
     let loads = open(bytes, head_end, LOADS, |length| length == 2 + 2 * site.count())?;
     for cell in 1..=site.count() {
@@ -85,6 +113,5 @@ pub fn old_read_site(bytes: &[u8]) -> Outcome<Site> {
         before = Some((from, to));
         site.reach[from - 1] |= 1 << (to - 1);
     }
-    nothing_after(bytes, reach.end)?;
-    Ok(site)
+    Ok((site, reach.end))
 }

@@ -1,5 +1,5 @@
-//! "Range sheets": a site as a comma-separated sheet, read and written. Its slots, channels and blocked positions come
-//! beside it.
+//! "Range sheets": a site as a comma-separated sheet, read and written. Its slots, channels, blocked positions and rule
+//! come beside it.
 
 use crate::answer::{refuse, Outcome};
 use crate::files::deliver;
@@ -63,13 +63,13 @@ pub fn bad_line<T>(line: usize) -> Outcome<T> {
     refuse(17, &[line as u64])
 }
 
-/// Reads a sheet: 17, then the record's 1, 3 and 20.
-pub fn read_sheet(bytes: &[u8], slots: u16, channels: u16, blocked: &Positions) -> Outcome<Site> {
+/// Reads a sheet: 17, then the record's 1, 24, 3 and 20.
+pub fn read_sheet(bytes: &[u8], slots: u16, channels: u16, blocked: &Positions, rule: u16) -> Outcome<Site> {
     let (lines, rest) = split_lines(bytes);
     let Some(cells) = lines.first().and_then(|line| read_first(line)) else {
         return bad_line(1);
     };
-    let mut site = Site { blocked: *blocked, ..Site::sized(cells, slots as usize, channels as usize) };
+    let mut site = Site { blocked: *blocked, rule, ..Site::sized(cells, slots as usize, channels as usize) };
     for cell in 1..=cells {
         let Some((load, row)) = lines.get(cell).and_then(|line| read_cell(line, cell, cells)) else {
             return bad_line(cell + 1);
@@ -112,7 +112,7 @@ mod tests {
     const P1: &str = "cell,load,1,2,3\r\n1,5,0,0,0\r\n2,1,1,0,1\r\n3,4,0,0,0\r\n";
 
     fn read(text: &str) -> Outcome<Site> {
-        read_sheet(text.as_bytes(), 3, 2, &NONE)
+        read_sheet(text.as_bytes(), 3, 2, &NONE, 1)
     }
 
     #[test]
@@ -135,10 +135,23 @@ mod tests {
     fn blocked_positions_come_beside() {
         let site = read(P1).unwrap();
         for blocked in [set_of(0..1), set_of(5..6), set_of(0..6)] {
-            assert_eq!(read_sheet(P1.as_bytes(), 3, 2, &blocked), Ok(Site { blocked, ..site }));
+            assert_eq!(read_sheet(P1.as_bytes(), 3, 2, &blocked, 1), Ok(Site { blocked, ..site }));
             let mut out = [9; 50];
             assert_eq!(write_sheet(&Site { blocked, ..site }, &mut out), Ok(50));
             assert_eq!(&out[..], P1.as_bytes());
+        }
+    }
+
+    #[test]
+    fn the_rule_comes_beside() {
+        let site = Site { rule: 2, ..read(P1).unwrap() };
+        assert_eq!(read_sheet(P1.as_bytes(), 3, 2, &NONE, 2), Ok(site));
+        let mut out = [9; 50];
+        assert_eq!(write_sheet(&site, &mut out), Ok(50));
+        assert_eq!(&out[..], P1.as_bytes());
+        for rule in [0, 3, 65_535] {
+            assert_eq!(read_sheet(P1.as_bytes(), 3, 2, &NONE, rule), refuse(24, &[]));
+            assert_eq!(write_sheet(&Site { rule, ..site }, &mut out), refuse(24, &[]));
         }
     }
 
@@ -178,11 +191,12 @@ mod tests {
         let own = P1.replace("3,4,0,0,0", "3,4,0,0,1").replace("2,1,1,0,1", "2,1,1,1,1");
         let past = set_of([3, 7, 6].into_iter());
         assert_eq!(read(&own), refuse(3, &[2]));
-        assert_eq!(read_sheet(own.as_bytes(), 3, 2, &past), refuse(3, &[2]));
-        assert_eq!(read_sheet(P1.as_bytes(), 3, 2, &past), refuse(20, &[6]));
-        assert_eq!(read_sheet(own.as_bytes(), 129, 2, &past), refuse(1, &[]));
-        assert_eq!(read_sheet(own.as_bytes(), 3, 0, &past), refuse(1, &[]));
-        assert_eq!(read_sheet(own.replace("1,5", "1,5x").as_bytes(), 0, 0, &past), bad_line(2));
+        assert_eq!(read_sheet(own.as_bytes(), 3, 2, &past, 1), refuse(3, &[2]));
+        assert_eq!(read_sheet(P1.as_bytes(), 3, 2, &past, 2), refuse(20, &[6]));
+        assert_eq!(read_sheet(own.as_bytes(), 3, 2, &past, 3), refuse(24, &[]));
+        assert_eq!(read_sheet(own.as_bytes(), 129, 2, &past, 3), refuse(1, &[]));
+        assert_eq!(read_sheet(own.as_bytes(), 3, 0, &past, 0), refuse(1, &[]));
+        assert_eq!(read_sheet(own.replace("1,5", "1,5x").as_bytes(), 0, 0, &past, 0), bad_line(2));
         assert_eq!(read(&P1.replace("1,5,", "1,65535,")).unwrap().loads[0], 65_535);
     }
 }

@@ -1,4 +1,4 @@
-//! "The site": the record and its faults, the clash rule and the three edits. Cells are numbered from 1.
+//! "The site": the record and its faults, the two rules for clashes and the three edits. Cells are numbered from 1.
 
 use crate::answer::{refuse, Outcome};
 
@@ -8,6 +8,12 @@ pub const MOST_CHANNELS: usize = 16;
 
 /// The positions of the largest site, 128 times 16.
 pub const MOST_POSITIONS: usize = 2048;
+
+/// The rule of running sites: two cells clash when either reaches the other.
+pub const RULE_1: u16 = 1;
+
+/// The fitters' new rule: two cells clash also when some third cell is reached by both.
+pub const RULE_2: u16 = 2;
 
 /// A set of positions: position k is bit k % 64 of word k / 64.
 pub type Positions = [u64; 32];
@@ -25,7 +31,7 @@ pub fn set_of(positions: impl Iterator<Item = usize>) -> Positions {
 }
 
 /// One site record: all 32 loads and all 32 reach rows, used or not. Bit b-1 of row a-1 means that cell a reaches b. The
-/// blocked positions are those that the plant uses itself: no cell may send there.
+/// blocked positions are those that the plant uses itself: no cell may send there. The rule, 1 or 2, says which cells clash.
 #[repr(C)]
 #[derive(Clone, Copy, Debug, Default, PartialEq, Eq)]
 pub struct Site {
@@ -35,13 +41,14 @@ pub struct Site {
     pub loads: [u16; 32],
     pub reach: [u32; 32],
     pub blocked: Positions,
+    pub rule: u16,
 }
 
 impl Site {
-    /// A site with no loads, no reach and nothing blocked.
+    /// A site with no loads, no reach and nothing blocked, under rule 1.
     pub fn sized(cells: usize, slots: usize, channels: usize) -> Site {
         let (cells, slots, channels) = (cells as u16, slots as u16, channels as u16);
-        Site { cells, slots, channels, ..Site::default() }
+        Site { cells, slots, channels, rule: RULE_1, ..Site::default() }
     }
 
     /// I, the number of cells.
@@ -85,15 +92,30 @@ impl Site {
         self.reach[from - 1] >> (to - 1) & 1 == 1
     }
 
-    /// "Two different cells clash when either reaches the other." Cells that the site does not have never do.
+    /// Two different cells clash "when either reaches the other", and under rule 2 "also when some third cell is reached by
+    /// both". Cells that the site does not have never do.
     pub fn clash(&self, a: usize, b: usize) -> bool {
-        self.has(a) && self.has(b) && a != b && (self.reaches(a, b) || self.reaches(b, a))
+        let by_third = self.rule == RULE_2 && self.third(a, b).is_some();
+        self.has(a) && self.has(b) && a != b && (self.reaches(a, b) || self.reaches(b, a) || by_third)
     }
 
-    /// The record's own faults: 1, then 2 with the lowest cell, then 3 with the lowest row, then 20 with the lowest blocked
-    /// position that the site does not have.
+    /// The lowest cell that both reach and that is neither of the two, loaded or not.
+    pub fn third(&self, a: usize, b: usize) -> Option<usize> {
+        let both = |c: usize| c != a && c != b && self.reaches(a, c) && self.reaches(b, c);
+        if self.has(a) && self.has(b) {
+            (1..=self.count()).find(|&c| both(c))
+        } else {
+            None
+        }
+    }
+
+    /// The record's own faults: 1, then 24, then 2 with the lowest cell, then 3 with the lowest row, then 20 with the lowest
+    /// blocked position that the site does not have.
     pub fn sound(&self) -> Outcome<()> {
         sizes_in_range(self.count(), self.slots as usize, self.channels as usize)?;
+        if self.rule != RULE_1 && self.rule != RULE_2 {
+            return refuse(24, &[]);
+        }
         for cell in 1..=MOST_CELLS {
             if !self.has(cell) && self.load(cell) != 0 {
                 return refuse(2, &[cell as u64]);
@@ -196,8 +218,24 @@ mod tests {
         site.loads[31] = 1;
         site.loads[3] = 1;
         assert_eq!(site.sound(), refuse(2, &[4]));
+        for rule in [0, 3, 4, 256, 257, 258, 65_535] {
+            site.rule = rule;
+            assert_eq!(site.sound(), refuse(24, &[]));
+        }
         site.slots = 0;
         assert_eq!(site.sound(), refuse(1, &[]));
+    }
+
+    #[test]
+    fn a_record_has_rule_1_or_2() {
+        for rule in 0..=65_535 {
+            let site = Site { rule, ..three() };
+            assert_eq!(site.sound(), if rule == 1 || rule == 2 { Ok(()) } else { refuse(24, &[]) });
+        }
+        // 24 comes before an edit's own refusal, and an edit keeps the rule.
+        assert_eq!(Site { rule: 3, ..three() }.with_load(9, 1), refuse(24, &[]));
+        let two = Site { rule: RULE_2, ..three() };
+        assert_eq!(two.with_load(1, 5).and_then(|site| site.with_reach(1, 2, true)).unwrap().rule, RULE_2);
     }
 
     #[test]

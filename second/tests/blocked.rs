@@ -11,7 +11,7 @@ use second::files::{read_site, write_site};
 use second::heaviest::heaviest;
 use second::judge::{least, load_test, nested};
 use second::mender::mend;
-use second::old_reader::old_read_site;
+use second::old_reader::read_before_blocked;
 use second::planner::plan;
 use second::site::{set_of, Site};
 use second::words::{check_words, plan_words, to_words};
@@ -261,8 +261,10 @@ fn end_of_reach(file: &[u8]) -> usize {
 fn an_old_reader_answers_12() {
     let mut new = 0;
     for (name, file) in samples() {
-        let (old, now): (Outcome<Site>, _) = (old_read_site(&file), read_site(&file));
-        if now.unwrap().has_blocked() {
+        let (old, now): (Outcome<Site>, _) = (read_before_blocked(&file), read_site(&file));
+        if now.unwrap().rule == 2 {
+            assert_eq!(old, refuse(9, &[0]), "{name}");
+        } else if now.unwrap().has_blocked() {
             assert_eq!(old, refuse(12, &[end_of_reach(&file) as u64]), "{name}");
             new += 1;
         } else {
@@ -270,8 +272,8 @@ fn an_old_reader_answers_12() {
         }
     }
     assert_eq!(new, 2);
-    assert_eq!(old_read_site(&sample("p1blocked.site")), refuse(12, &[28]));
-    assert_eq!(old_read_site(&sample("wifi.site")), refuse(12, &[38]));
+    assert_eq!(read_before_blocked(&sample("p1blocked.site")), refuse(12, &[28]));
+    assert_eq!(read_before_blocked(&sample("wifi.site")), refuse(12, &[38]));
 }
 
 #[test]
@@ -281,7 +283,7 @@ fn what_the_old_reader_took_is_taken_as_before() {
             for value in [0, 1, 2, 3, 5, 6, 7, 8, 33, 255] {
                 let mut changed = file.clone();
                 changed[at] = value;
-                if let Ok(site) = old_read_site(&changed) {
+                if let Ok(site) = read_before_blocked(&changed) {
                     assert_eq!(read_site(&changed), Ok(site));
                     let mut out = vec![0; changed.len()];
                     assert_eq!(write_site(&site, &mut out), Ok(changed.len()));

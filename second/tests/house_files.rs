@@ -56,7 +56,7 @@ fn the_sample_sheets_are_the_sites() {
     for (name, slots, channels) in [("p1", 3, 2), ("north", 8, 2), ("tunnel32", 128, 16)] {
         let sheet = sample(&format!("{name}.sheet.csv"));
         let site = read_site(&sample(&format!("{name}.site"))).unwrap();
-        assert_eq!(read_sheet(&sheet, slots, channels, &[0; 32]), Ok(site));
+        assert_eq!(read_sheet(&sheet, slots, channels, &[0; 32], 1), Ok(site));
         let mut out = vec![9; sheet.len()];
         assert_eq!(write_sheet(&site, &mut out), Ok(sheet.len()));
         assert_eq!(out, sheet);

@@ -9,7 +9,7 @@ use Rattle.laws.specs.Sum.{sum}
 use Rattle.laws.specs.Search.{firstOf}
 use Rattle.theory.specs.Verdict.{overloaded, lowestOver, loadVerdict, second, splits, splitOf, firstSplit, classVerdict}
 use Rattle.positions.specs.Blocked.{emptySet}
-use Rattle.site.specs.Record.{siteOf, upTo, sizeOk, rowBad, extraLoad, badRow, extraBlocked, faultOf}
+use Rattle.site.specs.Record.{siteOf, upTo, sizeOk, ruleOk, rowBad, extraLoad, badRow, extraBlocked, faultOf}
 use Rattle.site.specs.Reach.{reaches, clashIn}
 use Rattle.site.specs.declared.Site.{Site}
 use Rattle.shares.specs.Share.{roundedUp, shareOf}
@@ -27,7 +27,7 @@ flow cell burst period repeats value = record { cell = cell; burst = burst; peri
 
 -- "no clashes, two cells, N=2": T=2, F=1, and loads of its own that are set aside
 abbrev bare : Site
-bare = siteOf 2 2 1 (rows (2 ∷ 2 ∷ 0 ∷ 0 ∷ 0 ∷ [])) (rows (0 ∷ 0 ∷ 0 ∷ 0 ∷ 0 ∷ [])) emptySet
+bare = siteOf 2 2 1 (rows (2 ∷ 2 ∷ 0 ∷ 0 ∷ 0 ∷ [])) (rows (0 ∷ 0 ∷ 0 ∷ 0 ∷ 0 ∷ [])) emptySet 1
 
 -- "flows (cell, share, value) 1,1,1; 2,2,1; 1,2,5": a burst of 1 each 2 slots has share 1, a burst of 2 share 2
 abbrev three : List Flow
@@ -35,16 +35,18 @@ three = flow 1 1 2 1 1 ∷ flow 2 2 2 1 1 ∷ flow 1 2 2 1 5 ∷ []
 
 -- the set {2,3} worth 6
 pub desk : admitAnswer bare three ≡ Admitted 6
-unfolding answerIn faultOf sizeOk upTo extraLoad badRow extraBlocked rowBad firstOf classVerdict firstSplit splitOf splits second clashIn reaches firstBadIn
+unfolding answerIn faultOf sizeOk ruleOk upTo extraLoad badRow extraBlocked rowBad firstOf classVerdict firstSplit splitOf splits second clashIn reaches
+    firstBadIn
     badIn refusedIn shareOf roundedUp best bestOf allowed sum overloaded lowestOver loadVerdict
 desk = refl
 
 -- the same where position 0 of the two is blocked, so that one is open: of shares 1, 2 and 2 only the first is at most 1, and the set is {1}
 abbrev narrow : Site
-narrow = siteOf 2 2 1 (rows (2 ∷ 2 ∷ 0 ∷ 0 ∷ 0 ∷ [])) (rows (0 ∷ 0 ∷ 0 ∷ 0 ∷ 0 ∷ [])) (1 ∷ replicate 31 0)
+narrow = siteOf 2 2 1 (rows (2 ∷ 2 ∷ 0 ∷ 0 ∷ 0 ∷ [])) (rows (0 ∷ 0 ∷ 0 ∷ 0 ∷ 0 ∷ [])) (1 ∷ replicate 31 0) 1
 
 pub one-open : admitAnswer narrow three ≡ Admitted 1
-unfolding answerIn faultOf sizeOk upTo extraLoad badRow extraBlocked rowBad firstOf classVerdict firstSplit splitOf splits second clashIn reaches firstBadIn
+unfolding answerIn faultOf sizeOk ruleOk upTo extraLoad badRow extraBlocked rowBad firstOf classVerdict firstSplit splitOf splits second clashIn reaches
+    firstBadIn
     badIn refusedIn shareOf roundedUp best bestOf allowed sum overloaded lowestOver loadVerdict
 one-open = refl
 
@@ -54,13 +56,13 @@ abbrev twice : List Flow
 twice = flow 1 1 2 2 3 ∷ flow 1 1 2 1 2 ∷ []
 
 pub repeats-decide : (admitAnswer bare twice ≡ Admitted 1) × (admitAnswer bare (flow 1 1 2 1 3 ∷ flow 1 1 2 1 2 ∷ []) ≡ Admitted 3)
-unfolding answerIn faultOf sizeOk upTo extraLoad badRow extraBlocked rowBad firstOf classVerdict firstSplit splitOf splits second clashIn reaches
+unfolding answerIn faultOf sizeOk ruleOk upTo extraLoad badRow extraBlocked rowBad firstOf classVerdict firstSplit splitOf splits second clashIn reaches
     firstBadIn badIn refusedIn shareOf roundedUp best bestOf allowed sum overloaded lowestOver loadVerdict
 repeats-decide = (refl, refl)
 
 -- T=3, F=2, cells 1-2-3 in a row each clashing with the next
 abbrev row : Site
-row = siteOf 3 3 2 (rows (0 ∷ 0 ∷ 0 ∷ 0 ∷ 0 ∷ [])) (rows (2 ∷ 4 ∷ 0 ∷ 0 ∷ 0 ∷ [])) emptySet
+row = siteOf 3 3 2 (rows (0 ∷ 0 ∷ 0 ∷ 0 ∷ 0 ∷ [])) (rows (2 ∷ 4 ∷ 0 ∷ 0 ∷ 0 ∷ [])) emptySet 1
 
 -- nine flows with (cell, period, burst, value) 1,10,1,8; 1,4,3,39; 1,7,3,38; 2,10,1,50; 2,6,5,29; 2,7,6,41; 3,5,3,3; 3,11,4,20; 3,9,6,30
 abbrev nine : List Flow
@@ -70,29 +72,32 @@ nine =
 
 -- the set {2,3,4,8,9}, worth 177
 pub table-two : admitAnswer row nine ≡ Admitted 398
-unfolding answerIn faultOf sizeOk upTo extraLoad badRow extraBlocked rowBad firstOf classVerdict firstSplit splitOf splits second clashIn reaches firstBadIn
+unfolding answerIn faultOf sizeOk ruleOk upTo extraLoad badRow extraBlocked rowBad firstOf classVerdict firstSplit splitOf splits second clashIn reaches
+    firstBadIn
     badIn refusedIn shareOf roundedUp best bestOf allowed sum overloaded lowestOver loadVerdict
 table-two = refl
 
 -- no flows; all values 0; a cell outside the site; repeats of 5; a share too big; a star with its centre last, of whose outer cells one is spare
 abbrev spare : Site
-spare = siteOf 3 3 2 (rows (1 ∷ 0 ∷ 1 ∷ 0 ∷ 0 ∷ [])) (rows (4 ∷ 4 ∷ 0 ∷ 0 ∷ 0 ∷ [])) emptySet
+spare = siteOf 3 3 2 (rows (1 ∷ 0 ∷ 1 ∷ 0 ∷ 0 ∷ [])) (rows (4 ∷ 4 ∷ 0 ∷ 0 ∷ 0 ∷ [])) emptySet 1
 
 pub bad-input :
     (admitAnswer row [] ≡ Admitted 0) × (admitAnswer row (flow 1 1 1 1 0 ∷ flow 2 1 1 1 0 ∷ []) ≡ Admitted 0)
     × (admitAnswer row (flow 1 1 1 1 9 ∷ flow 4 1 1 1 9 ∷ []) ≡ BadCell 2)
     × (admitAnswer row (flow 1 1 1 5 9 ∷ []) ≡ BadFlow 1) × (admitAnswer row (flow 1 1 1 1 9 ∷ flow 1 1 1 1 9 ∷ flow 2 65535 1 1 9 ∷ []) ≡ BigShare 3)
     × (admitAnswer spare (flow 1 1 1 1 9 ∷ []) ≡ NotNested) × (admitAnswer spare (replicate 17 (flow 1 1 1 1 9)) ≡ TooMany)
-unfolding answerIn faultOf sizeOk upTo extraLoad badRow extraBlocked rowBad firstOf classVerdict firstSplit splitOf splits second clashIn reaches firstBadIn
+unfolding answerIn faultOf sizeOk ruleOk upTo extraLoad badRow extraBlocked rowBad firstOf classVerdict firstSplit splitOf splits second clashIn reaches
+    firstBadIn
     badIn refusedIn shareOf roundedUp best bestOf allowed sum overloaded lowestOver loadVerdict
 bad-input = (refl, refl, refl, refl, refl, refl, refl)
 
 -- W9: "A side drift makes a site unchained though the test is still exact there": cells 1-2-3 in a row, and cell 4 in a drift that leaves it at cell 1.
 -- N is 6, and the three flows have share 3 each: with cell 1, cell 2 needs 6 positions, and so does cell 4
 abbrev drift : Site
-drift = siteOf 4 3 2 (rows (0 ∷ 0 ∷ 0 ∷ 0 ∷ 0 ∷ [])) (rows (10 ∷ 4 ∷ 0 ∷ 0 ∷ 0 ∷ [])) emptySet
+drift = siteOf 4 3 2 (rows (0 ∷ 0 ∷ 0 ∷ 0 ∷ 0 ∷ [])) (rows (10 ∷ 4 ∷ 0 ∷ 0 ∷ 0 ∷ [])) emptySet 1
 
 pub drift-admitted : admitAnswer drift (flow 1 1 1 1 9 ∷ flow 2 1 1 1 9 ∷ flow 4 1 1 1 9 ∷ []) ≡ Admitted 7
-unfolding answerIn faultOf sizeOk upTo extraLoad badRow extraBlocked rowBad firstOf classVerdict firstSplit splitOf splits second clashIn reaches firstBadIn
+unfolding answerIn faultOf sizeOk ruleOk upTo extraLoad badRow extraBlocked rowBad firstOf classVerdict firstSplit splitOf splits second clashIn reaches
+    firstBadIn
     badIn refusedIn shareOf roundedUp best bestOf allowed sum overloaded lowestOver loadVerdict
 drift-admitted = refl

@@ -16,7 +16,7 @@ use Rattle.site.specs.Reach.{netOf}
 use Rattle.site.specs.Given.{Given}
 use Rattle.site.specs.declared.Site.{Site}
 use Rattle.site.specs.declared.Fault.{Fault}
-use Rattle.site.specs.declared.Fault.the-variants.{Fine, Size, Load, Reach, Blocked}
+use Rattle.site.specs.declared.Fault.the-variants.{Fine, Size, Rule, Load, Reach, Blocked}
 use Rattle.site.proofs.Given.{faultFrom}
 use Rattle.site.proofs.PassedOn.{proper-call, proper-either}
 use Rattle.shares.specs.declared.ShareAnswer.{ShareAnswer}
@@ -42,6 +42,7 @@ readBack whole g =
 read-refusal : (f : Fault) → admitProper (Refused f) ≡ true → readBack true (admitGiven (Refused f)) ≡ Refused f
 read-refusal Fine h = absurd (false≢true h)
 read-refusal Size h = refl
+read-refusal Rule h = refl
 read-refusal (Load k) h = refl
 read-refusal (Reach k) h = refl
 read-refusal (Blocked k) h = refl
@@ -68,6 +69,7 @@ done-set (BadFlow flow) x e = absurd (omega (arith, ap (λ (g : Given). g .numbe
 done-set (BigShare flow) x e = absurd (omega (arith, ap (λ (g : Given). g .number) e))
 done-set (Refused Fine) x e = absurd (omega (arith, ap (λ (g : Given). length (g .values)) e))
 done-set (Refused Size) x e = absurd (omega (arith, ap (λ (g : Given). g .number) e))
+done-set (Refused Rule) x e = absurd (omega (arith, ap (λ (g : Given). g .number) e))
 done-set (Refused (Load k)) x e = absurd (omega (arith, ap (λ (g : Given). g .number) e))
 done-set (Refused (Reach k)) x e = absurd (omega (arith, ap (λ (g : Given). g .number) e))
 done-set (Refused (Blocked k)) x e = absurd (omega (arith, ap (λ (g : Given). g .number) e))
@@ -103,11 +105,11 @@ admit-proper s fs =
 -- the numbers and the values, in their order, of an answer of each kind
 abbrev answers : (set flow cell row position : ℕ) → List AdmitAnswer
 answers set flow cell row position =
-    Admitted set ∷ TooMany ∷ NotNested ∷ BadCell flow ∷ BadFlow flow ∷ BigShare flow ∷ Refused Size ∷ Refused (Load cell) ∷ Refused (Reach row)
+    Admitted set ∷ TooMany ∷ NotNested ∷ BadCell flow ∷ BadFlow flow ∷ BigShare flow ∷ Refused Size ∷ Refused Rule ∷ Refused (Load cell) ∷ Refused (Reach row)
     ∷ Refused (Blocked position) ∷ []
 
 pub admit-numbers : (set flow cell row position : ℕ)
-    → (map (λ (a : AdmitAnswer). admitGiven a .number) (answers set flow cell row position) ≡ 0 ∷ 18 ∷ 19 ∷ 2 ∷ 15 ∷ 16 ∷ 1 ∷ 2 ∷ 3 ∷ 20 ∷ [])
+    → (map (λ (a : AdmitAnswer). admitGiven a .number) (answers set flow cell row position) ≡ 0 ∷ 18 ∷ 19 ∷ 2 ∷ 15 ∷ 16 ∷ 1 ∷ 24 ∷ 2 ∷ 3 ∷ 20 ∷ [])
     × (map (λ (a : AdmitAnswer). admitGiven a .values) (answers set flow cell row position)
-    ≡ (set ∷ []) ∷ [] ∷ [] ∷ (flow ∷ []) ∷ (flow ∷ []) ∷ (flow ∷ []) ∷ [] ∷ (cell ∷ []) ∷ (row ∷ []) ∷ (position ∷ []) ∷ [])
+    ≡ (set ∷ []) ∷ [] ∷ [] ∷ (flow ∷ []) ∷ (flow ∷ []) ∷ (flow ∷ []) ∷ [] ∷ [] ∷ (cell ∷ []) ∷ (row ∷ []) ∷ (position ∷ []) ∷ [])
 admit-numbers set flow cell row position = (refl, refl)

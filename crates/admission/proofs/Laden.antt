@@ -65,6 +65,7 @@ module _ (s : Site) (fs : List Flow) (settled : Settled s fs) (x : ℕ) where
         sizes = sound .sizes;
         loads = λ k l h. laden-load k ∙ no-load k l;
         rows = sound .rows;
+        rule-ok = sound .rule-ok;
         none-past = sound .none-past;
       })
 

@@ -20,7 +20,7 @@ use Rattle.flowlist.specs.declared.Flow.{Flow}
 use Rattle.admission.specs.Admit.{flowsOf}
 
 abbrev pub ladenSite : Site → List Flow → ℕ → Site
-ladenSite s fs x = siteOf (s .cells) (s .slots) (s .channels) (listOf (loadIn (flowsOf s fs) x) 32) (s .reach) (s .blocked)
+ladenSite s fs x = siteOf (s .cells) (s .slots) (s .channels) (listOf (loadIn (flowsOf s fs) x) 32) (s .reach) (s .blocked) (s .rule)
 
 -- W4: "Everything that takes a share follows". The public share of a flow: what `share_of` gives back for the site's slots and the flow's burst, period and
 -- repeats

@@ -247,11 +247,12 @@ pub extern "C" fn dugg_read_sheet(
     slots: u16,
     channels: u16,
     blocked: Blocked,
+    rule: u16,
 ) -> EditedSite
-    ensures { λ r. ⌜ r ≡ toldSheetRead (readSheet (now (bytes .entry)) slots channels (blocked .bits)) ⌝ }
+    ensures { λ r. ⌜ r ≡ toldSheetRead (readSheet (now (bytes .entry)) slots channels (blocked .bits) rule) ⌝ }
 {
     let bits = blocked.bits;
-    toldfiles::sheet_read(sheet::read_sheet(bytes, slots, channels, bits))
+    toldfiles::sheet_read(sheet::read_sheet(bytes, slots, channels, bits, rule))
 }
 
 #[no_mangle]

@@ -26,17 +26,19 @@ abbrev readBack : Given → CheckAnswer
 readBack g =
     pick (eqb (g .number) 0) Valid
     (pick (eqb (g .number) 1) (Refused fault.Size)
+    (pick (eqb (g .number) 24) (Refused fault.Rule)
     (pick (eqb (g .number) 2) (Refused (fault.Load (getD (g .values) 0 0)))
     (pick (eqb (g .number) 3) (Refused (fault.Reach (getD (g .values) 0 0)))
     (pick (eqb (g .number) 4) TableShort
     (pick (eqb (g .number) 6) (Clash (getD (g .values) 0 0) (getD (g .values) 1 0) (getD (g .values) 2 0))
     (pick (eqb (g .number) 20) (Refused (fault.Blocked (getD (g .values) 0 0)))
     (pick (eqb (g .number) 22) (Blocked (getD (g .values) 0 0) (getD (g .values) 1 0))
-    (Count (getD (g .values) 0 0) (getD (g .values) 1 0)))))))))
+    (Count (getD (g .values) 0 0) (getD (g .values) 1 0))))))))))
 
 read-refusal : (f : Fault) → checkProper (Refused f) ≡ true → readBack (checkGiven (Refused f)) ≡ Refused f
 read-refusal fault.Fine h = absurd (false≢true h)
 read-refusal fault.Size h = refl
+read-refusal fault.Rule h = refl
 read-refusal (fault.Load k) h = refl
 read-refusal (fault.Reach k) h = refl
 read-refusal (fault.Blocked k) h = refl
@@ -70,11 +72,11 @@ check-proper s t =
 -- the numbers and the values, in their order, of an answer of each kind
 abbrev checks : (position a c cell n row : ℕ) → List CheckAnswer
 checks position a c cell n row =
-    Valid ∷ TableShort ∷ Blocked position cell ∷ Clash position a c ∷ Count cell n ∷ Refused fault.Size ∷ Refused (fault.Load cell)
+    Valid ∷ TableShort ∷ Blocked position cell ∷ Clash position a c ∷ Count cell n ∷ Refused fault.Size ∷ Refused fault.Rule ∷ Refused (fault.Load cell)
     ∷ Refused (fault.Reach row) ∷ Refused (fault.Blocked position) ∷ []
 
 pub check-numbers : (position a c cell n row : ℕ)
-    → (map (λ (a : CheckAnswer). checkGiven a .number) (checks position a c cell n row) ≡ 0 ∷ 4 ∷ 22 ∷ 6 ∷ 7 ∷ 1 ∷ 2 ∷ 3 ∷ 20 ∷ [])
+    → (map (λ (a : CheckAnswer). checkGiven a .number) (checks position a c cell n row) ≡ 0 ∷ 4 ∷ 22 ∷ 6 ∷ 7 ∷ 1 ∷ 24 ∷ 2 ∷ 3 ∷ 20 ∷ [])
     × (map (λ (a : CheckAnswer). checkGiven a .values) (checks position a c cell n row)
-    ≡ [] ∷ [] ∷ (position ∷ cell ∷ []) ∷ (position ∷ a ∷ c ∷ []) ∷ (cell ∷ n ∷ []) ∷ [] ∷ (cell ∷ []) ∷ (row ∷ []) ∷ (position ∷ []) ∷ [])
+    ≡ [] ∷ [] ∷ (position ∷ cell ∷ []) ∷ (position ∷ a ∷ c ∷ []) ∷ (cell ∷ n ∷ []) ∷ [] ∷ [] ∷ (cell ∷ []) ∷ (row ∷ []) ∷ (position ∷ []) ∷ [])
 check-numbers position a c cell n row = (refl, refl)

@@ -53,6 +53,7 @@ unfolding judges
 judged-of fault.Fine true o a h e = absurd (false≢true (ap judges e ∙ h))
 judged-of fault.Fine false o a h e = (refl, refl, e)
 judged-of fault.Size short o a h e = absurd (false≢true (ap judges e ∙ h))
+judged-of fault.Rule short o a h e = absurd (false≢true (ap judges e ∙ h))
 judged-of (fault.Load k) short o a h e = absurd (false≢true (ap judges e ∙ h))
 judged-of (fault.Reach k) short o a h e = absurd (false≢true (ap judges e ∙ h))
 judged-of (fault.Blocked k) short o a h e = absurd (false≢true (ap judges e ∙ h))

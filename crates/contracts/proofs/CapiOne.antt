@@ -311,11 +311,11 @@ duggWritePlan-one site table out = (
 )
 
 -- capi::dugg_read_sheet
-pub duggReadSheet-one : (bytes : List ℕ) (slots : ℕ) (channels : ℕ) (blocked : Blocked)
-    → (r : EditedSite) × (DuggReadSheet bytes slots channels blocked r)
-    × ((q : EditedSite) → DuggReadSheet bytes slots channels blocked q → (q ≡ r))
-duggReadSheet-one bytes slots channels blocked = (
-  toldSheetRead (readSheet bytes slots channels (blocked .bits)),
+pub duggReadSheet-one : (bytes : List ℕ) (slots : ℕ) (channels : ℕ) (blocked : Blocked) (rule : ℕ)
+    → (r : EditedSite) × (DuggReadSheet bytes slots channels blocked rule r)
+    × ((q : EditedSite) → DuggReadSheet bytes slots channels blocked rule q → (q ≡ r))
+duggReadSheet-one bytes slots channels blocked rule = (
+  toldSheetRead (readSheet bytes slots channels (blocked .bits) rule),
   record { answer = refl },
   λ q says. says .answer,
 )

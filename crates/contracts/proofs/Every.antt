@@ -15,8 +15,8 @@ use Rattle.contracts.proofs.PlanfileOne.{readPlan-one, writePlan-one}
 use Rattle.contracts.proofs.PlannerOne.{plan-one}
 use Rattle.contracts.proofs.SharesOne.{share-one, shareOf-one}
 use Rattle.contracts.proofs.SheetOne.{readSheet-one, writeSheet-one}
-use Rattle.contracts.proofs.SiteOne.{siteClash-one, siteClashRows-one, siteClearReach-one, siteFaultIn-one, siteSetLoad-one, siteSetReach-one}
-use Rattle.contracts.proofs.SiteOne.{siteZeros-one, sizeOk-one, within-one}
+use Rattle.contracts.proofs.SiteOne.{ruleOk-one, siteClash-one, siteClashRows-one, siteClearReach-one, siteFaultIn-one, siteSetLoad-one}
+use Rattle.contracts.proofs.SiteOne.{siteSetReach-one, siteZeros-one, sizeOk-one, within-one}
 use Rattle.contracts.proofs.SitefileOne.{readSite-one, writeSite-one}
 use Rattle.contracts.proofs.WordtableOne.{checkWords-one, planWords-one, toBytes-one, toWords-one}
 use Rattle.contracts.specs.Every.{EveryCall}
@@ -25,6 +25,7 @@ pub every-call : EveryCall
 every-call = record {
   within = within-one;
   sizeOk = sizeOk-one;
+  ruleOk = ruleOk-one;
   siteZeros = siteZeros-one;
   siteFaultIn = siteFaultIn-one;
   siteClashRows = siteClashRows-one;

@@ -45,6 +45,7 @@ pub mod ListingOne
 pub mod SayVerdictsOne
 pub mod SayFlowsheetOne
 pub mod SayNumberingOne
+pub mod SayRuleOne
 pub mod SayFlowsOne
 pub mod SayWhyOne
 pub mod ToldOne

@@ -4,7 +4,7 @@ use mathlib.Core.Path.{_≡_, refl}
 use mathlib.Core.Bool.{Bool}
 use mathlib.Core.List.{List}
 use Prim.Native.Nat.{ℕ}
-use Rattle.contracts.specs.ReachrowsSays.{ReachrowsBadRow, ReachrowsExtraLoad, ReachrowsFewRows, ReachrowsManyRows, ReachrowsPutBit}
+use Rattle.contracts.specs.ReachrowsSays.{ReachrowsBadRow, ReachrowsExtraLoad, ReachrowsFewRows, ReachrowsManyRows, ReachrowsPutBit, ReachrowsThirdRows}
 use Rattle.laws.specs.Bits.{clearBit, setBit, wordOf}
 use Rattle.laws.specs.Choice.{pick}
 use Rattle.laws.specs.Part.{listOf}
@@ -39,7 +39,7 @@ pub reachrowsFewRows-one : (reach : List ℕ) (cells : ℕ)
     → (r : List ℕ) × (ReachrowsFewRows reach cells r)
     × ((q : List ℕ) → ReachrowsFewRows reach cells q → (q ≡ r))
 reachrowsFewRows-one reach cells = (
-  sets (replicate 32 0) 0 (listOf (λ a. wordOf (clashIn reach a) cells) cells),
+  sets (replicate 32 0) 0 (listOf (λ a. wordOf (clashIn 1 reach a) cells) cells),
   record { answer = refl },
   λ q says. says .answer,
 )
@@ -49,7 +49,17 @@ pub reachrowsManyRows-one : (reach : List ℕ) (cells : ℕ)
     → (r : List ℕ) × (ReachrowsManyRows reach cells r)
     × ((q : List ℕ) → ReachrowsManyRows reach cells q → (q ≡ r))
 reachrowsManyRows-one reach cells = (
-  sets (replicate 32 0) 0 (listOf (λ a. wordOf (clashIn reach a) cells) cells),
+  sets (replicate 32 0) 0 (listOf (λ a. wordOf (clashIn 1 reach a) cells) cells),
+  record { answer = refl },
+  λ q says. says .answer,
+)
+
+-- reachrows::third_rows
+pub reachrowsThirdRows-one : (reach : List ℕ) (cells : ℕ)
+    → (r : List ℕ) × (ReachrowsThirdRows reach cells r)
+    × ((q : List ℕ) → ReachrowsThirdRows reach cells q → (q ≡ r))
+reachrowsThirdRows-one reach cells = (
+  sets (replicate 32 0) 0 (listOf (λ a. wordOf (clashIn 2 reach a) cells) cells),
   record { answer = refl },
   λ q says. says .answer,
 )

@@ -11,11 +11,11 @@ use Rattle.sheet.specs.declared.SheetRead.{SheetRead}
 use Rattle.site.specs.declared.Site.{Site}
 
 -- sheet::read_sheet
-pub readSheet-one : (bytes : List ℕ) (slots : ℕ) (channels : ℕ) (blocked : List ℕ)
-    → (r : SheetRead) × (ReadSheet bytes slots channels blocked r)
-    × ((q : SheetRead) → ReadSheet bytes slots channels blocked q → (q ≡ r))
-readSheet-one bytes slots channels blocked = (
-  readSheet bytes slots channels blocked,
+pub readSheet-one : (bytes : List ℕ) (slots : ℕ) (channels : ℕ) (blocked : List ℕ) (rule : ℕ)
+    → (r : SheetRead) × (ReadSheet bytes slots channels blocked rule r)
+    × ((q : SheetRead) → ReadSheet bytes slots channels blocked rule q → (q ≡ r))
+readSheet-one bytes slots channels blocked rule = (
+  readSheet bytes slots channels blocked rule,
   record { answer = refl },
   λ q says. says .answer,
 )

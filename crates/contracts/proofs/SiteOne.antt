@@ -4,10 +4,10 @@ use mathlib.Core.Path.{_≡_, refl}
 use mathlib.Core.Bool.{Bool}
 use mathlib.Core.List.{List}
 use Prim.Native.Nat.{ℕ}
-use Rattle.contracts.specs.SiteSays.{SiteClash, SiteClashRows, SiteClearReach, SiteFaultIn, SiteSetLoad, SiteSetReach, SiteZeros, SizeOk, Within}
+use Rattle.contracts.specs.SiteSays.{RuleOk, SiteClash, SiteClashRows, SiteClearReach, SiteFaultIn, SiteSetLoad, SiteSetReach, SiteZeros, SizeOk, Within}
 use Rattle.site.specs.Edit.{clearReachOf, setLoadOf, setReachOf}
 use Rattle.site.specs.Reach.{clashAnswer, clashRows}
-use Rattle.site.specs.Record.{faultOf, sizeOk, upTo, zeroSite}
+use Rattle.site.specs.Record.{faultOf, ruleOk, sizeOk, upTo, zeroSite}
 use Rattle.site.specs.declared.ClashAnswer.{ClashAnswer}
 use Rattle.site.specs.declared.Edited.{Edited}
 use Rattle.site.specs.declared.Fault.{Fault}
@@ -29,6 +29,16 @@ pub sizeOk-one : (cells : ℕ) (slots : ℕ) (channels : ℕ)
     × ((q : Bool) → SizeOk cells slots channels q → (q ≡ r))
 sizeOk-one cells slots channels = (
   sizeOk cells slots channels,
+  record { answer = refl },
+  λ q says. says .answer,
+)
+
+-- site::rule_ok
+pub ruleOk-one : (rule : ℕ)
+    → (r : Bool) × (RuleOk rule r)
+    × ((q : Bool) → RuleOk rule q → (q ≡ r))
+ruleOk-one rule = (
+  ruleOk rule,
   record { answer = refl },
   λ q says. says .answer,
 )

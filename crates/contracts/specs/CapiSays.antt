@@ -157,8 +157,8 @@ pub record DuggWritePlan (site : Site) (table : List ℕ) (out : List ℕ) (r : 
   pub out-after : out′ ≡ planOut site table out
 
 -- capi::dugg_read_sheet
-pub record DuggReadSheet (bytes : List ℕ) (slots : ℕ) (channels : ℕ) (blocked : Blocked) (r : EditedSite) : Type 0 where
-  pub answer : r ≡ toldSheetRead (readSheet bytes slots channels (blocked .bits))
+pub record DuggReadSheet (bytes : List ℕ) (slots : ℕ) (channels : ℕ) (blocked : Blocked) (rule : ℕ) (r : EditedSite) : Type 0 where
+  pub answer : r ≡ toldSheetRead (readSheet bytes slots channels (blocked .bits) rule)
 
 -- capi::dugg_write_sheet
 pub record DuggWriteSheet (site : Site) (out : List ℕ) (r : Answer) (out′ : List ℕ) : Type 0 where

@@ -21,7 +21,7 @@ use Rattle.contracts.specs.PlanfileSays.{ReadPlan, WritePlan}
 use Rattle.contracts.specs.PlannerSays.{Plan}
 use Rattle.contracts.specs.SharesSays.{Share, ShareOf}
 use Rattle.contracts.specs.SheetSays.{ReadSheet, WriteSheet}
-use Rattle.contracts.specs.SiteSays.{SiteClash, SiteClashRows, SiteClearReach, SiteFaultIn, SiteSetLoad, SiteSetReach, SiteZeros, SizeOk, Within}
+use Rattle.contracts.specs.SiteSays.{RuleOk, SiteClash, SiteClashRows, SiteClearReach, SiteFaultIn, SiteSetLoad, SiteSetReach, SiteZeros, SizeOk, Within}
 use Rattle.contracts.specs.SitefileSays.{ReadSite, WriteSite}
 use Rattle.contracts.specs.WordtableSays.{CheckWords, PlanWords, ToBytes, ToWords}
 use Rattle.flowlist.specs.declared.Flow.{Flow}
@@ -65,6 +65,10 @@ pub record EveryCall : Type 0 where
   pub sizeOk : (cells : ℕ) (slots : ℕ) (channels : ℕ)
       → (r : Bool) × (SizeOk cells slots channels r)
       × ((q : Bool) → SizeOk cells slots channels q → (q ≡ r))
+  -- site::rule_ok
+  pub ruleOk : (rule : ℕ)
+      → (r : Bool) × (RuleOk rule r)
+      × ((q : Bool) → RuleOk rule q → (q ≡ r))
   -- site::Site::zeros
   pub siteZeros : (r : Site) × (SiteZeros r)
       × ((q : Site) → SiteZeros q → (q ≡ r))
@@ -194,9 +198,9 @@ pub record EveryCall : Type 0 where
       → (r : PlanWritten) × (out′ : List ℕ) × (WritePlan site table out r out′)
       × ((q : PlanWritten) (out″ : List ℕ) → WritePlan site table out q out″ → (q ≡ r) × (out″ ≡ out′))
   -- sheet::read_sheet
-  pub readSheet : (bytes : List ℕ) (slots : ℕ) (channels : ℕ) (blocked : List ℕ)
-      → (r : SheetRead) × (ReadSheet bytes slots channels blocked r)
-      × ((q : SheetRead) → ReadSheet bytes slots channels blocked q → (q ≡ r))
+  pub readSheet : (bytes : List ℕ) (slots : ℕ) (channels : ℕ) (blocked : List ℕ) (rule : ℕ)
+      → (r : SheetRead) × (ReadSheet bytes slots channels blocked rule r)
+      × ((q : SheetRead) → ReadSheet bytes slots channels blocked rule q → (q ≡ r))
   -- sheet::write_sheet
   pub writeSheet : (site : Site) (out : List ℕ)
       → (r : Written) × (out′ : List ℕ) × (WriteSheet site out r out′)
@@ -303,9 +307,9 @@ pub record EveryCall : Type 0 where
       → (r : Answer) × (out′ : List ℕ) × (DuggWritePlan site table out r out′)
       × ((q : Answer) (out″ : List ℕ) → DuggWritePlan site table out q out″ → (q ≡ r) × (out″ ≡ out′))
   -- capi::dugg_read_sheet
-  pub duggReadSheet : (bytes : List ℕ) (slots : ℕ) (channels : ℕ) (blocked : Blocked)
-      → (r : EditedSite) × (DuggReadSheet bytes slots channels blocked r)
-      × ((q : EditedSite) → DuggReadSheet bytes slots channels blocked q → (q ≡ r))
+  pub duggReadSheet : (bytes : List ℕ) (slots : ℕ) (channels : ℕ) (blocked : Blocked) (rule : ℕ)
+      → (r : EditedSite) × (DuggReadSheet bytes slots channels blocked rule r)
+      × ((q : EditedSite) → DuggReadSheet bytes slots channels blocked rule q → (q ≡ r))
   -- capi::dugg_write_sheet
   pub duggWriteSheet : (site : Site) (out : List ℕ)
       → (r : Answer) × (out′ : List ℕ) × (DuggWriteSheet site out r out′)

@@ -45,6 +45,7 @@ pub mod ListingSays
 pub mod SayVerdictsSays
 pub mod SayFlowsheetSays
 pub mod SayNumberingSays
+pub mod SayRuleSays
 pub mod SayFlowsSays
 pub mod SayWhySays
 pub mod ToldSays

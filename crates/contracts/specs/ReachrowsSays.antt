@@ -23,11 +23,15 @@ pub record ReachrowsBadRow (reach : List ℕ) (cells : ℕ) (r : ℕ) : Type 0 w
 
 -- reachrows::few_rows
 pub record ReachrowsFewRows (reach : List ℕ) (cells : ℕ) (r : List ℕ) : Type 0 where
-  pub answer : r ≡ sets (replicate 32 0) 0 (listOf (λ a. wordOf (clashIn reach a) cells) cells)
+  pub answer : r ≡ sets (replicate 32 0) 0 (listOf (λ a. wordOf (clashIn 1 reach a) cells) cells)
 
 -- reachrows::many_rows
 pub record ReachrowsManyRows (reach : List ℕ) (cells : ℕ) (r : List ℕ) : Type 0 where
-  pub answer : r ≡ sets (replicate 32 0) 0 (listOf (λ a. wordOf (clashIn reach a) cells) cells)
+  pub answer : r ≡ sets (replicate 32 0) 0 (listOf (λ a. wordOf (clashIn 1 reach a) cells) cells)
+
+-- reachrows::third_rows
+pub record ReachrowsThirdRows (reach : List ℕ) (cells : ℕ) (r : List ℕ) : Type 0 where
+  pub answer : r ≡ sets (replicate 32 0) 0 (listOf (λ a. wordOf (clashIn 2 reach a) cells) cells)
 
 -- reachrows::put_bit
 pub record ReachrowsPutBit (x : ℕ) (b : ℕ) (set : Bool) (r : ℕ) : Type 0 where

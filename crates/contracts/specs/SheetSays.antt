@@ -10,8 +10,8 @@ use Rattle.sheet.specs.declared.SheetRead.{SheetRead}
 use Rattle.site.specs.declared.Site.{Site}
 
 -- sheet::read_sheet
-pub record ReadSheet (bytes : List ℕ) (slots : ℕ) (channels : ℕ) (blocked : List ℕ) (r : SheetRead) : Type 0 where
-  pub answer : r ≡ readSheet bytes slots channels blocked
+pub record ReadSheet (bytes : List ℕ) (slots : ℕ) (channels : ℕ) (blocked : List ℕ) (rule : ℕ) (r : SheetRead) : Type 0 where
+  pub answer : r ≡ readSheet bytes slots channels blocked rule
 
 -- sheet::write_sheet
 pub record WriteSheet (site : Site) (out : List ℕ) (r : Written) (out′ : List ℕ) : Type 0 where

@@ -6,7 +6,7 @@ use mathlib.Core.List.{List}
 use Prim.Native.Nat.{ℕ}
 use Rattle.site.specs.Edit.{clearReachOf, setLoadOf, setReachOf}
 use Rattle.site.specs.Reach.{clashAnswer, clashRows}
-use Rattle.site.specs.Record.{faultOf, sizeOk, upTo, zeroSite}
+use Rattle.site.specs.Record.{faultOf, ruleOk, sizeOk, upTo, zeroSite}
 use Rattle.site.specs.declared.ClashAnswer.{ClashAnswer}
 use Rattle.site.specs.declared.Edited.{Edited}
 use Rattle.site.specs.declared.Fault.{Fault}
@@ -19,6 +19,10 @@ pub record Within (x : ℕ) (most : ℕ) (r : Bool) : Type 0 where
 -- site::size_ok
 pub record SizeOk (cells : ℕ) (slots : ℕ) (channels : ℕ) (r : Bool) : Type 0 where
   pub answer : r ≡ sizeOk cells slots channels
+
+-- site::rule_ok
+pub record RuleOk (rule : ℕ) (r : Bool) : Type 0 where
+  pub answer : r ≡ ruleOk rule
 
 -- site::Site::zeros
 pub record SiteZeros (r : Site) : Type 0 where

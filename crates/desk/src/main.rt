@@ -45,8 +45,8 @@ const SECOND_NAME: usize = 3;
 
 const NUMBERS: usize = 4;
 
-// After the slots and the channels, the list of blocked positions.
-const LIST: usize = 6;
+// After the slots, the channels and the rule, the list of blocked positions.
+const LIST: usize = 7;
 
 // A site file that was refused.
 fn refuse(text: &mut [u8], input: &[u8], answer: ReadAnswer)
@@ -356,7 +356,24 @@ fn carry(
     reply::fine();
 }
 
-// The verdicts on a site, in English, and last what a numbering of a site that is not nested says.
+// The rule of a site, and each clash that a third cell makes, by first cell; whether all of it was written.
+fn put_air(site: Site, text: &mut [u8]) -> bool
+    requires { ⌜ 65536 ≤ length (now text) ⌝ }
+{
+    let end = say_rule::put_rule(text, 0, site);
+    if !reply::result(text, end) {
+        return false;
+    }
+    for a in 0..32 {
+        let end = say_rule::put_thirds(text, 0, site, a);
+        if !reply::result(text, end) {
+            return false;
+        }
+    }
+    true
+}
+
+// The verdicts on a site, in English, what a numbering of a site that is not nested says, and its rule.
 fn why(input: &[u8], table: &mut [u8], text: &mut [u8])
     requires { ⌜ 65536 ≤ length (now table) ⌝ }
     requires { ⌜ 65536 ≤ length (now text) ⌝ }
@@ -369,8 +386,16 @@ fn why(input: &[u8], table: &mut [u8], text: &mut [u8])
         return;
     };
     let end = say_why::put_why(site, table, text);
-    let last = say_numbering::put_anew(site, table, text, end);
-    yes(text, last);
+    let end = say_numbering::put_anew(site, table, text, end);
+    if !reply::result(text, end) {
+        reply::unwritten();
+        return;
+    }
+    if !put_air(site, text) {
+        reply::unwritten();
+        return;
+    }
+    reply::fine();
 }
 
 // A site as a range sheet.
@@ -392,18 +417,19 @@ fn sheet(input: &[u8], out: &mut [u8], text: &mut [u8])
     yes(out, size);
 }
 
-// Whether a fault is one of the size.
+// Whether a fault is one of the size or of the rule.
 fn of_size(fault: Fault) -> bool {
     match fault {
         Fault::Fine => false,
         Fault::Size => true,
+        Fault::Rule => true,
         Fault::Load(_) => false,
         Fault::Reach(_) => false,
         Fault::Blocked(_) => false,
     }
 }
 
-// The name of a range sheet that is refused. Of a size the sheet has no part: the slots and channels stand beside it, and its cells are 1 to 32.
+// The name of a range sheet that is refused. Of a size or a rule the sheet has no part: slots, channels and rule stand beside it, and its cells are 1 to 32.
 fn name_sheet(input: &[u8], answer: SheetAnswer) {
     if let SheetAnswer::Refused(fault) = answer {
         if of_size(fault) {
@@ -434,18 +460,19 @@ fn from_one(at: usize) -> usize {
     at + 1
 }
 
-// A range sheet as a site file, with slots, channels and blocked positions.
+// A range sheet as a site file, with slots, channels, blocked positions and rule.
 fn sheet_site(
     input: &[u8],
     slots: u16,
     channels: u16,
     blocked: [u64; 32],
+    rule: u16,
     out: &mut [u8],
     text: &mut [u8],
 )
     requires { ⌜ 65536 ≤ length (now text) ⌝ }
 {
-    let read = sheet::read_sheet(input, slots, channels, blocked);
+    let read = sheet::read_sheet(input, slots, channels, blocked, rule);
     let answer = read.answer;
     let site = read.site;
     let end = say_verdicts::put_sheet_read(text, 0, answer);
@@ -463,7 +490,7 @@ fn sheet_site(
 }
 
 // A range sheet as a site file, where the list beside it is one.
-fn site(input: &[u8], slots: u16, channels: u16, out: &mut [u8], text: &mut [u8])
+fn site(input: &[u8], slots: u16, channels: u16, rule: u16, out: &mut [u8], text: &mut [u8])
     requires { ⌜ 65536 ≤ length (now text) ⌝ }
 {
     let list = listed(slots, channels);
@@ -474,7 +501,7 @@ fn site(input: &[u8], slots: u16, channels: u16, out: &mut [u8], text: &mut [u8]
         reply::wrong(text, end);
         return;
     }
-    sheet_site(input, slots, channels, blocked, out, text);
+    sheet_site(input, slots, channels, blocked, rule, out, text);
 }
 
 // The share of a flow; one that says nothing of repeats has the default.
@@ -564,7 +591,7 @@ fn is(name: &[u8]) -> bool {
     lines::eat_text(&word, 0, name) == n
 }
 
-// Argument i as a number; 0 where it is none up to 65,535. No call takes 0 for slots, channels, a burst, a period or repeats.
+// Argument i as a number; 0 where it is none up to 65,535. No call takes 0 for slots, channels, a rule, a burst, a period or repeats.
 fn number(i: usize) -> u16 {
     let mut word = [0u8; WORD];
     let n = os::arg(i, &mut word);
@@ -656,6 +683,7 @@ fn main() {
             &input[..n],
             number(NUMBERS),
             number(NUMBERS + 1),
+            number(NUMBERS + 2),
             &mut out,
             &mut text,
         ),

@@ -14,6 +14,9 @@ fn refused(f: Fault) {
         Fault::Size => {
             io::write_all(STDOUT_FILENO, b"1");
         }
+        Fault::Rule => {
+            io::write_all(STDOUT_FILENO, b"24");
+        }
         Fault::Load(_) => {
             io::write_all(STDOUT_FILENO, b"2");
         }
@@ -71,6 +74,7 @@ fn desk(load: u16) -> Site {
     s.loads[1] = load;
     s.loads[2] = 4;
     s.reach[1] = 5;
+    s.rule = 1;
     s
 }
 
@@ -81,6 +85,7 @@ fn sized(cells: u16, slots: u16, channels: u16) -> Site {
     s.slots = slots;
     s.channels = channels;
     s.loads[0] = 1;
+    s.rule = 1;
     s
 }
 

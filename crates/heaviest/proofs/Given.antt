@@ -10,7 +10,7 @@ use Rattle.laws.specs.Choice.{pick}
 use Rattle.site.specs.Record.{faultOf}
 use Rattle.site.specs.Given.{Given}
 use Rattle.site.specs.declared.Site.{Site}
-use Rattle.site.specs.declared.Fault.the-variants.{Fine, Size, Load, Reach, Blocked}
+use Rattle.site.specs.declared.Fault.the-variants.{Fine, Size, Rule, Load, Reach, Blocked}
 use Rattle.site.proofs.Given.{faultFrom}
 use Rattle.site.proofs.PassedOn.{proper-call}
 use Rattle.heaviest.specs.Sets.{heaviestOf}
@@ -25,6 +25,7 @@ heaviest-back : (a : HeaviestAnswer) → heaviestProper a ≡ true → heaviestF
 heaviest-back (Done load cells) p = refl
 heaviest-back (Refused Fine) p = absurd (false≢true p)
 heaviest-back (Refused Size) p = refl
+heaviest-back (Refused Rule) p = refl
 heaviest-back (Refused (Load k)) p = refl
 heaviest-back (Refused (Reach k)) p = refl
 heaviest-back (Refused (Blocked k)) p = refl
@@ -39,10 +40,11 @@ heaviest-proper s = proper-call heaviestProper Refused (λ g. refl) (faultOf s) 
 
 -- the numbers and the values, in their order, of an answer of each kind
 abbrev answers : (load cells cell row position : ℕ) → List HeaviestAnswer
-answers load cells cell row position = Done load cells ∷ Refused Size ∷ Refused (Load cell) ∷ Refused (Reach row) ∷ Refused (Blocked position) ∷ []
+answers load cells cell row position =
+    Done load cells ∷ Refused Size ∷ Refused Rule ∷ Refused (Load cell) ∷ Refused (Reach row) ∷ Refused (Blocked position) ∷ []
 
 pub heaviest-numbers : (load cells cell row position : ℕ)
-    → (map (λ (a : HeaviestAnswer). heaviestGiven a .number) (answers load cells cell row position) ≡ 0 ∷ 1 ∷ 2 ∷ 3 ∷ 20 ∷ [])
+    → (map (λ (a : HeaviestAnswer). heaviestGiven a .number) (answers load cells cell row position) ≡ 0 ∷ 1 ∷ 24 ∷ 2 ∷ 3 ∷ 20 ∷ [])
     × (map (λ (a : HeaviestAnswer). heaviestGiven a .values) (answers load cells cell row position)
-    ≡ (load ∷ cells ∷ []) ∷ [] ∷ (cell ∷ []) ∷ (row ∷ []) ∷ (position ∷ []) ∷ [])
+    ≡ (load ∷ cells ∷ []) ∷ [] ∷ [] ∷ (cell ∷ []) ∷ (row ∷ []) ∷ (position ∷ []) ∷ [])
 heaviest-numbers load cells cell row position = (refl, refl)

@@ -8,27 +8,31 @@ use borrow.Author.Tests.{lt-ltb, le-ltb, eq-eqb, ne-eqb}
 use Rattle.records.specs.Bytes.{le16}
 use Rattle.lines.specs.Match.{starts}
 use Rattle.speech.specs.Speech.{bytes}
-use Rattle.inputs.specs.Files.{byKind, houseFile, inputOf}
+use Rattle.inputs.specs.Files.{byKind, ruledHead, houseFile, inputOf}
 use Rattle.inputs.specs.Said.{inputNumber, plainSaid, otherSaid, fileSaid}
 use Rattle.inputs.specs.declared.Input.{Input as File}
-use Rattle.inputs.specs.declared.Input.the-variants.{RangeSheet, FlowSheet, Other}
+use Rattle.inputs.specs.declared.Input.the-variants.{SiteFile, RangeSheet, FlowSheet, Other}
 
 module _ (s : List ℕ) where
   pub house-short : length s < 14 → Other ≡ houseFile s
   unfolding houseFile
   house-short h = rw (lt-ltb (length s) 14 h)
 
-  pub house-length : (a : ℕ) → 14 ≤ length s → a ≡ le16 s 0 → (a ≡ 8 → ⊥) → Other ≡ houseFile s
+  pub house-ruled : 14 ≤ length s → ruledHead s ≡ true → SiteFile ≡ houseFile s
   unfolding houseFile
-  house-length a h e n = rw (le-ltb (length s) 14 h, ne-eqb (le16 s 0) 8 (λ q. n (e ∙ q)))
+  house-ruled h r = rw (le-ltb (length s) 14 h, r)
 
-  pub house-kind : (a b : ℕ) → 14 ≤ length s → a ≡ le16 s 0 → a ≡ 8 → b ≡ le16 s 2 → (b ≡ 1 → ⊥) → Other ≡ houseFile s
+  pub house-length : (a : ℕ) → 14 ≤ length s → ruledHead s ≡ false → a ≡ le16 s 0 → (a ≡ 8 → ⊥) → Other ≡ houseFile s
   unfolding houseFile
-  house-kind a b h e i f n = rw (le-ltb (length s) 14 h, eq-eqb (le16 s 0) 8 (sym e ∙ i), ne-eqb (le16 s 2) 1 (λ q. n (f ∙ q)))
+  house-length a h r e n = rw (le-ltb (length s) 14 h, r, ne-eqb (le16 s 0) 8 (λ q. n (e ∙ q)))
 
-  pub house-is : (a b : ℕ) → 14 ≤ length s → a ≡ le16 s 0 → a ≡ 8 → b ≡ le16 s 2 → b ≡ 1 → byKind (le16 s 12) ≡ houseFile s
+  pub house-kind : (a b : ℕ) → 14 ≤ length s → ruledHead s ≡ false → a ≡ le16 s 0 → a ≡ 8 → b ≡ le16 s 2 → (b ≡ 1 → ⊥) → Other ≡ houseFile s
   unfolding houseFile
-  house-is a b h e i f j = rw (le-ltb (length s) 14 h, eq-eqb (le16 s 0) 8 (sym e ∙ i), eq-eqb (le16 s 2) 1 (sym f ∙ j))
+  house-kind a b h r e i f n = rw (le-ltb (length s) 14 h, r, eq-eqb (le16 s 0) 8 (sym e ∙ i), ne-eqb (le16 s 2) 1 (λ q. n (f ∙ q)))
+
+  pub house-is : (a b : ℕ) → 14 ≤ length s → ruledHead s ≡ false → a ≡ le16 s 0 → a ≡ 8 → b ≡ le16 s 2 → b ≡ 1 → byKind (le16 s 12) ≡ houseFile s
+  unfolding houseFile
+  house-is a b h r e i f j = rw (le-ltb (length s) 14 h, r, eq-eqb (le16 s 0) 8 (sym e ∙ i), eq-eqb (le16 s 2) 1 (sym f ∙ j))
 
   pub input-range : starts (bytes "cell,load") s ≡ true → RangeSheet ≡ inputOf s
   unfolding inputOf

@@ -13,6 +13,10 @@ site-file : inputOf (8 ∷ 0 ∷ 1 ∷ 0 ∷ 3 ∷ 0 ∷ 3 ∷ 0 ∷ 2 ∷ 0 ∷
 unfolding inputOf houseFile byKind starts
 site-file = refl
 
+ruled-file : inputOf (10 ∷ 0 ∷ 5 ∷ 0 ∷ 3 ∷ 0 ∷ 3 ∷ 0 ∷ 2 ∷ 0 ∷ 2 ∷ 0 ∷ 8 ∷ 0 ∷ []) ≡ SiteFile
+unfolding inputOf houseFile byKind starts
+ruled-file = refl
+
 plan-file : inputOf (8 ∷ 0 ∷ 1 ∷ 0 ∷ 3 ∷ 0 ∷ 3 ∷ 0 ∷ 2 ∷ 0 ∷ 5 ∷ 0 ∷ 4 ∷ 0 ∷ []) ≡ PlanFile
 unfolding inputOf houseFile byKind starts
 plan-file = refl

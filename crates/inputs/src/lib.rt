@@ -11,7 +11,7 @@ ghost use lib.ListN.{length};
 ghost use Rattle.lines.specs.Match.{starts};
 ghost use Rattle.phrases.specs.Put.{Put};
 ghost use Rattle.phrases.specs.Phrases.{phrase};
-ghost use Rattle.inputs.specs.Files.{byKind, houseFile, inputOf};
+ghost use Rattle.inputs.specs.Files.{byKind, ruledHead, houseFile, inputOf};
 ghost use Rattle.inputs.specs.Lines.{inputLines};
 ghost use Rattle.inputs.specs.Said.{inputNumber, foundPhrase, askedPhrase, otherSaid, fileSaid};
 
@@ -66,12 +66,28 @@ fn by_kind(kind: u16) -> Input
     Input::Other
 }
 
+// Whether the head is of kind 5, with which a rule 2 site file begins.
+fn ruled(s: &[u8]) -> bool
+    requires { ⌜ 14 ≤ length (now s) ⌝ }
+    ensures { λ r. ⌜ r ≡ ruledHead (now (s .entry)) ⌝ }
+{
+    let length = two_bytes(s, 0);
+    if length != 10 {
+        return false;
+    }
+    let kind = two_bytes(s, 2);
+    kind == 5
+}
+
 // A site file or a plan file: a head, and the kind of the record after it.
 fn house_file(s: &[u8]) -> Input
     ensures { λ r. ⌜ r ≡ houseFile (now (s .entry)) ⌝ }
 {
     if s.len() < 14 {
         return Input::Other;
+    }
+    if ruled(s) {
+        return Input::SiteFile;
     }
     let length = two_bytes(s, 0);
     if length != 8 {

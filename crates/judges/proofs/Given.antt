@@ -14,7 +14,7 @@ use Rattle.site.specs.Record.{faultOf}
 use Rattle.site.specs.Reach.{netOf}
 use Rattle.site.specs.Given.{Given}
 use Rattle.site.specs.declared.Site.{Site}
-use Rattle.site.specs.declared.Fault.the-variants.{Fine, Size, Load, Reach, Blocked}
+use Rattle.site.specs.declared.Fault.the-variants.{Fine, Size, Rule, Load, Reach, Blocked}
 use Rattle.site.proofs.Given.{faultFrom}
 use Rattle.site.proofs.PassedOn.{proper-call}
 use Rattle.judges.specs.Judges.{counted, loadOf, loadAnswer, chainOf, chainAnswer, classOf, classAnswer, leastOf, leastAnswer}
@@ -40,6 +40,7 @@ load-back load.Holds p = refl
 load-back (load.Over cell excess) p = refl
 load-back (load.Refused Fine) p = absurd (false≢true p)
 load-back (load.Refused Size) p = refl
+load-back (load.Refused Rule) p = refl
 load-back (load.Refused (Load k)) p = refl
 load-back (load.Refused (Reach k)) p = refl
 load-back (load.Refused (Blocked k)) p = refl
@@ -59,13 +60,13 @@ load-proper s = proper-call loadProper load.Refused (λ g. refl) (faultOf s) _ (
 -- the numbers and the values, in their order, of an answer of each kind
 abbrev loads : (cell excess row position : ℕ) → List LoadAnswer
 loads cell excess row position =
-    load.Holds ∷ load.Over cell excess ∷ load.Refused Size ∷ load.Refused (Load cell) ∷ load.Refused (Reach row)
+    load.Holds ∷ load.Over cell excess ∷ load.Refused Size ∷ load.Refused Rule ∷ load.Refused (Load cell) ∷ load.Refused (Reach row)
     ∷ load.Refused (Blocked position) ∷ []
 
 pub load-numbers : (cell excess row position : ℕ)
-    → (map (λ (a : LoadAnswer). loadGiven a .number) (loads cell excess row position) ≡ 0 ∷ 0 ∷ 1 ∷ 2 ∷ 3 ∷ 20 ∷ [])
+    → (map (λ (a : LoadAnswer). loadGiven a .number) (loads cell excess row position) ≡ 0 ∷ 0 ∷ 1 ∷ 24 ∷ 2 ∷ 3 ∷ 20 ∷ [])
     × (map (λ (a : LoadAnswer). loadGiven a .values) (loads cell excess row position)
-    ≡ [] ∷ (cell ∷ excess ∷ []) ∷ [] ∷ (cell ∷ []) ∷ (row ∷ []) ∷ (position ∷ []) ∷ [])
+    ≡ [] ∷ (cell ∷ excess ∷ []) ∷ [] ∷ [] ∷ (cell ∷ []) ∷ (row ∷ []) ∷ (position ∷ []) ∷ [])
 load-numbers cell excess row position = (refl, refl)
 
 -- ---- the judge
@@ -80,6 +81,7 @@ chain-back chain.Chained p = refl
 chain-back (chain.Broken a b c) p = refl
 chain-back (chain.Refused Fine) p = absurd (false≢true p)
 chain-back (chain.Refused Size) p = refl
+chain-back (chain.Refused Rule) p = refl
 chain-back (chain.Refused (Load k)) p = refl
 chain-back (chain.Refused (Reach k)) p = refl
 chain-back (chain.Refused (Blocked k)) p = refl
@@ -99,13 +101,13 @@ chain-proper s = proper-call chainProper chain.Refused (λ g. refl) (faultOf s) 
 -- the numbers and the values, in their order, of an answer of each kind
 abbrev chains : (a b c cell row position : ℕ) → List ChainAnswer
 chains a b c cell row position =
-    chain.Chained ∷ chain.Broken a b c ∷ chain.Refused Size ∷ chain.Refused (Load cell) ∷ chain.Refused (Reach row)
+    chain.Chained ∷ chain.Broken a b c ∷ chain.Refused Size ∷ chain.Refused Rule ∷ chain.Refused (Load cell) ∷ chain.Refused (Reach row)
     ∷ chain.Refused (Blocked position) ∷ []
 
 pub chain-numbers : (a b c cell row position : ℕ)
-    → (map (λ (a : ChainAnswer). chainGiven a .number) (chains a b c cell row position) ≡ 0 ∷ 0 ∷ 1 ∷ 2 ∷ 3 ∷ 20 ∷ [])
+    → (map (λ (a : ChainAnswer). chainGiven a .number) (chains a b c cell row position) ≡ 0 ∷ 0 ∷ 1 ∷ 24 ∷ 2 ∷ 3 ∷ 20 ∷ [])
     × (map (λ (a : ChainAnswer). chainGiven a .values) (chains a b c cell row position)
-    ≡ [] ∷ (a ∷ b ∷ c ∷ []) ∷ [] ∷ (cell ∷ []) ∷ (row ∷ []) ∷ (position ∷ []) ∷ [])
+    ≡ [] ∷ (a ∷ b ∷ c ∷ []) ∷ [] ∷ [] ∷ (cell ∷ []) ∷ (row ∷ []) ∷ (position ∷ []) ∷ [])
 chain-numbers a b c cell row position = (refl, refl)
 
 -- ---- the judge of the class
@@ -120,6 +122,7 @@ class-back class.InClass p = refl
 class-back (class.Outside a b i) p = refl
 class-back (class.Refused Fine) p = absurd (false≢true p)
 class-back (class.Refused Size) p = refl
+class-back (class.Refused Rule) p = refl
 class-back (class.Refused (Load k)) p = refl
 class-back (class.Refused (Reach k)) p = refl
 class-back (class.Refused (Blocked k)) p = refl
@@ -160,6 +163,7 @@ least-back (least.Least n) p = refl
 least-back (least.Enough n) p = refl
 least-back (least.Refused Fine) p = absurd (false≢true p)
 least-back (least.Refused Size) p = refl
+least-back (least.Refused Rule) p = refl
 least-back (least.Refused (Load k)) p = refl
 least-back (least.Refused (Reach k)) p = refl
 least-back (least.Refused (Blocked k)) p = refl
@@ -181,11 +185,11 @@ least-proper s =
 -- the numbers and the values, in their order, of an answer of each kind
 abbrev leasts : (n cell row position : ℕ) → List LeastAnswer
 leasts n cell row position =
-    least.Least n ∷ least.Enough n ∷ least.Refused Size ∷ least.Refused (Load cell) ∷ least.Refused (Reach row)
+    least.Least n ∷ least.Enough n ∷ least.Refused Size ∷ least.Refused Rule ∷ least.Refused (Load cell) ∷ least.Refused (Reach row)
     ∷ least.Refused (Blocked position) ∷ []
 
 pub least-numbers : (n cell row position : ℕ)
-    → (map (λ (a : LeastAnswer). leastGiven a .number) (leasts n cell row position) ≡ 0 ∷ 0 ∷ 1 ∷ 2 ∷ 3 ∷ 20 ∷ [])
+    → (map (λ (a : LeastAnswer). leastGiven a .number) (leasts n cell row position) ≡ 0 ∷ 0 ∷ 1 ∷ 24 ∷ 2 ∷ 3 ∷ 20 ∷ [])
     × (map (λ (a : LeastAnswer). leastGiven a .values) (leasts n cell row position)
-    ≡ (n ∷ 0 ∷ []) ∷ (n ∷ 1 ∷ []) ∷ [] ∷ (cell ∷ []) ∷ (row ∷ []) ∷ (position ∷ []) ∷ [])
+    ≡ (n ∷ 0 ∷ []) ∷ (n ∷ 1 ∷ []) ∷ [] ∷ [] ∷ (cell ∷ []) ∷ (row ∷ []) ∷ (position ∷ []) ∷ [])
 least-numbers n cell row position = (refl, refl)

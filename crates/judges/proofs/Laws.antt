@@ -51,7 +51,7 @@ pub demand-is : (s : Site) (rows : List ℕ) → bitIn rows ≡ clashOf s → (i
 demand-is s rows relation i =
     ap (λ (n : ℕ). getD (s .loads) i 0 + n)
     (sum-eq (λ j. pick (bitIn rows i j) (getD (s .loads) j 0) 0) (λ j. pick (clashOf s j i) (getD (s .loads) j 0) 0) i
-    (λ j _. ap (λ t. pick t (getD (s .loads) j 0) 0) (ap (λ (r : ℕ → ℕ → Bool). r i j) relation ∙ clash-sym (s .reach) i j)))
+    (λ j _. ap (λ t. pick t (getD (s .loads) j 0) 0) (ap (λ (r : ℕ → ℕ → Bool). r i j) relation ∙ clash-sym (s .rule) (s .reach) i j)))
 
 -- below I the word says who counts
 counts-is : (s : Site) → faultOf s ≡ Fine → (who : ℕ) → who ≡ wordOf (counted s) 32 → (i : ℕ) → i < s .cells → bitAt who i ≡ counted s i
@@ -120,10 +120,10 @@ split-inside s who i e h = rw e (ltb-true _ _ (first-passes (λ k. ltb (splitOf 
 module _ (s : Site) (fine : faultOf s ≡ Fine) (rows : List ℕ) (relation : bitIn rows ≡ clashOf s) (who : ℕ) (word : who ≡ wordOf (counted s) 32)
     (i : ℕ) (e : i ≡ firstSplitIn rows who (s .cells)) where
   pub split-is-named : i ≡ firstSplit (netOf s) (counted s)
-  split-is-named = e ∙ first-split-is (netOf s) rows relation (clash-sym (s .reach)) who (counted s) (counts-is s fine who word)
+  split-is-named = e ∙ first-split-is (netOf s) rows relation (clash-sym (s .rule) (s .reach)) who (counted s) (counts-is s fine who word)
 
   split-named : i < s .cells → splitIn rows who i ≡ splitOf (netOf s) (counted s) i
-  split-named = split-is (netOf s) rows relation (clash-sym (s .reach)) who (counted s) (counts-is s fine who word) i
+  split-named = split-is (netOf s) rows relation (clash-sym (s .rule) (s .reach)) who (counted s) (counts-is s fine who word) i
 
   -- the first of the two is below i
   pub split-below : (a : ℕ) → i < s .cells → a ≡ splitIn rows who i → a < i
@@ -135,7 +135,7 @@ module _ (s : Site) (fine : faultOf s ≡ Fine) (rows : List ℕ) (relation : bi
   class-outside a b h p q =
       let p′ : a ≡ splitOf (netOf s) (counted s) i = p ∙ split-named h in
       let q′ : b ≡ second (netOf s) (counted s) i a =
-      q ∙ second-is (netOf s) rows relation (clash-sym (s .reach)) who (counted s) (counts-is s fine who word) i a (split-below a h p) h in
+      q ∙ second-is (netOf s) rows relation (clash-sym (s .rule) (s .reach)) who (counted s) (counts-is s fine who word) i a (split-below a h p) h in
       simp (fine, sym split-is-named, lt-ltb i (s .cells) h, sym p′, sym q′)
 
   pub class-none : s .cells ≤ i → classAnswer s ≡ class.InClass

@@ -93,7 +93,7 @@ module _ (s : Net) (u words counts : List ℕ) (number : ℕ) (all : Whole s u n
 -- clash rows that state who clashes say it both ways
 pub both-ways : (s : Site) (rows : List ℕ) → bitIn rows ≡ clashOf s → TwoWay rows
 both-ways s rows e a b =
-    ap (λ (f : ℕ → ℕ → Bool). f a b) e ∙ clash-sym (s .reach) a b ∙ sym (ap (λ (f : ℕ → ℕ → Bool). f b a) e)
+    ap (λ (f : ℕ → ℕ → Bool). f a b) e ∙ clash-sym (s .rule) (s .reach) a b ∙ sym (ap (λ (f : ℕ → ℕ → Bool). f b a) e)
 
 module _ (s : Site) (u l : List ℕ) where
   pub refused-ends : (f : Fault) → faultOf s ≡ f → isFine f ≡ false → (Refused f ≡ mendAnswer s u l) × ((u ≡ mendTable s u l) × (l ≡ mendList s u l))

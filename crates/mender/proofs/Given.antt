@@ -16,7 +16,7 @@ use Rattle.site.proofs.Given.{faultFrom}
 use Rattle.site.proofs.PassedOn.{proper-call, proper-either}
 use Rattle.site.specs.declared.Site.{Site}
 use Rattle.site.specs.declared.Fault.{Fault}
-use Rattle.site.specs.declared.Fault.the-variants.{Fine, Size, Load, Reach, Blocked}
+use Rattle.site.specs.declared.Fault.the-variants.{Fine, Size, Rule, Load, Reach, Blocked}
 use Rattle.mending.specs.Mend.{mend}
 use Rattle.standing.specs.Stand.{numberOf}
 use Rattle.mender.specs.Mend.{tooShort, mendAnswerOf, mendAnswer}
@@ -35,6 +35,7 @@ readBack g =
 read-refusal : (f : Fault) → mendProper (Refused f) ≡ true → readBack (mendGiven (Refused f)) ≡ Refused f
 read-refusal Fine h = absurd (false≢true h)
 read-refusal Size h = refl
+read-refusal Rule h = refl
 read-refusal (Load k) h = refl
 read-refusal (Reach k) h = refl
 read-refusal (Blocked k) h = refl
@@ -67,11 +68,11 @@ mend-proper s u l =
 -- the numbers and the values, in their order, of an answer of each kind
 abbrev mends : (many cell short row position : ℕ) → List MendAnswer
 mends many cell short row position =
-    Done many ∷ TableShort ∷ NoRoom cell short ∷ ListShort many ∷ Refused Size ∷ Refused (Load cell) ∷ Refused (Reach row)
+    Done many ∷ TableShort ∷ NoRoom cell short ∷ ListShort many ∷ Refused Size ∷ Refused Rule ∷ Refused (Load cell) ∷ Refused (Reach row)
     ∷ Refused (Blocked position) ∷ []
 
 pub mend-numbers : (many cell short row position : ℕ)
-    → (map (λ (a : MendAnswer). mendGiven a .number) (mends many cell short row position) ≡ 0 ∷ 4 ∷ 5 ∷ 13 ∷ 1 ∷ 2 ∷ 3 ∷ 20 ∷ [])
+    → (map (λ (a : MendAnswer). mendGiven a .number) (mends many cell short row position) ≡ 0 ∷ 4 ∷ 5 ∷ 13 ∷ 1 ∷ 24 ∷ 2 ∷ 3 ∷ 20 ∷ [])
     × (map (λ (a : MendAnswer). mendGiven a .values) (mends many cell short row position)
-    ≡ (many ∷ []) ∷ [] ∷ (cell ∷ short ∷ []) ∷ (many ∷ []) ∷ [] ∷ (cell ∷ []) ∷ (row ∷ []) ∷ (position ∷ []) ∷ [])
+    ≡ (many ∷ []) ∷ [] ∷ (cell ∷ short ∷ []) ∷ (many ∷ []) ∷ [] ∷ [] ∷ (cell ∷ []) ∷ (row ∷ []) ∷ (position ∷ []) ∷ [])
 mend-numbers many cell short row position = (refl, refl)

@@ -26,7 +26,7 @@ use Rattle.site.specs.Reach.{netOf}
 use Rattle.site.proofs.PassedOn.{passed-on}
 use Rattle.site.specs.declared.Site.{Site}
 use Rattle.site.specs.declared.Fault.{Fault}
-use Rattle.site.specs.declared.Fault.the-variants.{Fine, Size, Load, Reach, Blocked}
+use Rattle.site.specs.declared.Fault.the-variants.{Fine, Size, Rule, Load, Reach, Blocked}
 use Rattle.theory.specs.Named.{Fails}
 use Rattle.theory.proofs.Run.{run-fails}
 use Rattle.mending.specs.Mend.{stand, mend, overlay}
@@ -72,6 +72,7 @@ module _ (s : Net) (u l : List ℕ) where
   way-of Fine false (planned t) = by-list t (tooShort l (numberOf s u t)) refl
   way-of Fine false (noRoom c m) = (refl, refl, (c, (refl, refl)))
   way-of Size b o = refl
+  way-of Rule b o = refl
   way-of (Load k) b o = refl
   way-of (Reach k) b o = refl
   way-of (Blocked k) b o = refl
@@ -87,6 +88,7 @@ module _ (s : Net) (u l : List ℕ) where
   kept-by Fine false (planned t) h = list-kept (tooShort l (numberOf s u t)) (numberOf s u t) (overlay t u) (sets l 0 (listedChanges s u t)) h
   kept-by Fine false (noRoom c m) h = (refl, refl)
   kept-by Size b o h = (refl, refl)
+  kept-by Rule b o h = (refl, refl)
   kept-by (Load k) b o h = (refl, refl)
   kept-by (Reach k) b o h = (refl, refl)
   kept-by (Blocked k) b o h = (refl, refl)

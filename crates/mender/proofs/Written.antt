@@ -18,7 +18,7 @@ use Rattle.site.specs.Record.{positions, size, faultOf, isFine}
 use Rattle.site.specs.Reach.{netOf}
 use Rattle.site.specs.declared.Site.{Site}
 use Rattle.site.specs.declared.Fault.{Fault}
-use Rattle.site.specs.declared.Fault.the-variants.{Fine, Size, Load, Reach, Blocked}
+use Rattle.site.specs.declared.Fault.the-variants.{Fine, Size, Rule, Load, Reach, Blocked}
 use Rattle.site.proofs.Faults.{fine-sized, Sized}
 use Rattle.mending.specs.Mend.{mend, overlay}
 use Rattle.standing.specs.Stand.{numberOf}
@@ -109,6 +109,7 @@ module _ (s : Site) (u : List ℕ) where
       absurd (h number (ap (λ (q : Bool). pick q (ListShort number) (Done number)) (le-ltb (length (listRoom s)) (4 * number) (room-for s u t))))
   same-by l Fine false (noRoom c k) h = refl
   same-by l Size b o h = refl
+  same-by l Rule b o h = refl
   same-by l (Load k) b o h = refl
   same-by l (Reach k) b o h = refl
   same-by l (Blocked k) b o h = refl

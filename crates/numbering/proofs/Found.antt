@@ -32,12 +32,12 @@ module _ (s : Site) (fine : faultOf s ≡ Fine) where
   module _ (new old : List ℕ) (found : numberingOf s ≡ numbered new old) where
     pub site-renumbers : Renumbers (s .cells) (indexAt new) (indexAt old)
     unfolding numberingOf
-    site-renumbers = numbers-renumber (netOf s) (clash-sym (s .reach)) 32 few-cells new old found
+    site-renumbers = numbers-renumber (netOf s) (clash-sym (s .rule) (s .reach)) 32 few-cells new old found
 
     pub names-new : NamesCells (s .cells) new
     unfolding numberingOf
-    names-new a l = (numbers-above (netOf s) (clash-sym (s .reach)) 32 few-cells new old found a l .0, site-renumbers .new-in a l)
+    names-new a l = (numbers-above (netOf s) (clash-sym (s .rule) (s .reach)) 32 few-cells new old found a l .0, site-renumbers .new-in a l)
 
     pub names-old : NamesCells (s .cells) old
     unfolding numberingOf
-    names-old a l = (numbers-above (netOf s) (clash-sym (s .reach)) 32 few-cells new old found a l .1, site-renumbers .old-in a l)
+    names-old a l = (numbers-above (netOf s) (clash-sym (s .rule) (s .reach)) 32 few-cells new old found a l .1, site-renumbers .old-in a l)

@@ -12,7 +12,7 @@ use Rattle.site.proofs.Given.{faultFrom}
 use Rattle.site.proofs.PassedOn.{proper-call, proper-either}
 use Rattle.site.specs.declared.Site.{Site}
 use Rattle.site.specs.declared.Fault.{Fault}
-use Rattle.site.specs.declared.Fault.the-variants.{Fine, Size, Load, Reach, Blocked}
+use Rattle.site.specs.declared.Fault.the-variants.{Fine, Size, Rule, Load, Reach, Blocked}
 use Rattle.renumbering.specs.Numbering.{Numbering, numbered, stuck}
 use Rattle.numbering.specs.Renumber.{numberingOf, renumberedBy, asGiven, renumberOf}
 use Rattle.numbering.specs.Carried.{eitherShort, carryAnswerBy, carryAnswer}
@@ -33,6 +33,7 @@ renumber-back Renumber.Done h = refl
 renumber-back Renumber.NoNumbering h = refl
 renumber-back (Renumber.Refused Fine) h = absurd (false≢true h)
 renumber-back (Renumber.Refused Size) h = refl
+renumber-back (Renumber.Refused Rule) h = refl
 renumber-back (Renumber.Refused (Load k)) h = refl
 renumber-back (Renumber.Refused (Reach k)) h = refl
 renumber-back (Renumber.Refused (Blocked k)) h = refl
@@ -48,6 +49,7 @@ call-proper : (s : Site) (done : Renumbered) (f : Fault) → renumberProper (don
     → renumberProper (pick (isFine f) done (asGiven s (Renumber.Refused f)) .answer) ≡ true
 call-proper s done Fine h = h
 call-proper s done Size h = refl
+call-proper s done Rule h = refl
 call-proper s done (Load k) h = refl
 call-proper s done (Reach k) h = refl
 call-proper s done (Blocked k) h = refl
@@ -69,6 +71,7 @@ carry-back Carry.NoNumbering h = refl
 carry-back Carry.TableShort h = refl
 carry-back (Carry.Refused Fine) h = absurd (false≢true h)
 carry-back (Carry.Refused Size) h = refl
+carry-back (Carry.Refused Rule) h = refl
 carry-back (Carry.Refused (Load k)) h = refl
 carry-back (Carry.Refused (Reach k)) h = refl
 carry-back (Carry.Refused (Blocked k)) h = refl

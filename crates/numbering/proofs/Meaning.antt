@@ -20,7 +20,7 @@ use Rattle.site.specs.Reach.{clashOf, netOf}
 use Rattle.site.proofs.Reach.{clash-sym}
 use Rattle.site.specs.declared.Site.{Site}
 use Rattle.site.specs.declared.Fault.{Fault}
-use Rattle.site.specs.declared.Fault.the-variants.{Fine, Size, Load, Reach, Blocked}
+use Rattle.site.specs.declared.Fault.the-variants.{Fine, Size, Rule, Load, Reach, Blocked}
 use Rattle.planner.specs.Plan.{tableOf, planAnswer, planTable}
 use Rattle.planner.specs.declared.PlanAnswer.the-variants as Plan
 use Rattle.planner.proofs.Answer.{run-table}
@@ -72,6 +72,7 @@ module _ (s : Site) where
   found-by : (f : Fault) → faultOf s ≡ f → renumberOf s .answer ≡ Renumber.Done → Found s
   found-by Fine e d = found-at (numberingOf s) refl e d
   found-by Size e d = absurd (faulty Size e refl d)
+  found-by Rule e d = absurd (faulty Rule e refl d)
   found-by (Load k) e d = absurd (faulty (Load k) e refl d)
   found-by (Reach k) e d = absurd (faulty (Reach k) e refl d)
   found-by (Blocked k) e d = absurd (faulty (Blocked k) e refl d)
@@ -88,14 +89,14 @@ module _ (s : Site) where
   unfolding isNone numberingOf
   none-at fine (numbered new old) e d =
       absurd (false≢true (sym (ap (λ y. isNone (y .answer)) (renumber-done s new old fine e)) ∙ ap isNone d))
-  none-at fine stuck e d = stuck-none (netOf s) (clash-sym (s .reach)) 32 (few-cells s fine) e
+  none-at fine stuck e d = stuck-none (netOf s) (clash-sym (s .rule) (s .reach)) 32 (few-cells s fine) e
 
   at-none : faultOf s ≡ Fine → (x : Numbering) → numberingOf s ≡ x → NoRenumbering → renumberOf s .answer ≡ Renumber.NoNumbering
   unfolding numberingOf
   at-none fine (numbered new old) e none =
       absurd
       (none (indexAt new) (indexAt old) (site-renumbers s fine new old e)
-      (numbered-always (netOf s) (clash-sym (s .reach)) 32 (few-cells s fine) new old e))
+      (numbered-always (netOf s) (clash-sym (s .rule) (s .reach)) 32 (few-cells s fine) new old e))
   at-none fine stuck e none = ap (λ y. y .answer) (renumber-none s fine e)
 
   pub none-exactly : faultOf s ≡ Fine → (renumberOf s .answer ≡ Renumber.NoNumbering) ↔ NoRenumbering
@@ -124,8 +125,8 @@ module _ (s : Site) where
     unfolding numberingOf
     renumber-site = record {
       permutes = site-renumbers s (found .fine) new old (found .numbers);
-      past = numbers-past (netOf s) (clash-sym (s .reach)) 32 (few-cells s (found .fine)) new old (found .numbers);
-      by-rule = numbers-by-rule (clashOf s) (s .cells) (clash-sym (s .reach)) 32 (few-cells s (found .fine)) new old (found .numbers);
+      past = numbers-past (netOf s) (clash-sym (s .rule) (s .reach)) 32 (few-cells s (found .fine)) new old (found .numbers);
+      by-rule = numbers-by-rule (clashOf s) (s .cells) (clash-sym (s .rule) (s .reach)) 32 (few-cells s (found .fine)) new old (found .numbers);
       accepted = rw (found .site) (moved-fine s (found .fine) new old (found .numbers));
       class = rw (found .site) (moved-class s (found .fine) new old (found .numbers));
     }

@@ -7,26 +7,27 @@
 --     valid-old, valid-new                     a table that is valid for it, carried, is valid for the old site, and the other way
 -- Assumes nothing.
 use mathlib.Core.Path.{_≡_, refl, sym, ap, ap₂, _∙_}
-use mathlib.Core.Bool.{Bool, false, _&&_, _||_, not}
+use mathlib.Core.Bool.{Bool, true, false, _&&_, _||_, not}
 use mathlib.Core.List.{List}
 use mathlib.Core.Logic.{⊎-elim}
 use Prim.Native.Nat.{ℕ, _+_, _-_, _*_, _^_, _≤_, _<_}
 use native.Mathlib.Omega.{arith}
-use lib.Dec.{ltb}
+use lib.Dec.{ltb, eqb}
 use lib.ListN.{length, getD}
 use borrow.Author.Tests.{lt-ltb, ltb-true}
 use Rattle.laws.specs.Bits.{bitAt, bitIn, wordOf}
-use Rattle.laws.proofs.Choice.{cases}
+use Rattle.laws.proofs.Choice.{cases, alike}
 use Rattle.laws.proofs.Stores.{list-at}
 use Rattle.laws.proofs.Words.{word-lt, word-eq, word-within, none-word}
 use Rattle.theory.specs.Net.{Reserved, Valid, Class}
 use Rattle.theory.specs.Greedy.{sends, reserved}
 use Rattle.theory.proofs.Exact.{valid-agree}
-use Rattle.reachrows.specs.Rows.{rowBad, reaches, clashIn}
+use Rattle.reachrows.specs.Rows.{rowBad, reaches, reachedByBoth, clashIn}
 use Rattle.reachrows.proofs.Pass.{row-none}
+use Rattle.reachrows.proofs.Rules.{both-some, both-here}
 use Rattle.site.specs.Record.{loadAt, rowOf, positions, size, faultOf}
 use Rattle.site.specs.Reach.{clashOf, netOf}
-use Rattle.site.proofs.Accepted.{fine-sound, sound-fine, ok-row, fine-rows}
+use Rattle.site.proofs.Accepted.{fine-sound, sound-fine, ok-row, fine-rows, fine-reach}
 use Rattle.site.proofs.Reach.{clash-sym}
 use Rattle.site.specs.declared.Site.{Site}
 use Rattle.site.specs.declared.Fault.the-variants.{Fine}
@@ -57,12 +58,6 @@ module _ (s : Site) (fine : faultOf s ≡ Fine) (new old : List ℕ) (found : nu
   moved-reach a b la lb =
       rows-at old (s .cells) (s .reach) a b (omega (arith, few)) (omega (arith, few))
       ∙ ap₂ (λ t u. t && (u && bitIn (s .reach) (indexAt old a) (indexAt old b))) (lt-ltb a (s .cells) la) (lt-ltb b (s .cells) lb)
-
-  pub moved-clash : (a b : ℕ) → a < s .cells → b < s .cells → clashOf (movedSite s old) a b ≡ clashOf s (indexAt old a) (indexAt old b)
-  unfolding clashIn
-  moved-clash a b la lb =
-      ap₂ (λ t u. not t && u) (sym (same-cell (s .cells) (indexAt new) (indexAt old) renumbers a b la lb))
-      (ap₂ _||_ (moved-reach a b la lb) (moved-reach b a lb la))
 
   -- ---- the record has no fault
 
@@ -104,10 +99,55 @@ module _ (s : Site) (fine : faultOf s ≡ Fine) (new old : List ℕ) (found : nu
       let sound = fine-sound s fine in
       sound-fine (movedSite s old) (record {
         sizes = sound .sizes;
+        rule-ok = sound .rule-ok;
         loads = λ k h m. moved-past old (s .cells) (s .loads) k h m;
         rows = row-fine;
         none-past = sound .none-past;
       })
+
+  -- ---- who clashes, under either rule: a third cell that both reach goes with the two
+
+  abbrev Both : (a b : ℕ) → Bool
+  Both a b = reachedByBoth (s .reach) (indexAt old a) (indexAt old b)
+
+  third-old : (a b : ℕ) → a < s .cells → b < s .cells → reachedByBoth (movedSite s old .reach) a b ≡ true → Both a b ≡ true
+  unfolding movedSite
+  third-old a b la lb e =
+      let t = both-some (movedSite s old .reach) a b e in
+      let c = t .0 in
+      let lc = fine-reach (movedSite s old) moved-fine a c (omega (arith, few)) (t .1 .by-first) .1 in
+      let one : (d : ℕ) → d < s .cells → indexAt old c ≡ indexAt old d → c ≡ d
+      = λ d l q. sym (renumbers .new-old c lc) ∙ ap (indexAt new) q ∙ renumbers .new-old d l in
+      both-here (s .reach) (indexAt old a) (indexAt old b) (indexAt old c) (record {
+        few = omega (arith, few, renumbers .old-in c lc);
+        not-first = λ q. t .1 .not-first (one a la q);
+        not-second = λ q. t .1 .not-second (one b lb q);
+        by-first = sym (moved-reach a c la lc) ∙ t .1 .by-first;
+        by-second = sym (moved-reach b c lb lc) ∙ t .1 .by-second;
+      })
+
+  third-new : (a b : ℕ) → a < s .cells → b < s .cells → Both a b ≡ true → reachedByBoth (movedSite s old .reach) a b ≡ true
+  third-new a b la lb e =
+      let t = both-some (s .reach) (indexAt old a) (indexAt old b) e in
+      let d = t .0 in
+      let ld = fine-reach s fine (indexAt old a) d (omega (arith, few, renumbers .old-in a la)) (t .1 .by-first) .1 in
+      let c = indexAt new d in
+      let lc = renumbers .new-in d ld in
+      let q = renumbers .old-new d ld in
+      both-here (movedSite s old .reach) a b c (record {
+        few = omega (arith, few, lc);
+        not-first = λ p. t .1 .not-first (sym q ∙ ap (indexAt old) p);
+        not-second = λ p. t .1 .not-second (sym q ∙ ap (indexAt old) p);
+        by-first = moved-reach a c la lc ∙ ap (reaches (s .reach) (indexAt old a)) q ∙ t .1 .by-first;
+        by-second = moved-reach b c lb lc ∙ ap (reaches (s .reach) (indexAt old b)) q ∙ t .1 .by-second;
+      })
+
+  pub moved-clash : (a b : ℕ) → a < s .cells → b < s .cells → clashOf (movedSite s old) a b ≡ clashOf s (indexAt old a) (indexAt old b)
+  unfolding clashIn movedSite
+  moved-clash a b la lb =
+      ap₂ (λ t u. not t && u) (sym (same-cell (s .cells) (indexAt new) (indexAt old) renumbers a b la lb))
+      (ap₂ _||_ (moved-reach a b la lb) (ap₂ _||_ (moved-reach b a lb la)
+      (ap (λ t. eqb (s .rule) 2 && t) (alike _ _ (third-old a b la lb) (third-new a b la lb)))))
 
   -- ---- the class
 
@@ -130,19 +170,19 @@ module _ (s : Site) (fine : faultOf s ≡ Fine) (new old : List ℕ) (found : nu
   moved-class l who =
       alike-class (withLoads l (netOf (movedSite s old))) (withLoads l (renumbered (indexAt old) (netOf s)))
       (record { cells = refl; width = refl; load = λ a h. refl; clash = moved-clash; usable = λ k h. refl }) who
-      (numbered-class (netOf s) (clash-sym (s .reach)) 32 few new old found l who)
+      (numbered-class (netOf s) (clash-sym (s .rule) (s .reach)) 32 few new old found l who)
 
   -- ---- tables
 
   pub some-old : (res : Reserved) → Valid (netOf (movedSite s old)) res → Valid (netOf s) (λ i k. res (indexAt new i) k)
   some-old res v =
-      valid-back (netOf s) (clash-sym (s .reach)) (indexAt new) (indexAt old) renumbers res
+      valid-back (netOf s) (clash-sym (s .rule) (s .reach)) (indexAt new) (indexAt old) renumbers res
       (alike-valid (renumbered (indexAt old) (netOf s)) (netOf (movedSite s old)) net-same res v)
 
   pub some-new : (res : Reserved) → Valid (netOf s) res → Valid (netOf (movedSite s old)) (λ a k. res (indexAt old a) k)
   some-new res v =
       alike-valid (netOf (movedSite s old)) (renumbered (indexAt old) (netOf s)) same-net (λ a k. res (indexAt old a) k)
-      (valid-forth (netOf s) (clash-sym (s .reach)) (indexAt new) (indexAt old) renumbers res v)
+      (valid-forth (netOf s) (clash-sym (s .rule) (s .reach)) (indexAt new) (indexAt old) renumbers res v)
 
   module _ (from to : List ℕ) (has : size s ≤ length from) (fits : size s ≤ length to) where
     abbrev back : List ℕ
@@ -150,7 +190,7 @@ module _ (s : Site) (fine : faultOf s ≡ Fine) (new old : List ℕ) (found : nu
 
     pub valid-old : Valid (netOf (movedSite s old)) (reserved (positions s) from) → Valid (netOf s) (reserved (positions s) back)
     valid-old v =
-        carried-valid (netOf s) (clash-sym (s .reach)) (indexAt new) (indexAt old) renumbers from to has fits
+        carried-valid (netOf s) (clash-sym (s .rule) (s .reach)) (indexAt new) (indexAt old) renumbers from to has fits
         (alike-valid (renumbered (indexAt old) (netOf s)) (netOf (movedSite s old)) net-same (reserved (positions s) from) v)
 
     pub valid-new : Valid (netOf s) (reserved (positions s) back) → Valid (netOf (movedSite s old)) (reserved (positions s) from)
@@ -162,4 +202,4 @@ module _ (s : Site) (fine : faultOf s ≡ Fine) (new old : List ℕ) (found : nu
         (sym
         (carried-byte (indexAt new) (s .cells) (positions s) from to has fits (renumbers .new-in) (indexAt old a) k (renumbers .old-in a l) h
         ∙ ap (λ (i : ℕ). getD from (i * positions s + k) 0) (renumbers .new-old a l))))
-        (valid-forth (netOf s) (clash-sym (s .reach)) (indexAt new) (indexAt old) renumbers (reserved (positions s) back) v))
+        (valid-forth (netOf s) (clash-sym (s .rule) (s .reach)) (indexAt new) (indexAt old) renumbers (reserved (positions s) back) v))

@@ -18,7 +18,8 @@ numberingOf s = numbering 32 (clashOf s) (s .cells)
 
 -- the site in new numbers, where `old` has the old number of each new one: loads and reach go with the cells, and everything else stays
 unfoldable pub movedSite : Site → List ℕ → Site
-movedSite s old = siteOf (s .cells) (s .slots) (s .channels) (movedBy old (s .cells) (s .loads)) (movedRows old (s .cells) (s .reach)) (s .blocked)
+movedSite s old =
+    siteOf (s .cells) (s .slots) (s .channels) (movedBy old (s .cells) (s .loads)) (movedRows old (s .cells) (s .reach)) (s .blocked) (s .rule)
 
 -- "any refusal gives the site as given and numbers all 0"
 abbrev pub asGiven : Site → RenumberAnswer → Renumbered

@@ -8,7 +8,7 @@ use lib.Dec.{eqb}
 use lib.ListN.{length, getD}
 use Rattle.laws.specs.Choice.{pick}
 use Rattle.site.specs.Given.{Given}
-use Rattle.site.specs.declared.Fault.the-variants.{Fine, Size, Load, Reach, Blocked}
+use Rattle.site.specs.declared.Fault.the-variants.{Fine, Size, Rule, Load, Reach, Blocked}
 use Rattle.planfile.specs.Given.{planWrittenGiven}
 use Rattle.planfile.specs.declared.PlanWritten.{PlanWritten}
 use Rattle.planfile.specs.declared.PlanWritten.the-variants.{Done as Written, TableShort, OutShort, Refused as Faulty}
@@ -17,12 +17,13 @@ use Rattle.planfile.specs.declared.PlanWritten.the-variants.{Done as Wri
 written : Given → PlanWritten
 written g =
     pick (eqb (g .number) 1) (Faulty Size)
+    (pick (eqb (g .number) 24) (Faulty Rule)
     (pick (eqb (g .number) 2) (Faulty (Load (getD (g .values) 0 0)))
     (pick (eqb (g .number) 3) (Faulty (Reach (getD (g .values) 0 0)))
     (pick (eqb (g .number) 4) TableShort
     (pick (eqb (g .number) 13) (OutShort (getD (g .values) 0 0))
     (pick (eqb (g .number) 20) (Faulty (Blocked (getD (g .values) 0 0)))
-    (pick (eqb (length (g .values)) 0) (Faulty Fine) (Written (getD (g .values) 0 0))))))))
+    (pick (eqb (length (g .values)) 0) (Faulty Fine) (Written (getD (g .values) 0 0)))))))))
 
 written-back : (a : PlanWritten) → written (planWrittenGiven a) ≡ a
 unfolding written
@@ -31,6 +32,7 @@ written-back TableShort = refl
 written-back (OutShort n) = refl
 written-back (Faulty Fine) = refl
 written-back (Faulty Size) = refl
+written-back (Faulty Rule) = refl
 written-back (Faulty (Load k)) = refl
 written-back (Faulty (Reach k)) = refl
 written-back (Faulty (Blocked k)) = refl
@@ -43,9 +45,9 @@ written-apart a b e = sym (written-back a) ∙ ap written e ∙ written-back b
 pub numbers :
     (n k : ℕ) →
     (map (λ (a : PlanWritten). planWrittenGiven a .number)
-    (Written n ∷ TableShort ∷ OutShort n ∷ Faulty Size ∷ Faulty (Load k) ∷ Faulty (Reach k) ∷ Faulty (Blocked k) ∷ [])
-    ≡ 0 ∷ 4 ∷ 13 ∷ 1 ∷ 2 ∷ 3 ∷ 20 ∷ [])
+    (Written n ∷ TableShort ∷ OutShort n ∷ Faulty Size ∷ Faulty Rule ∷ Faulty (Load k) ∷ Faulty (Reach k) ∷ Faulty (Blocked k) ∷ [])
+    ≡ 0 ∷ 4 ∷ 13 ∷ 1 ∷ 24 ∷ 2 ∷ 3 ∷ 20 ∷ [])
     × (map (λ (a : PlanWritten). planWrittenGiven a .values)
-    (Written n ∷ TableShort ∷ OutShort n ∷ Faulty Size ∷ Faulty (Load k) ∷ Faulty (Reach k) ∷ Faulty (Blocked k) ∷ [])
-    ≡ (n ∷ []) ∷ [] ∷ (n ∷ []) ∷ [] ∷ (k ∷ []) ∷ (k ∷ []) ∷ (k ∷ []) ∷ [])
+    (Written n ∷ TableShort ∷ OutShort n ∷ Faulty Size ∷ Faulty Rule ∷ Faulty (Load k) ∷ Faulty (Reach k) ∷ Faulty (Blocked k) ∷ [])
+    ≡ (n ∷ []) ∷ [] ∷ (n ∷ []) ∷ [] ∷ [] ∷ (k ∷ []) ∷ (k ∷ []) ∷ (k ∷ []) ∷ [])
 numbers n k = (refl, refl)

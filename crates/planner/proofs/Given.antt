@@ -15,7 +15,7 @@ use Rattle.site.proofs.Given.{faultFrom}
 use Rattle.site.proofs.PassedOn.{proper-call, proper-either}
 use Rattle.site.specs.declared.Site.{Site}
 use Rattle.site.specs.declared.Fault.{Fault}
-use Rattle.site.specs.declared.Fault.the-variants.{Fine, Size, Load, Reach, Blocked}
+use Rattle.site.specs.declared.Fault.the-variants.{Fine, Size, Rule, Load, Reach, Blocked}
 use Rattle.planner.specs.Plan.{answerOf, planAnswer}
 use Rattle.planner.specs.Given.{planGiven, planProper}
 use Rattle.planner.specs.declared.PlanAnswer.{PlanAnswer}
@@ -31,6 +31,7 @@ readBack g =
 read-refusal : (f : Fault) → planProper (Refused f) ≡ true → readBack (planGiven (Refused f)) ≡ Refused f
 read-refusal Fine h = absurd (false≢true h)
 read-refusal Size h = refl
+read-refusal Rule h = refl
 read-refusal (Load k) h = refl
 read-refusal (Reach k) h = refl
 read-refusal (Blocked k) h = refl
@@ -57,9 +58,9 @@ plan-proper s t =
 
 -- the numbers and the values, in their order, of an answer of each kind
 abbrev plans : (cell short row : ℕ) → List PlanAnswer
-plans cell short row = Done ∷ TableShort ∷ NoRoom cell short ∷ Refused Size ∷ Refused (Load cell) ∷ Refused (Reach row) ∷ []
+plans cell short row = Done ∷ TableShort ∷ NoRoom cell short ∷ Refused Size ∷ Refused Rule ∷ Refused (Load cell) ∷ Refused (Reach row) ∷ []
 
 pub plan-numbers : (cell short row : ℕ)
-    → (map (λ (a : PlanAnswer). planGiven a .number) (plans cell short row) ≡ 0 ∷ 4 ∷ 5 ∷ 1 ∷ 2 ∷ 3 ∷ [])
-    × (map (λ (a : PlanAnswer). planGiven a .values) (plans cell short row) ≡ [] ∷ [] ∷ (cell ∷ short ∷ []) ∷ [] ∷ (cell ∷ []) ∷ (row ∷ []) ∷ [])
+    → (map (λ (a : PlanAnswer). planGiven a .number) (plans cell short row) ≡ 0 ∷ 4 ∷ 5 ∷ 1 ∷ 24 ∷ 2 ∷ 3 ∷ [])
+    × (map (λ (a : PlanAnswer). planGiven a .values) (plans cell short row) ≡ [] ∷ [] ∷ (cell ∷ short ∷ []) ∷ [] ∷ [] ∷ (cell ∷ []) ∷ (row ∷ []) ∷ [])
 plan-numbers cell short row = (refl, refl)

@@ -29,7 +29,7 @@ use Rattle.site.specs.Reach.{netOf}
 use Rattle.site.proofs.PassedOn.{passed-on}
 use Rattle.site.specs.declared.Site.{Site}
 use Rattle.site.specs.declared.Fault.{Fault}
-use Rattle.site.specs.declared.Fault.the-variants.{Fine, Size, Load, Reach, Blocked}
+use Rattle.site.specs.declared.Fault.the-variants.{Fine, Size, Rule, Load, Reach, Blocked}
 use Rattle.planner.specs.Plan.{answerOf, tableOf, planAnswer, planTable}
 use Rattle.planner.specs.declared.PlanAnswer.{PlanAnswer}
 use Rattle.planner.specs.declared.PlanAnswer.the-variants.{Done, TableShort, NoRoom, Refused}
@@ -54,6 +54,7 @@ unfolding runs
 ran-of Fine true o a h e = absurd (false≢true (ap runs e ∙ h))
 ran-of Fine false o a h e = (refl, refl, e)
 ran-of Size short o a h e = absurd (false≢true (ap runs e ∙ h))
+ran-of Rule short o a h e = absurd (false≢true (ap runs e ∙ h))
 ran-of (Load k) short o a h e = absurd (false≢true (ap runs e ∙ h))
 ran-of (Reach k) short o a h e = absurd (false≢true (ap runs e ∙ h))
 ran-of (Blocked k) short o a h e = absurd (false≢true (ap runs e ∙ h))

@@ -16,7 +16,7 @@ use Rattle.site.specs.Record.{positions, loadAt, isFine, faultOf}
 use Rattle.site.specs.Reach.{netOf}
 use Rattle.site.specs.Given.{Given, faultGiven}
 use Rattle.site.specs.declared.Site.{Site}
-use Rattle.site.specs.declared.Fault.the-variants.{Fine, Size, Load, Reach, Blocked}
+use Rattle.site.specs.declared.Fault.the-variants.{Fine, Size, Rule, Load, Reach, Blocked}
 use Rattle.site.proofs.Faults.{few-positions, fine-sized}
 use Rattle.site.proofs.Means.{no-fine}
 use Rattle.judges.specs.Judges.{loadAnswer}
@@ -120,7 +120,7 @@ empty-counts s fs = empty-allowed (netOf s) (flowsOf s fs)
 -- ---- "Refusals: record faults first, then 18 over 16 flows, 19 site not chained, then per flow 2, 15, 16 with the flow's number." W9: 19 outside the
 -- class. Each exactly where it is due; 2, 15 and 16 by the flow's cell, by its burst, period and repeats, and by products (crates/admission/specs/Means.antt).
 
--- the record's numbers are 1 to 3 and 20
+-- the record's numbers are 1 to 3, 20 and 24
 between : (a : AdmitAnswer) → 3 < admitGiven a .number → admitGiven a .number < 20 → ofRecord a ≡ false
 between (Admitted set) h l = refl
 between TooMany h l = refl
@@ -130,6 +130,7 @@ between (BadFlow flow) h l = refl
 between (BigShare flow) h l = refl
 between (Refused Fine) h l = absurd (omega arith)
 between (Refused Size) h l = absurd (omega arith)
+between (Refused Rule) h l = absurd (omega arith)
 between (Refused (Load k)) h l = absurd (omega arith)
 between (Refused (Reach k)) h l = absurd (omega arith)
 between (Refused (Blocked k)) h l = absurd (omega arith)

@@ -61,6 +61,7 @@ use Rattle.records.specs.Reasons.{firstReason}
 use Rattle.records.specs.declared.ReadAnswer.the-variants as read
 use Rattle.sitefile.specs.Before.{threeKinds, threeReasons, threeSite}
 use Rattle.sitefile.specs.Blocks.{nothingIn}
+use Rattle.sitefile.specs.Head.{isRuled}
 use Rattle.sitefile.specs.Read.{readSite}
 use Rattle.sitefile.specs.Write.{siteWritten, siteOut}
 use Rattle.sitefile.specs.declared.SiteRead.{SiteRead}
@@ -85,15 +86,16 @@ module _ {A : Type 0} (give : A → Given) (refuse next : A) (g : Given) where
       → (f ≡ fault.Fine) × (give next ≡ g)
   went-on fault.Fine r h e = (refl, e)
   went-on fault.Size r h e = absurd (no-fault fault.Size refl r h e)
+  went-on fault.Rule r h e = absurd (no-fault fault.Rule refl r h e)
   went-on (fault.Load k) r h e = absurd (no-fault (fault.Load k) refl r h e)
   went-on (fault.Reach k) r h e = absurd (no-fault (fault.Reach k) refl r h e)
   went-on (fault.Blocked k) r h e = absurd (no-fault (fault.Blocked k) refl r h e)
 
 -- 4 and 22 are no fault's
-not-faulty : (f : Fault) (g : Given) → 3 < g .number → (g .number ≡ 20 → ⊥) → faultGiven f ≡ g → f ≡ fault.Fine
-not-faulty f g l n e =
+not-faulty : (f : Fault) (g : Given) → 3 < g .number → (g .number ≡ 20 → ⊥) → (g .number ≡ 24 → ⊥) → faultGiven f ≡ g → f ≡ fault.Fine
+not-faulty f g l n m e =
     let same : faultGiven f .number ≡ g .number = ap (λ (x : Given). x .number) e in
-    absurd (⊎-elim (λ h. omega arith) (λ h. n (sym same ∙ h)) (fault-number f))
+    absurd (⊎-elim (λ h. omega arith) (λ h. ⊎-elim (λ k. n (sym same ∙ k)) (λ k. m (sym same ∙ k)) h) (fault-number f))
 
 -- ---- "The planner skips them"
 
@@ -212,7 +214,8 @@ module _ (s : Site) (lent due : ℕ) (res : Reserved) (p c : ℕ) where
   blocked-exactly = (
     λ e.
         let g = refused 22 (p ∷ c ∷ []) in
-        let f = went-on checkGiven (check.Refused (faultOf s)) _ g (faultOf s) refl (not-faulty (faultOf s) g (omega arith) (λ z. omega arith)) e in
+        let own = not-faulty (faultOf s) g (omega arith) (λ z. omega arith) (λ z. omega arith) in
+        let f = went-on checkGiven (check.Refused (faultOf s)) _ g (faultOf s) refl own e in
         let w = barred-then (ltb lent due) (tableVerdict (netOf s) res) p c (f .1) in
         (accepted-number s .1 (f .0), ltb-false lent due (w .0), (w .1 .0, w .1 .1, check-names-barred (netOf s) res p (w .1 .0) (w .1 .2))),
     λ h.
@@ -272,7 +275,8 @@ module _ (s : Site) (lent due : ℕ) where
   four give refuse short next r q only = (
     λ e.
         let g = refused 4 [] in
-        let f = went-on give refuse (pick (ltb lent due) short next) g (faultOf s) r (not-faulty (faultOf s) g (omega arith) (λ z. omega arith)) e in
+        let own = not-faulty (faultOf s) g (omega arith) (λ z. omega arith) (λ z. omega arith) in
+        let f = went-on give refuse (pick (ltb lent due) short next) g (faultOf s) r own e in
         (accepted-number s .1 (f .0), ltb-true lent due (only (ltb lent due) (f .1))),
     λ h. rw (accepted-number s .0 (h .0), lt-ltb lent due (h .1)) q,
   )
@@ -305,21 +309,22 @@ twenty s k = (
 
 -- any set of a site's positions may be blocked, all of them too
 abbrev pub blocking : Site → List ℕ → Site
-blocking s set = siteOf (s .cells) (s .slots) (s .channels) (s .loads) (s .reach) set
+blocking s set = siteOf (s .cells) (s .slots) (s .channels) (s .loads) (s .reach) set (s .rule)
 
 pub any-set-allowed : (s : Site) → Accepted s → (set : List ℕ)
     → ((k : ℕ) → positions s ≤ k → k < 2048 → blockedAt set k ≡ false) → Accepted (blocking s set)
 any-set-allowed s ok set none =
     let h = fine-sound s (accepted-number s .0 ok) in
-    accepted-number (blocking s set) .1 (sound-fine (blocking s set) (record { sizes = h .sizes; loads = h .loads; rows = h .rows; none-past = none }))
+    accepted-number (blocking s set) .1
+    (sound-fine (blocking s set) (record { sizes = h .sizes; rule-ok = h .rule-ok; loads = h .loads; rows = h .rows; none-past = none }))
 
--- ---- "it is absent when nothing is blocked": the file is byte for byte what it was, and every old file reads as before
+-- ---- "it is absent when nothing is blocked": under rule 1 the file is byte for byte what it was, and every old file reads as before, under rule 1
 
-pub unblocked-written : (s : Site) (out : List ℕ) → nothingIn (s .blocked) ≡ true → writtenGiven (siteWritten s out) .number ≡ 0
+pub unblocked-written : (s : Site) (out : List ℕ) → s .rule ≡ 1 → nothingIn (s .blocked) ≡ true → writtenGiven (siteWritten s out) .number ≡ 0
     → (writtenGiven (siteWritten s out) .values ≡ length (threeKinds s) ∷ []) × (siteOut s out ≡ threeKinds s ++ drop (length (threeKinds s)) out)
-unblocked-written s out e zero =
+unblocked-written s out one e zero =
     subst (λ (file : List ℕ). (writtenGiven (siteWritten s out) .values ≡ length file ∷ []) × (siteOut s out ≡ file ++ drop (length file) out))
-    (same-bytes s e) (site-write-leaves s out .if-done zero)
+    (same-bytes s one e) (site-write-leaves s out .if-done zero)
 
 pub old-read : (file : List ℕ) → firstReason (threeReasons file) ≡ read.Done
     → (readGiven (readSite file .answer) ≡ done) × (readSite file .site ≡ threeSite file)
@@ -327,6 +332,7 @@ old-read file e =
     let is = same-read file e in
     (ap (λ (r : SiteRead). readGiven (r .answer)) is, ap (λ (r : SiteRead). r .site) is)
 
-pub old-refused : (file : List ℕ) (n at : ℕ) → firstReason (threeReasons file) ≡ read.Refused n at → (n ≡ 12 → ⊥)
+-- and what was refused is refused as it was, but for bytes after kind 3, and for a head of kind 5
+pub old-refused : (file : List ℕ) (n at : ℕ) → isRuled file ≡ false → firstReason (threeReasons file) ≡ read.Refused n at → (n ≡ 12 → ⊥)
     → readGiven (readSite file .answer) ≡ readGiven (read.Refused n at)
-old-refused file n at e other = ap readGiven (same-refused file n at e other)
+old-refused file n at plain e other = ap readGiven (same-refused file n at plain e other)

@@ -19,7 +19,7 @@ use Rattle.site.specs.Reach.{netOf}
 use Rattle.site.specs.Given.{Given, faultGiven}
 use Rattle.site.specs.declared.Site.{Site}
 use Rattle.site.specs.declared.Fault.{Fault}
-use Rattle.site.specs.declared.Fault.the-variants.{Fine, Size, Load, Reach, Blocked}
+use Rattle.site.specs.declared.Fault.the-variants.{Fine, Size, Rule, Load, Reach, Blocked}
 use Rattle.planner.specs.Plan.{answerOf, tableOf, planAnswer, planTable}
 use Rattle.planner.specs.Given.{planGiven}
 use Rattle.planner.specs.declared.PlanAnswer.the-variants as planner
@@ -62,6 +62,7 @@ module _ (n : ℕ) (t : List ℕ) (laid : Outcome → List ℕ) (idle : (c m : �
   plan-left Fine false (noRoom c m) h =
       record { if-done = λ e. absurd (omega arith); if-no-room = λ _. ap (λ (x : List ℕ). x ++ drop n t) (idle c m); if-refused = λ _ f. absurd (f refl) }
   plan-left Size short o h = plan-untouched n t 1 (λ e. omega arith) (λ e. omega arith)
+  plan-left Rule short o h = plan-untouched n t 24 (λ e. omega arith) (λ e. omega arith)
   plan-left (Load k) short o h = plan-untouched n t 2 (λ e. omega arith) (λ e. omega arith)
   plan-left (Reach k) short o h = plan-untouched n t 3 (λ e. omega arith) (λ e. omega arith)
   plan-left (Blocked k) short o h = plan-untouched n t 20 (λ e. omega arith) (λ e. omega arith)
@@ -103,6 +104,7 @@ module _ (file out : List ℕ) where
   file-left Fine true = did-write
   file-left Fine false = out-untouched _ (λ e. omega arith)
   file-left Size fits = out-untouched _ (λ e. omega arith)
+  file-left Rule fits = out-untouched _ (λ e. omega arith)
   file-left (Load k) fits = out-untouched _ (λ e. omega arith)
   file-left (Reach k) fits = out-untouched _ (λ e. omega arith)
   file-left (Blocked k) fits = out-untouched _ (λ e. omega arith)
@@ -115,6 +117,7 @@ module _ (file out : List ℕ) where
   plan-file-left Fine false true = did-write
   plan-file-left Fine false false = out-untouched _ (λ e. omega arith)
   plan-file-left Size short fits = out-untouched _ (λ e. omega arith)
+  plan-file-left Rule short fits = out-untouched _ (λ e. omega arith)
   plan-file-left (Load k) short fits = out-untouched _ (λ e. omega arith)
   plan-file-left (Reach k) short fits = out-untouched _ (λ e. omega arith)
   plan-file-left (Blocked k) short fits = out-untouched _ (λ e. omega arith)
@@ -124,6 +127,7 @@ pub wrote-fine : (f : Fault) (fits : Bool) (n : ℕ)
     → writtenGiven (pick (isFine f) (pick fits (wrote.Done n) (wrote.OutShort n)) (wrote.Refused f)) .number ≡ 0 → f ≡ Fine
 wrote-fine Fine fits n e = refl
 wrote-fine Size fits n e = absurd (omega arith)
+wrote-fine Rule fits n e = absurd (omega arith)
 wrote-fine (Load k) fits n e = absurd (omega arith)
 wrote-fine (Reach k) fits n e = absurd (omega arith)
 wrote-fine (Blocked k) fits n e = absurd (omega arith)
@@ -142,6 +146,7 @@ load-refusals : (f : Fault) (v : LoadVerdict) → loadGiven (pick (isFine f) (lo
 load-refusals Fine holds = refl
 load-refusals Fine (over i m) = refl
 load-refusals Size v = refl
+load-refusals Rule v = refl
 load-refusals (Load k) v = refl
 load-refusals (Reach k) v = refl
 load-refusals (Blocked k) v = refl
@@ -150,6 +155,7 @@ chain-refusals : (f : Fault) (v : ChainVerdict) → chainGiven (pick (isFine f) 
 chain-refusals Fine chained = refl
 chain-refusals Fine (broken a b c) = refl
 chain-refusals Size v = refl
+chain-refusals Rule v = refl
 chain-refusals (Load k) v = refl
 chain-refusals (Reach k) v = refl
 chain-refusals (Blocked k) v = refl
@@ -158,6 +164,7 @@ class-refusals : (f : Fault) (v : ClassVerdict) → classGiven (pick (isFine f) 
 class-refusals Fine inClass = refl
 class-refusals Fine (outside a b i) = refl
 class-refusals Size v = refl
+class-refusals Rule v = refl
 class-refusals (Load k) v = refl
 class-refusals (Reach k) v = refl
 class-refusals (Blocked k) v = refl
@@ -176,17 +183,18 @@ pub class-refuses : (s : Site) → classGiven (classAnswer s) .number ≡ faultG
 unfolding classAnswer
 class-refuses s = class-refusals (faultOf s) (classVerdict (netOf s) (counted s))
 
--- done, or one of the record's: 0 to 3, or 20
+-- done, or one of the record's: 0 to 3, or 20, or 24
 abbrev pub OfRecord : ℕ → Type 0
-OfRecord number = (number ≤ 3) ⊎ (number ≡ 20)
+OfRecord number = (number ≤ 3) ⊎ ((number ≡ 20) ⊎ (number ≡ 24))
 
 pub fault-number : (f : Fault) → OfRecord (faultGiven f .number)
 fault-number Fine = inl (omega arith)
 fault-number Size = inl (omega arith)
+fault-number Rule = inr (inr refl)
 fault-number (Load k) = inl (omega arith)
 fault-number (Reach k) = inl (omega arith)
-fault-number (Blocked k) = inr refl
+fault-number (Blocked k) = inr (inl refl)
 
--- and so is 0, or 1 to 3, or 20
+-- and so is 0, or 1 to 3, or 20, or 24
 pub verdicts-of-record : (s : Site) → OfRecord (loadGiven (loadAnswer s) .number) × OfRecord (chainGiven (chainAnswer s) .number)
 verdicts-of-record s = (rw (load-refuses s) (fault-number (faultOf s)), rw (chain-refuses s) (fault-number (faultOf s)))

@@ -47,8 +47,8 @@ pub valid-is-definition-one : (s : Site) (t : List ℕ) → Valid (netOf s) (res
 valid-is-definition-one s t = (
   λ v. record {
     condition-one = λ a c k la lc w h p q.
-        apart-any (netOf s) (reserved (positions s) t) v (clash-sym (s .reach)) a c k
-        (λ e. true≢false (sym h ∙ ap (clashIn (s .reach) a) (sym e) ∙ clash-self (s .reach) a)) la lc w h p q;
+        apart-any (netOf s) (reserved (positions s) t) v (clash-sym (s .rule) (s .reach)) a c k
+        (λ e. true≢false (sym h ∙ ap (clashIn (s .rule) (s .reach) a) (sym e) ∙ clash-self (s .rule) (s .reach) a)) la lc w h p q;
     condition-two = v .exact;
     condition-three = λ i k l w h. is-false (blockedAt (s .blocked) k) (v .allowed i k l w h);
   },

@@ -15,10 +15,10 @@ use Rattle.laws.specs.Search.{first}
 use Rattle.laws.proofs.Bits.{bit-above}
 use Rattle.laws.proofs.Search.{first-end, first-least, first-passes, first-before, first-none, first-is}
 use Rattle.positions.specs.Blocked.{mostPositions, blockedAt, firstPast}
-use Rattle.site.specs.Record.{positions, sizeOk, extraLoad, badRow, extraBlocked, faultOf}
+use Rattle.site.specs.Record.{positions, sizeOk, ruleOk, extraLoad, badRow, extraBlocked, faultOf}
 use Rattle.site.specs.declared.Site.{Site}
 use Rattle.site.specs.declared.Fault.{Fault}
-use Rattle.site.specs.declared.Fault.the-variants.{Fine, Size, Load, Reach, Blocked}
+use Rattle.site.specs.declared.Fault.the-variants.{Fine, Size, Rule, Load, Reach, Blocked}
 
 -- how many words stand up to the last that is not 0
 unfoldable pub usedWords : List ℕ → ℕ
@@ -93,11 +93,13 @@ module _ (set : List ℕ) (n : ℕ) where
 unfoldable pub faultIn : Site → Fault
 faultIn s =
     pick (sizeOk (s .cells) (s .slots) (s .channels))
+    (pick (ruleOk (s .rule))
     (pick (ltb (extraLoad s) 32)
     (Load (extraLoad s + 1))
     (pick (ltb (badRow s) 32)
     (Reach (badRow s + 1))
     (pick (ltb (pastIn (s .blocked) (positions s)) mostPositions) (Blocked (pastIn (s .blocked) (positions s))) Fine)))
+    Rule)
     Size
 
 pub fault-in : (s : Site) → faultOf s ≡ faultIn s

@@ -1,5 +1,5 @@
 -- The heaviest clash, over what the calls say, in numbers: the cells that are named share no position, so a valid table has an open position for each of
--- their fragments. It depends on cells, loads and reach alone, so that it is that of every site with the same. Assumes nothing.
+-- their fragments. It depends on cells, loads, reach and rule alone, so that it is that of every site with the same. Assumes nothing.
 use mathlib.Core.Path.{_≡_, ap, ap₂, _∙_}
 use mathlib.Core.List.{List, [], _∷_}
 use mathlib.Core.Logic.{_↔_}
@@ -51,11 +51,11 @@ module _ (site : Site) (load cells : ℕ) (e : heaviestGiven (heaviestOf site) �
   heaviest-enough n c = done-enough site load cells (heaviest-number site load cells .0 e) n (enough-number site n .0 c)
 
   module _ (other : Site) (ok : Accepted other) (alike : Alike other site) where
-    -- a site with the same cells, loads and reach has the same answer, whatever its slots, channels and blocked positions
+    -- a site with the same cells, loads, reach and rule has the same answer, whatever its slots, channels and blocked positions
     pub heaviest-alike : heaviestGiven (heaviestOf other) ≡ doneWith (load ∷ cells ∷ [])
     heaviest-alike =
         let h = heaviest-exact site load cells .0 e in
-        let set : heaviestSet (netOf other) ≡ heaviestSet (netOf site) = rw (alike .same-cells, alike .same-loads, alike .same-reach) in
+        let set : heaviestSet (netOf other) ≡ heaviestSet (netOf site) = rw (alike .same-cells, alike .same-loads, alike .same-reach, alike .same-rule) in
         let is : heaviestSet (netOf other) ≡ cells = set ∙ heaviest-only (netOf site) (heaviestSet (netOf site)) cells (heaviest-is (netOf site)) (h .1) in
         let sum : weight (netOf other) (bitAt cells) ≡ weight (netOf site) (bitAt cells) = rw (alike .same-cells, alike .same-loads) in
         heaviest-exact other load cells .1 (ok, rw is at (heaviest-is (netOf other)), sum ∙ h .2)

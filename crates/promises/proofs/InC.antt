@@ -10,7 +10,7 @@ use Prim.Native.Nat.{ℕ}
 use native.Mathlib.Omega.{arith}
 use lib.ListN.{getD}
 use Rattle.site.specs.declared.Site.{Site}
-use Rattle.site.specs.declared.Fault.the-variants.{Fine, Size, Load, Reach, Blocked}
+use Rattle.site.specs.declared.Fault.the-variants.{Fine, Size, Rule, Load, Reach, Blocked}
 use Rattle.judges.specs.Judges.{loadAnswer, chainAnswer, classAnswer, leastAnswer}
 use Rattle.judges.specs.Given.{loadGiven, chainGiven, classGiven, leastGiven, leastProper}
 use Rattle.judges.specs.declared.LoadAnswer.{LoadAnswer}
@@ -55,6 +55,7 @@ least-told (least.Least m) n k p e = let z : m ≡ n = ap valueIn e in let y : 0
 least-told (least.Enough m) n k p e = let z : m ≡ n = ap valueIn e in let y : 1 ≡ k = ap flagIn e in cc
 least-told (least.Refused Fine) n k p e = absurd (false≢true p)
 least-told (least.Refused Size) n k p e = let z : _≡_ {A = ℕ} 1 0 = ap numberIn e in absurd (omega arith)
+least-told (least.Refused Rule) n k p e = let z : _≡_ {A = ℕ} 24 0 = ap numberIn e in absurd (omega arith)
 least-told (least.Refused (Load i)) n k p e = let z : _≡_ {A = ℕ} 2 0 = ap numberIn e in absurd (omega arith)
 least-told (least.Refused (Reach i)) n k p e = let z : _≡_ {A = ℕ} 3 0 = ap numberIn e in absurd (omega arith)
 least-told (least.Refused (Blocked i)) n k p e = let z : _≡_ {A = ℕ} 20 0 = ap numberIn e in absurd (omega arith)
@@ -65,6 +66,7 @@ unfolding told numberIn valueIn flagIn
 heaviest-told (heaviest.Done m x) load cells p e = let z : m ≡ load = ap valueIn e in let y : x ≡ cells = ap flagIn e in cc
 heaviest-told (heaviest.Refused Fine) load cells p e = absurd (false≢true p)
 heaviest-told (heaviest.Refused Size) load cells p e = let z : _≡_ {A = ℕ} 1 0 = ap numberIn e in absurd (omega arith)
+heaviest-told (heaviest.Refused Rule) load cells p e = let z : _≡_ {A = ℕ} 24 0 = ap numberIn e in absurd (omega arith)
 heaviest-told (heaviest.Refused (Load i)) load cells p e = let z : _≡_ {A = ℕ} 2 0 = ap numberIn e in absurd (omega arith)
 heaviest-told (heaviest.Refused (Reach i)) load cells p e = let z : _≡_ {A = ℕ} 3 0 = ap numberIn e in absurd (omega arith)
 heaviest-told (heaviest.Refused (Blocked i)) load cells p e = let z : _≡_ {A = ℕ} 20 0 = ap numberIn e in absurd (omega arith)
@@ -76,6 +78,7 @@ module _ (s : Site) where
   load-in-c (load.Over cell m) q e = let z : cell ≡ 0 = ap valueIn e in let o = over-means s cell m q .1 .1 in absurd (omega arith)
   load-in-c (load.Refused Fine) q e = refl
   load-in-c (load.Refused Size) q e = let z : _≡_ {A = ℕ} 1 0 = ap numberIn e in absurd (omega arith)
+  load-in-c (load.Refused Rule) q e = let z : _≡_ {A = ℕ} 24 0 = ap numberIn e in absurd (omega arith)
   load-in-c (load.Refused (Load k)) q e = let z : _≡_ {A = ℕ} 2 0 = ap numberIn e in absurd (omega arith)
   load-in-c (load.Refused (Reach k)) q e = let z : _≡_ {A = ℕ} 3 0 = ap numberIn e in absurd (omega arith)
   load-in-c (load.Refused (Blocked k)) q e = let z : _≡_ {A = ℕ} 20 0 = ap numberIn e in absurd (omega arith)
@@ -91,6 +94,7 @@ module _ (s : Site) where
   chain-in-c (chain.Broken a b c) q e = let z : a ≡ 0 = ap valueIn e in let o = broken-means s a b c q .1 .3 in absurd (omega arith)
   chain-in-c (chain.Refused Fine) q e = refl
   chain-in-c (chain.Refused Size) q e = let z : _≡_ {A = ℕ} 1 0 = ap numberIn e in absurd (omega arith)
+  chain-in-c (chain.Refused Rule) q e = let z : _≡_ {A = ℕ} 24 0 = ap numberIn e in absurd (omega arith)
   chain-in-c (chain.Refused (Load k)) q e = let z : _≡_ {A = ℕ} 2 0 = ap numberIn e in absurd (omega arith)
   chain-in-c (chain.Refused (Reach k)) q e = let z : _≡_ {A = ℕ} 3 0 = ap numberIn e in absurd (omega arith)
   chain-in-c (chain.Refused (Blocked k)) q e = let z : _≡_ {A = ℕ} 20 0 = ap numberIn e in absurd (omega arith)
@@ -106,6 +110,7 @@ module _ (s : Site) where
   class-in-c (class.Outside a b i) q e = let z : a ≡ 0 = ap valueIn e in let o = outside-means s a b i q .1 .3 in absurd (omega arith)
   class-in-c (class.Refused Fine) q e = refl
   class-in-c (class.Refused Size) q e = let z : _≡_ {A = ℕ} 1 0 = ap numberIn e in absurd (omega arith)
+  class-in-c (class.Refused Rule) q e = let z : _≡_ {A = ℕ} 24 0 = ap numberIn e in absurd (omega arith)
   class-in-c (class.Refused (Load k)) q e = let z : _≡_ {A = ℕ} 2 0 = ap numberIn e in absurd (omega arith)
   class-in-c (class.Refused (Reach k)) q e = let z : _≡_ {A = ℕ} 3 0 = ap numberIn e in absurd (omega arith)
   class-in-c (class.Refused (Blocked k)) q e = let z : _≡_ {A = ℕ} 20 0 = ap numberIn e in absurd (omega arith)
@@ -134,6 +139,7 @@ renumber-zero renumber.Done p e = refl
 renumber-zero renumber.NoNumbering p e = absurd (omega arith)
 renumber-zero (renumber.Refused Fine) p e = absurd (false≢true p)
 renumber-zero (renumber.Refused Size) p e = absurd (omega arith)
+renumber-zero (renumber.Refused Rule) p e = absurd (omega arith)
 renumber-zero (renumber.Refused (Load i)) p e = absurd (omega arith)
 renumber-zero (renumber.Refused (Reach i)) p e = absurd (omega arith)
 renumber-zero (renumber.Refused (Blocked i)) p e = absurd (omega arith)
@@ -144,6 +150,7 @@ renumber-none renumber.Done e = absurd (omega arith)
 renumber-none renumber.NoNumbering e = refl
 renumber-none (renumber.Refused Fine) e = absurd (omega arith)
 renumber-none (renumber.Refused Size) e = absurd (omega arith)
+renumber-none (renumber.Refused Rule) e = absurd (omega arith)
 renumber-none (renumber.Refused (Load i)) e = absurd (omega arith)
 renumber-none (renumber.Refused (Reach i)) e = absurd (omega arith)
 renumber-none (renumber.Refused (Blocked i)) e = absurd (omega arith)
@@ -155,6 +162,7 @@ carry-zero carry.NoNumbering p e = absurd (omega arith)
 carry-zero carry.TableShort p e = absurd (omega arith)
 carry-zero (carry.Refused Fine) p e = absurd (false≢true p)
 carry-zero (carry.Refused Size) p e = absurd (omega arith)
+carry-zero (carry.Refused Rule) p e = absurd (omega arith)
 carry-zero (carry.Refused (Load i)) p e = absurd (omega arith)
 carry-zero (carry.Refused (Reach i)) p e = absurd (omega arith)
 carry-zero (carry.Refused (Blocked i)) p e = absurd (omega arith)

@@ -1,6 +1,6 @@
 -- What the desk may sell: the least number of open channel-slots that do, over what the calls say, in the document's numbers.
--- The greatest demand depends on cells, loads and reach alone, so that it is that of every site with the same; and the load test, exact on nested sites,
--- holds where so many channel-slots are open. Assumes nothing.
+-- The greatest demand depends on cells, loads, reach and rule alone, so that it is that of every site with the same; and the load test, exact on nested
+-- sites, holds where so many channel-slots are open. Assumes nothing.
 use mathlib.Core.Path.{_≡_, refl, _∙_}
 use mathlib.Core.List.{List, [], _∷_}
 use mathlib.Core.Logic.{_↔_}
@@ -33,11 +33,11 @@ use Rattle.promises.proofs.Numbers.{accepted-number, least-number, enou
 use Rattle.promises.proofs.Demand2.{load-is-C1, judge-is-nested}
 use Rattle.promises.proofs.Demand3.{demand-three-calls, nested-exact, holds-plans}
 
--- ---- sites with the same cells, loads and reach
+-- ---- sites with the same cells, loads, reach and rule
 
 module _ (other site : Site) (alike : Alike other site) where
   same-class : Class (netOf site) (counted site) → Class (netOf other) (counted other)
-  same-class h = rw (alike .same-cells, alike .same-loads, alike .same-reach) h
+  same-class h = rw (alike .same-cells, alike .same-loads, alike .same-reach, alike .same-rule) h
 
   -- the load test of the other holds exactly where it has as many open channel-slots as the greatest demand
   room-test : (n : ℕ) → mostDemand (netOf site) (counted site) ≡ n → Accepted other → n ≤ openPositions other ↔ loadGiven (loadAnswer other) ≡ done
@@ -67,7 +67,7 @@ module _ (site : Site) (n : ℕ) (e : leastGiven (leastAnswer site) ≡ doneWith
   nested-too : classGiven (classAnswer other) ≡ done
   nested-too = judge-is-nested other .1 (ok, same-class other site alike (least-means site n .0 (least-number site n .0 e) .1))
 
-  -- on a nested site: a site with the same cells, loads and reach is planned exactly when its open channel-slots are at least that many
+  -- on a nested site: a site with the same cells, loads, reach and rule is planned exactly when its open channel-slots are at least that many
   pub least-exact : (lent : List ℕ) → LongEnough other lent → planGiven (planAnswer other lent) ≡ done ↔ n ≤ openPositions other
   least-exact lent long =
       let m = least-means site n .0 (least-number site n .0 e) in

@@ -17,6 +17,7 @@ pub mod Admission
 pub mod Words
 pub mod Mending
 pub mod Blocked
+pub mod Rules
 pub mod Said
 pub mod Printed
 pub mod InC

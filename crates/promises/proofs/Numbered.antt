@@ -11,7 +11,7 @@ use Rattle.site.specs.Record.{positions, size, faultOf}
 use Rattle.site.specs.Reach.{netOf}
 use Rattle.site.specs.declared.Site.{Site}
 use Rattle.site.specs.declared.Fault.{Fault}
-use Rattle.site.specs.declared.Fault.the-variants.{Fine, Size, Load, Reach, Blocked}
+use Rattle.site.specs.declared.Fault.the-variants.{Fine, Size, Rule, Load, Reach, Blocked}
 use Rattle.judges.specs.Judges.{counted}
 use Rattle.planner.specs.Plan.{planAnswer, planTable}
 use Rattle.planner.specs.Given.{planGiven}
@@ -67,6 +67,7 @@ module _ (s : Site) where
   given-at Fine (numbered new old) e g z = absurd (z (ap (λ r. renumberGiven (r .answer) .number) (renumber-done s new old e g)))
   given-at Fine stuck e g z = rw (renumber-none s e g) (refl, refl, refl)
   given-at Size x e g z = rw (renumber-refused s Size e refl) (refl, refl, refl)
+  given-at Rule x e g z = rw (renumber-refused s Rule e refl) (refl, refl, refl)
   given-at (Load k) x e g z = rw (renumber-refused s (Load k) e refl) (refl, refl, refl)
   given-at (Reach k) x e g z = rw (renumber-refused s (Reach k) e refl) (refl, refl, refl)
   given-at (Blocked k) x e g z = rw (renumber-refused s (Blocked k) e refl) (refl, refl, refl)

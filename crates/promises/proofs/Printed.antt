@@ -21,7 +21,7 @@ use Rattle.site.specs.Record.{positions}
 use Rattle.site.specs.Reach.{netOf}
 use Rattle.site.specs.declared.Site.{Site}
 use Rattle.site.specs.declared.Fault.{Fault}
-use Rattle.site.specs.declared.Fault.the-variants.{Fine, Size, Load, Reach, Blocked}
+use Rattle.site.specs.declared.Fault.the-variants.{Fine, Size, Rule, Load, Reach, Blocked}
 use Rattle.checker.specs.Check.{checkAnswer}
 use Rattle.checker.specs.Given.{checkGiven}
 use Rattle.checker.specs.declared.CheckAnswer.{CheckAnswer}
@@ -77,6 +77,7 @@ refused-r n (place.Position k) = refl
 fault-r : (f : Fault) → refusing (faultSaid f) ≡ true
 fault-r Fine = refl
 fault-r Size = refused-r 1 place.Nowhere
+fault-r Rule = refused-r 24 place.Nowhere
 fault-r (Load k) = refused-r 2 (place.Cell k)
 fault-r (Reach k) = refused-r 3 (place.Cell k)
 fault-r (Blocked k) = refused-r 20 (place.Position k)
@@ -91,7 +92,7 @@ unfolding verdictLines spoken
 way-r true true a c slot channel = refl
 way-r true false a c slot channel = refl
 way-r false true a c slot channel = refl
-way-r false false a c slot channel = refused-r 6 place.Nowhere
+way-r false false a c slot channel = refl
 
 clash-r : (s : Site) (p a c : ℕ) → refusing (checkSaid s (check.Clash p a c)) ≡ true
 unfolding clashSentence

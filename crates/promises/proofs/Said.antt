@@ -13,7 +13,7 @@ use Rattle.site.specs.Record.{positions, isFine, faultOf}
 use Rattle.site.specs.Means.{UpTo}
 use Rattle.site.specs.declared.Site.{Site}
 use Rattle.site.specs.declared.Fault.{Fault}
-use Rattle.site.specs.declared.Fault.the-variants.{Fine, Size, Load, Reach, Blocked}
+use Rattle.site.specs.declared.Fault.the-variants.{Fine, Size, Rule, Load, Reach, Blocked}
 use Rattle.site.proofs.Faults.{fine-sized}
 use Rattle.checker.specs.Check.{checkAnswer}
 use Rattle.checker.specs.declared.CheckAnswer.{CheckAnswer}
@@ -25,6 +25,7 @@ use Rattle.say_verdicts.specs.Said.{loadNamed, countLine, checkSaid}
 accepted : (f : Fault) (o : CheckAnswer) (i n : ℕ) → pick (isFine f) o (Refused f) ≡ Count i n → f ≡ Fine
 accepted Fine o i n e = refl
 accepted Size o i n e = let z : _≡_ {A = ℕ} 0 1 = cc in absurd (omega arith)
+accepted Rule o i n e = let z : _≡_ {A = ℕ} 0 24 = cc in absurd (omega arith)
 accepted (Load k) o i n e = let z : _≡_ {A = ℕ} 0 1 = cc in absurd (omega arith)
 accepted (Reach k) o i n e = let z : _≡_ {A = ℕ} 0 1 = cc in absurd (omega arith)
 accepted (Blocked k) o i n e = let z : _≡_ {A = ℕ} 0 1 = cc in absurd (omega arith)

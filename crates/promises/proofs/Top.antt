@@ -56,7 +56,7 @@ either-way s i a b p q n h =
     ⊎-elim (λ e. h a b (ltb-true a b e) p q)
     (λ e.
     let l : b ≤ a = ltb-false a b e in
-    ⊎-elim (λ f. clash-sym (s .reach) a b ∙ h b a (ltb-true b a f) q p)
+    ⊎-elim (λ f. clash-sym (s .rule) (s .reach) a b ∙ h b a (ltb-true b a f) q p)
     (λ f. let m : a ≤ b = ltb-false b a f in absurd (n (omega arith))) (cases (ltb b a)))
     (cases (ltb a b))
 

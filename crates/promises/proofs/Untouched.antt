@@ -6,7 +6,7 @@ use Prim.Native.Nat.{ℕ}
 use Rattle.site.specs.Record.{positions, size, faultOf}
 use Rattle.site.specs.declared.Site.{Site}
 use Rattle.site.specs.declared.Fault.{Fault}
-use Rattle.site.specs.declared.Fault.the-variants.{Fine, Size, Load, Reach, Blocked}
+use Rattle.site.specs.declared.Fault.the-variants.{Fine, Size, Rule, Load, Reach, Blocked}
 use Rattle.planner.specs.Plan.{planAnswer, planTable}
 use Rattle.planner.specs.Given.{planGiven}
 use Rattle.wordtable.specs.Plan.{planWordsAnswer, planWords}
@@ -52,6 +52,7 @@ module _ (s : Site) (from to : List ℕ) where
   kept-at Fine (numbered new old) false e g h z = absurd ((rw (e, g, h) at z) refl)
   kept-at Fine stuck short e g h z = carry-none s from to e g .1
   kept-at Size x short e g h z = carry-refused s from to Size e refl .1
+  kept-at Rule x short e g h z = carry-refused s from to Rule e refl .1
   kept-at (Load k) x short e g h z = carry-refused s from to (Load k) e refl .1
   kept-at (Reach k) x short e g h z = carry-refused s from to (Reach k) e refl .1
   kept-at (Blocked k) x short e g h z = carry-refused s from to (Blocked k) e refl .1

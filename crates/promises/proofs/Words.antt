@@ -21,7 +21,7 @@ use Rattle.site.specs.Reach.{netOf}
 use Rattle.site.specs.Given.{faultGiven}
 use Rattle.site.specs.declared.Site.{Site}
 use Rattle.site.specs.declared.Fault.{Fault}
-use Rattle.site.specs.declared.Fault.the-variants.{Fine, Size, Load, Reach, Blocked}
+use Rattle.site.specs.declared.Fault.the-variants.{Fine, Size, Rule, Load, Reach, Blocked}
 use Rattle.words.specs.Words.{wordAt, wordsOf, outWords}
 use Rattle.planner.specs.Plan.{planAnswer, planTable}
 use Rattle.planner.specs.Given.{planGiven}
@@ -112,7 +112,7 @@ above-silent s one other e same = (ap checkGiven (check-above s one other e same
 
 -- ---- refusals
 
--- a record that is not accepted is refused with its fault, 1, 2, 3 or 20, by all four, whatever is lent, and nothing is written
+-- a record that is not accepted is refused with its fault, 1, 24, 2, 3 or 20, by all four, whatever is lent, and nothing is written
 pub words-fault : (s : Site) (words table : List ℕ) (f : Fault) → faultOf s ≡ f → (f ≡ Fine → ⊥)
     → (planGiven (planWordsAnswer s words) ≡ faultGiven f) × (checkGiven (checkWordsAnswer s words) ≡ faultGiven f)
     × (formGiven (formAnswer s table words) ≡ faultGiven f)
@@ -120,6 +120,7 @@ pub words-fault : (s : Site) (words table : List ℕ) (f : Fault) → faultOf s 
 unfolding planWordsAnswer checkWordsAnswer formAnswer planWords toWords toBytes
 words-fault s words table Fine e at-fault = absurd (at-fault refl)
 words-fault s words table Size e at-fault = (rw e, rw e, rw e, rw e, rw e, rw e)
+words-fault s words table Rule e at-fault = (rw e, rw e, rw e, rw e, rw e, rw e)
 words-fault s words table (Load k) e at-fault = (rw e, rw e, rw e, rw e, rw e, rw e)
 words-fault s words table (Reach k) e at-fault = (rw e, rw e, rw e, rw e, rw e, rw e)
 words-fault s words table (Blocked k) e at-fault = (rw e, rw e, rw e, rw e, rw e, rw e)
@@ -156,6 +157,7 @@ past : (f : Fault) (short : Bool) (front lent : List ℕ) (n : ℕ) → length f
 past Fine true front lent n e = refl
 past Fine false front lent n e = drop-at front (drop n lent) n e
 past Size short front lent n e = refl
+past Rule short front lent n e = refl
 past (Load k) short front lent n e = refl
 past (Reach k) short front lent n e = refl
 past (Blocked k) short front lent n e = refl
@@ -190,6 +192,7 @@ form-left : (n : ℕ) (f : Fault) (short : Bool) (front lent : List ℕ) → len
 form-left n Fine true front lent e = record { if-done = λ _. refl; if-refused = λ _. refl }
 form-left n Fine false front lent e = record { if-done = λ _. drop-at front (drop n lent) n e; if-refused = λ z. absurd (z refl) }
 form-left n Size short front lent e = record { if-done = λ _. refl; if-refused = λ _. refl }
+form-left n Rule short front lent e = record { if-done = λ _. refl; if-refused = λ _. refl }
 form-left n (Load k) short front lent e = record { if-done = λ _. refl; if-refused = λ _. refl }
 form-left n (Reach k) short front lent e = record { if-done = λ _. refl; if-refused = λ _. refl }
 form-left n (Blocked k) short front lent e = record { if-done = λ _. refl; if-refused = λ _. refl }
@@ -213,6 +216,7 @@ was-enough : (f : Fault) (short : Bool) (o : CheckAnswer) → pick (isFine f) (p
 was-enough Fine true o e = let z : _≡_ {A = ℕ} 0 1 = cc in absurd (omega arith)
 was-enough Fine false o e = refl
 was-enough Size short o e = let z : _≡_ {A = ℕ} 0 1 = cc in absurd (omega arith)
+was-enough Rule short o e = let z : _≡_ {A = ℕ} 0 24 = cc in absurd (omega arith)
 was-enough (Load k) short o e = let z : _≡_ {A = ℕ} 0 1 = cc in absurd (omega arith)
 was-enough (Reach k) short o e = let z : _≡_ {A = ℕ} 0 1 = cc in absurd (omega arith)
 was-enough (Blocked k) short o e = let z : _≡_ {A = ℕ} 0 1 = cc in absurd (omega arith)

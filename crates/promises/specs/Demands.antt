@@ -1,4 +1,4 @@
--- The words of demands 2 and 3, over site records and tables. A site is accepted when its record has none of the faults 1, 2, 3 and 20,
+-- The words of demands 2 and 3, over site records and tables. A site is accepted when its record has none of the faults 1, 24, 2, 3 and 20,
 -- and a table is valid by the paper's Definition 1, whatever the checker says of it; that the checker says the same is a theorem.
 -- Cells and positions are counted from 0.
 use mathlib.Core.Path.{_≡_}
@@ -17,7 +17,7 @@ use Rattle.site.specs.Given.{faultGiven}
 use Rattle.site.specs.declared.Site.{Site}
 use Rattle.promises.specs.Numbers.{done}
 
--- "accepted": the record's fault is number 0, none; any other is 1, 2, 3 or 20, and every call that takes the record refuses it with that
+-- "accepted": the record's fault is number 0, none; any other is 1, 24, 2, 3 or 20, and every call that takes the record refuses it with that
 abbrev pub Accepted : Site → Type 0
 Accepted s = faultGiven (faultOf s) ≡ done
 

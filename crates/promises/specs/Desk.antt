@@ -1,6 +1,7 @@
 -- The desk examples P1 to P12 of document 01, and sites with a spare cell for W2, as site records, and what each is said to come to, in numbers; for W6 words,
--- for W7 mended tables, for W8 sites with blocked positions, for W9 a side drift, for W10 sites renumbered. "Loads are listed by cell. .. where no file gives
--- the reach, the lower cell reaches the higher. Where only N is given, T=N and F=1." Proved in proofs/Desk.antt, in one theorem.
+-- for W7 mended tables, for W8 sites with blocked positions, for W9 a side drift, for W10 sites renumbered, for W11 sites under both rules. "Loads are listed
+-- by cell. .. where no file gives the reach, the lower cell reaches the higher. Where only N is given, T=N and F=1." Proved in proofs/Desk.antt, in one
+-- theorem.
 use mathlib.Core.List.{List, [], _∷_, _++_, map}
 use mathlib.Core.Path.{_≡_}
 use Prim.Native.Nat.{ℕ, zero, suc, _+_}
@@ -33,10 +34,14 @@ withZeros n [] = replicate n 0
 withZeros zero (x ∷ xs) = x ∷ xs
 withZeros (suc n) (x ∷ xs) = x ∷ withZeros n xs
 
--- slots, channels, the loads, the reach rows as numbers, bit b-1 of row a-1 where a reaches b, and the words of the blocked positions
+-- the rule, slots, channels, the loads, the reach rows as numbers, bit b-1 of row a-1 where a reaches b, and the words of the blocked positions
+abbrev pub siteRuled : ℕ → ℕ → ℕ → List ℕ → List ℕ → List ℕ → Site
+siteRuled rule slots channels loads reach blocked =
+    siteOf (length loads) slots channels (withZeros 32 loads) (withZeros 32 reach) (withZeros 32 blocked) rule
+
+-- the same under rule 1: W11, "Rule 1 stays for running sites"
 abbrev pub siteBlocked : ℕ → ℕ → List ℕ → List ℕ → List ℕ → Site
-siteBlocked slots channels loads reach blocked =
-    siteOf (length loads) slots channels (withZeros 32 loads) (withZeros 32 reach) (withZeros 32 blocked)
+siteBlocked = siteRuled 1
 
 -- the same with nothing blocked
 abbrev pub siteWith : ℕ → ℕ → List ℕ → List ℕ → Site
@@ -110,6 +115,33 @@ P1far = siteBlocked 3 2 (5 ∷ 1 ∷ 4 ∷ []) (0 ∷ 5 ∷ []) (0 ∷ 2 ∷ [])
 -- one cell without load, and its one position blocked
 abbrev pub aloneBlocked : Site
 aloneBlocked = siteBlocked 1 1 (0 ∷ []) [] (1 ∷ [])
+
+-- W11: a site under either rule. 1 reaches 2, and 2 and 5 reach 4; cell 3 is spare
+abbrev pub edgeSite : ℕ → Site
+edgeSite rule = siteRuled rule 4 2 (4 ∷ 3 ∷ 0 ∷ 3 ∷ 2 ∷ []) (2 ∷ 8 ∷ 0 ∷ 0 ∷ 8 ∷ []) []
+
+-- P3 under rule 2: cells 1 and 2 reach cell 3, and so clash. And the same with so many slots
+abbrev pub P3ruled : ℕ → Site
+P3ruled slots = siteRuled 2 slots 1 (1 ∷ 1 ∷ 1 ∷ []) (4 ∷ 4 ∷ []) []
+
+-- three cells of which each reaches the later ones, under rule 1, with 3 channels
+abbrev pub allClash : Site
+allClash = siteWith 1 3 (1 ∷ 1 ∷ 1 ∷ []) (6 ∷ 4 ∷ [])
+
+-- two cells that nobody reaches, under rule 2, N = 1; and under either rule the same with a spare third cell that both reach
+abbrev pub twoApart : Site
+twoApart = siteRuled 2 1 1 (1 ∷ 1 ∷ []) [] []
+
+abbrev pub spareReached : ℕ → Site
+spareReached rule = siteRuled rule 1 1 (1 ∷ 1 ∷ 0 ∷ []) (4 ∷ 4 ∷ []) []
+
+-- four cells in a ring: 1 and 3 reach 2 and 4
+abbrev pub ringRuled : ℕ → Site
+ringRuled rule = siteRuled rule 2 1 (1 ∷ 1 ∷ 1 ∷ 1 ∷ []) (10 ∷ 0 ∷ 10 ∷ []) []
+
+-- one cell and N = 1: channels, rule, a load for cell 2, the row of cell 1, and the first word of the blocked positions
+abbrev pub faulty : ℕ → ℕ → ℕ → ℕ → ℕ → Site
+faulty channels rule extra row word = siteOf 1 1 channels (withZeros 32 (0 ∷ extra ∷ [])) (withZeros 32 (row ∷ [])) (withZeros 32 (word ∷ [])) rule
 
 -- what a call gives back, and what it leaves in the table or the words; for the mender also in the list; for `renumber` the site, new and old numbers
 pub data Reply : Type 0 where
@@ -354,6 +386,71 @@ deskNumbered =
     ∷ renumberCall noChannels ⇒ renumbers (refused 1 []) noChannels (withZeros 32 []) (withZeros 32 [])
     ∷ []
 
+-- W11: two rules for the air, a site under both
+abbrev pub deskEdge : List DeskLine
+deskEdge =
+    -- 1~2, 2~4 and 4~5 under rule 1: cell 5 sends at 3 and 4, and cell 2 at 4 too. 8 = 2 x 4 positions, of which cells 1 and 2 need 7
+    planCall (edgeSite 1)
+    ⇒ leaves done
+    (1 ∷ 1 ∷ 1 ∷ 1 ∷ 0 ∷ 0 ∷ 0 ∷ 0 ∷ 2 ∷ 2 ∷ 2 ∷ 2 ∷ 1 ∷ 1 ∷ 1 ∷ 0 ∷ 0 ∷ 0 ∷ 0 ∷ 0 ∷ 0 ∷ 0 ∷ 0 ∷ 0 ∷ 1 ∷ 1 ∷ 1 ∷ 0 ∷ 2 ∷ 2 ∷ 2 ∷ 0 ∷ 2 ∷ 2 ∷ 2 ∷ 1 ∷ 1 ∷ 0 ∷ 0
+    ∷ 0 ∷ 9 ∷ [])
+    ∷ heaviestCall (edgeSite 1) ⇒ gives (doneWith (7 ∷ 3 ∷ []))
+    -- under rule 2 also 2~5, since both reach 4: 0 to 2 are cell 4's and 4 to 6 are cell 2's, so cell 5 sends at 3 and 7. Cells 2, 4 and 5 need all 8
+    ∷ planCall (edgeSite 2)
+    ⇒ leaves done
+    (1 ∷ 1 ∷ 1 ∷ 1 ∷ 0 ∷ 0 ∷ 0 ∷ 0 ∷ 2 ∷ 2 ∷ 2 ∷ 2 ∷ 1 ∷ 1 ∷ 1 ∷ 0 ∷ 0 ∷ 0 ∷ 0 ∷ 0 ∷ 0 ∷ 0 ∷ 0 ∷ 0 ∷ 1 ∷ 1 ∷ 1 ∷ 0 ∷ 2 ∷ 2 ∷ 2 ∷ 0 ∷ 2 ∷ 2 ∷ 2 ∷ 1 ∷ 2 ∷ 2 ∷ 2
+    ∷ 1 ∷ 9 ∷ [])
+    ∷ planWordsCall (edgeSite 2) ⇒ leaves done (9 ∷ 9 ∷ 9 ∷ 17 ∷ 2 ∷ 2 ∷ 2 ∷ 16 ∷ 9 ∷ [])
+    ∷ chainCall (edgeSite 2) ⇒ gives done
+    ∷ loadCall (edgeSite 2) ⇒ gives done
+    ∷ leastCall (edgeSite 2) ⇒ gives (doneWith (8 ∷ 0 ∷ []))
+    ∷ heaviestCall (edgeSite 2) ⇒ gives (doneWith (8 ∷ 26 ∷ []))
+    -- the plan of rule 1 is refused there, position 4, cells 2 and 5, and is mended: cell 5 gives 4 up and takes 7
+    ∷ checkWordsCall (edgeSite 2) (9 ∷ 9 ∷ 9 ∷ 17 ∷ 18 ∷ 2 ∷ 2 ∷ 0 ∷ []) ⇒ gives (refused 6 (4 ∷ 2 ∷ 5 ∷ []))
+    ∷ mendCall (edgeSite 2)
+    (1 ∷ 1 ∷ 1 ∷ 1 ∷ 0 ∷ 0 ∷ 0 ∷ 0 ∷ 0 ∷ 0 ∷ 0 ∷ 0 ∷ 1 ∷ 1 ∷ 1 ∷ 0 ∷ 0 ∷ 0 ∷ 0 ∷ 0 ∷ 0 ∷ 0 ∷ 0 ∷ 0 ∷ 1 ∷ 1 ∷ 1 ∷ 0 ∷ 0 ∷ 0 ∷ 0 ∷ 0 ∷ 0 ∷ 0 ∷ 0 ∷ 1 ∷ 1 ∷ 0 ∷ 0
+    ∷ 0 ∷ []) 8
+    ⇒ mends (doneWith (2 ∷ []))
+    (1 ∷ 1 ∷ 1 ∷ 1 ∷ 0 ∷ 0 ∷ 0 ∷ 0 ∷ 0 ∷ 0 ∷ 0 ∷ 0 ∷ 1 ∷ 1 ∷ 1 ∷ 0 ∷ 0 ∷ 0 ∷ 0 ∷ 0 ∷ 0 ∷ 0 ∷ 0 ∷ 0 ∷ 1 ∷ 1 ∷ 1 ∷ 0 ∷ 0 ∷ 0 ∷ 0 ∷ 0 ∷ 0 ∷ 0 ∷ 0 ∷ 1 ∷ 0 ∷ 0 ∷ 0
+    ∷ 1 ∷ []) (5 ∷ 4 ∷ 1 ∷ 0 ∷ 5 ∷ 7 ∷ 0 ∷ 1 ∷ [])
+    ∷ []
+
+-- P3 under rule 2, and a ring under both
+abbrev pub deskRuled : List DeskLine
+deskRuled =
+    -- P3 under rule 2: all three clash, so chained, and now full: load over 3 by 1; refusal 5, cell 3, short 1. P3's own plan 10, 10, 01 is refused there
+    chainCall (P3ruled 2) ⇒ gives done
+    ∷ loadCall (P3ruled 2) ⇒ gives (doneWith (3 ∷ 1 ∷ []))
+    ∷ planCall (P3ruled 2) ⇒ leaves (refused 5 (3 ∷ 1 ∷ [])) (allIdle P3)
+    ∷ checkCall (P3ruled 2) (1 ∷ 0 ∷ 1 ∷ 0 ∷ 0 ∷ 1 ∷ []) ⇒ gives (refused 6 (0 ∷ 1 ∷ 2 ∷ []))
+    -- with 3 slots it is planned; so demand 3 says, beside the site under rule 1 where all three clash, whose table 100, 010, 001 is valid
+    ∷ classCall (P3ruled 3) ⇒ gives done
+    ∷ planCall (P3ruled 3) ⇒ leaves done (1 ∷ 0 ∷ 0 ∷ 2 ∷ 1 ∷ 0 ∷ 2 ∷ 2 ∷ 1 ∷ 9 ∷ [])
+    ∷ checkCall allClash (1 ∷ 0 ∷ 0 ∷ 0 ∷ 1 ∷ 0 ∷ 0 ∷ 0 ∷ 1 ∷ []) ⇒ gives done
+    -- a spare cell that both reach makes cells 1 and 2 clash under rule 2, and changes the load test's verdict; under rule 1 it changes nothing
+    ∷ loadCall twoApart ⇒ gives done
+    ∷ loadCall (spareReached 2) ⇒ gives (doneWith (2 ∷ 1 ∷ []))
+    ∷ loadCall (spareReached 1) ⇒ gives done
+    -- a ring of four has no numbering; under rule 2 also 1~3, and it has
+    ∷ renumberCall (ringRuled 1) ⇒ renumbers (refused 23 []) (ringRuled 1) (withZeros 32 []) (withZeros 32 [])
+    ∷ renumberCall (ringRuled 2) ⇒ renumbers done (ringRuled 2) (withZeros 32 (1 ∷ 2 ∷ 3 ∷ 4 ∷ [])) (withZeros 32 (1 ∷ 2 ∷ 3 ∷ 4 ∷ []))
+    ∷ []
+
+-- W11: 24
+abbrev pub deskFaults : List DeskLine
+deskFaults =
+    -- rule 0 and rule 3: refusal 24, and nothing is written
+    planCall (edgeSite 0) ⇒ leaves (refused 24 []) (nines (edgeSite 1))
+    ∷ planCall (edgeSite 3) ⇒ leaves (refused 24 []) (nines (edgeSite 1))
+    -- all five faults, and then one less each time: 1, 24, 2, 3, 20, done
+    ∷ chainCall (faulty 0 0 5 1 2) ⇒ gives (refused 1 [])
+    ∷ chainCall (faulty 1 0 5 1 2) ⇒ gives (refused 24 [])
+    ∷ chainCall (faulty 1 2 5 1 2) ⇒ gives (refused 2 (2 ∷ []))
+    ∷ chainCall (faulty 1 2 0 1 2) ⇒ gives (refused 3 (1 ∷ []))
+    ∷ chainCall (faulty 1 2 0 0 2) ⇒ gives (refused 20 (1 ∷ []))
+    ∷ chainCall (faulty 1 2 0 0 0) ⇒ gives done
+    ∷ []
+
 -- the heaviest clash
 abbrev pub deskHeaviest : List DeskLine
 deskHeaviest =
@@ -374,9 +471,12 @@ deskHeaviest =
     ∷ heaviestCall noChannels ⇒ gives (refused 1 [])
     ∷ []
 
+abbrev pub deskAir : List DeskLine
+deskAir = deskEdge ++ (deskRuled ++ deskFaults)
+
 -- all of them: one table
 abbrev pub deskTable : List DeskLine
-deskTable = deskRules ++ (deskLeast ++ (deskNested ++ (deskWords ++ (deskMended ++ (deskBlocked ++ (deskNumbered ++ deskHeaviest))))))
+deskTable = deskRules ++ (deskLeast ++ (deskNested ++ (deskWords ++ (deskMended ++ (deskBlocked ++ (deskNumbered ++ (deskAir ++ deskHeaviest)))))))
 
 -- what is asked is answered as the table says, line by line
 abbrev pub Answered : List DeskLine → Type 0

@@ -6,4 +6,5 @@ pub mod Desk
 pub mod Untouched
 pub mod Top
 pub mod Spare
+pub mod Rules
 pub mod Numbered

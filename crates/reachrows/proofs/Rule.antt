@@ -1,17 +1,59 @@
--- A clash row as the code makes it: the cells that a reaches, joined with the word of those that reach it. Assumes nothing.
+-- A clash row as the code makes it: the cells that a reaches, joined with the word of those that reach it, and under rule 2 of those that reach a third cell
+-- with it. Two rows, each without its own cell, share a bit exactly where some third cell is reached by both. Assumes nothing.
 use Prim.Native.Nat.{ℕ, _<_}
-use mathlib.Core.Bool.{not, _||_, _&&_}
+use native.Mathlib.Omega.{arith}
+use mathlib.Core.Bool.{Bool, true, false, not, _||_, _&&_, or-false}
 use mathlib.Core.List.{List}
-use mathlib.Core.Path.{_≡_, ap₂}
+use mathlib.Core.Path.{_≡_, refl, sym, ap, ap₂, _∙_}
 use lib.Dec.{eqb}
-use Rattle.laws.specs.Bits.{bitAt, bitIn, wordOf}
+use lib.ListN.{getD, replicate}
+use lib.Seq.{sets}
+use Rattle.laws.specs.Bits.{bitAt, bitIn, wordOf, clearBit}
+use Rattle.laws.specs.Part.{listOf}
+use Rattle.laws.specs.Sum.{any}
+use Rattle.laws.proofs.Any.{any-eq}
+use Rattle.laws.proofs.Bits.{bit-clear}
 use Rattle.laws.proofs.Choice.{eqb-sym}
+use Rattle.laws.proofs.Stores.{sets-at}
 use Rattle.laws.proofs.Words.{word-eq}
-use Rattle.reachrows.specs.Rows.{reaches, clashIn}
+use Rattle.reachrows.specs.Rows.{reaches, reachedByBoth, clashIn}
 
-pub row-rule : (reach : List ℕ) (reached cells a : ℕ) → ((b : ℕ) → b < cells → bitAt reached b ≡ bitIn reach b a)
-    → wordOf (λ b. not (eqb b a) && (bitIn reach a b || bitAt reached b)) cells ≡ wordOf (clashIn reach a) cells
+pub row-rule : (rule : ℕ) (reach : List ℕ) (reached cells a : ℕ)
+    → ((b : ℕ) → b < cells → bitAt reached b ≡ (bitIn reach b a || (eqb rule 2 && reachedByBoth reach a b)))
+    → wordOf (λ b. not (eqb b a) && (bitIn reach a b || bitAt reached b)) cells ≡ wordOf (clashIn rule reach a) cells
 unfolding clashIn reaches
-row-rule reach reached cells a column =
-    word-eq (λ b. not (eqb b a) && (bitIn reach a b || bitAt reached b)) (clashIn reach a) cells (λ b m.
-    ap₂ (λ t u. not t && (bitIn reach a b || u)) (eqb-sym b a) (column b m))
+row-rule rule reach reached cells a other =
+    word-eq (λ b. not (eqb b a) && (bitIn reach a b || bitAt reached b)) (clashIn rule reach a) cells (λ b m.
+    ap₂ (λ t u. not t && (bitIn reach a b || u)) (eqb-sym b a) (other b m))
+
+-- rule 1: the column alone
+pub row-one : (reach : List ℕ) (reached cells a : ℕ) → ((b : ℕ) → b < cells → bitAt reached b ≡ bitIn reach b a)
+    → wordOf (λ b. not (eqb b a) && (bitIn reach a b || bitAt reached b)) cells ≡ wordOf (clashIn 1 reach a) cells
+row-one reach reached cells a column = row-rule 1 reach reached cells a (λ b m. column b m ∙ sym (or-false (bitIn reach b a)))
+
+-- ---- rule 2
+
+-- the rows, each without its own cell
+abbrev pub othersOf : List ℕ → List ℕ
+othersOf reach = sets (replicate 32 0) 0 (listOf (λ a. clearBit (getD reach a 0) a) 32)
+
+other-bit : (reach : List ℕ) (a c : ℕ) → a < 32 → bitIn (othersOf reach) a c ≡ (not (eqb c a) && bitIn reach a c)
+other-bit reach a c l =
+    ap (λ (x : ℕ). bitAt x c) (sets-at (λ k. clearBit (getD reach k 0) k) 32 (replicate 32 0) a l (omega arith))
+    ∙ bit-clear (getD reach a 0) a c
+
+shuffle : (m n r s : Bool) → ((m && r) && (n && s)) ≡ (m && (n && (r && s)))
+shuffle false n r s = refl
+shuffle true true r s = refl
+shuffle true false true s = refl
+shuffle true false false s = refl
+
+-- the row of a, without a, and the row of b, without b, share a bit exactly where some third cell is reached by both
+pub third : (reach : List ℕ) (a b : ℕ) → b < 32
+    → any (λ c. bitAt (clearBit (getD reach a 0) a) c && bitIn (othersOf reach) b c) 32 ≡ reachedByBoth reach a b
+unfolding reachedByBoth reaches
+third reach a b m =
+    any-eq (λ c. bitAt (clearBit (getD reach a 0) a) c && bitIn (othersOf reach) b c)
+    (λ c. not (eqb c a) && (not (eqb c b) && (bitIn reach a c && bitIn reach b c))) 32
+    (λ c h.
+    ap₂ _&&_ (bit-clear (getD reach a 0) a c) (other-bit reach b c m) ∙ shuffle (not (eqb c a)) (not (eqb c b)) (bitIn reach a c) (bitIn reach b c))

@@ -9,6 +9,7 @@ ghost use Rattle.laws.specs.Choice.{pick};
 ghost use Rattle.laws.specs.Bits.{bitAt, bitIn, wordOf, setBit, clearBit};
 ghost use Rattle.laws.specs.Part.{listOf};
 ghost use Rattle.laws.specs.Search.{first};
+ghost use Rattle.laws.specs.Sum.{any};
 ghost use Rattle.reachrows.specs.Rows.{rowBad, clashIn};
 
 // Whether the reach row x of the cell at index k is at fault, on a site with n cells.
@@ -121,8 +122,8 @@ fn lowest(x: u32, n: usize) -> u32
     ((x as u64) % (1u64 << n)) as u32
 }
 
-// The rule: two different cells clash when either reaches the other. The word of the cells, of so many, that clash with the cell at index a, which reaches
-// the cells of one word and is reached by those of the other.
+// Two different cells clash when either reaches the other. The word of the cells, of so many, that clash with the cell at index a, which reaches
+// the cells of one word and is reached by those of the other; under rule 2 the other word has those too that reach a third cell with a.
 fn clash_row(reaches: u32, reached: u32, a: usize, cells: usize) -> u32
     requires { ⌜ (a < 32) × (cells ≤ 32) ⌝ }
     ensures { λ r. ⌜ r ≡ wordOf (λ b. not (eqb b a) && (bitAt reaches b || bitAt reached b)) cells ⌝ }
@@ -130,10 +131,10 @@ fn clash_row(reaches: u32, reached: u32, a: usize, cells: usize) -> u32
     lowest(without_bit(reaches | reached, a), cells)
 }
 
-// The clash rows of so many cells, over zeros: each by its column, which is quicker where the cells are few.
+// The clash rows of so many cells under rule 1, over zeros: each by its column, which is quicker where the cells are few.
 pub fn few_rows(reach: &[u32; 32], cells: usize) -> [u32; 32]
     requires { ⌜ cells ≤ 32 ⌝ }
-    ensures { λ r. ⌜ r ≡ sets (replicate 32 0) 0 (listOf (λ a. wordOf (clashIn (now (reach .entry)) a) cells) cells) ⌝ }
+    ensures { λ r. ⌜ r ≡ sets (replicate 32 0) 0 (listOf (λ a. wordOf (clashIn 1 (now (reach .entry)) a) cells) cells) ⌝ }
 {
     let mut rows = [0u32; 32];
     for a in 0..cells {
@@ -145,12 +146,49 @@ pub fn few_rows(reach: &[u32; 32], cells: usize) -> [u32; 32]
 // The same by all columns at once.
 pub fn many_rows(reach: [u32; 32], cells: usize) -> [u32; 32]
     requires { ⌜ cells ≤ 32 ⌝ }
-    ensures { λ r. ⌜ r ≡ sets (replicate 32 0) 0 (listOf (λ a. wordOf (clashIn reach a) cells) cells) ⌝ }
+    ensures { λ r. ⌜ r ≡ sets (replicate 32 0) 0 (listOf (λ a. wordOf (clashIn 1 reach a) cells) cells) ⌝ }
 {
     let columns = square::turned(reach);
     let mut rows = [0u32; 32];
     for a in 0..cells {
         rows[a] = clash_row(reach[a], columns[a], a, cells);
+    }
+    rows
+}
+
+// The rows, each without its own cell.
+fn others(reach: [u32; 32]) -> [u32; 32]
+    ensures { λ r. ⌜ r ≡ sets (replicate 32 0) 0 (listOf (λ a. clearBit (getD reach a 0) a) 32) ⌝ }
+{
+    let mut rows = [0u32; 32];
+    for a in 0..32 {
+        rows[a] = without_bit(reach[a], a);
+    }
+    rows
+}
+
+// The word of the rows that share a bit with x. All 32 are asked, so that the compiler can ask them side by side.
+fn sharing(rows: &[u32; 32], x: u32) -> u32
+    ensures { λ r. ⌜ r ≡ wordOf (λ b. any (λ c. bitAt x c && bitIn (now (rows .entry)) b c) 32) 32 ⌝ }
+{
+    let mut word: u32 = 0;
+    for b in 0..32 {
+        word = joined(word, x & rows[b] != 0, b);
+    }
+    word
+}
+
+// The clash rows of so many cells under rule 2, over zeros. Two cells reach a third where their rows, each without its own cell, share a bit.
+pub fn third_rows(reach: [u32; 32], cells: usize) -> [u32; 32]
+    requires { ⌜ cells ≤ 32 ⌝ }
+    ensures { λ r. ⌜ r ≡ sets (replicate 32 0) 0 (listOf (λ a. wordOf (clashIn 2 reach a) cells) cells) ⌝ }
+{
+    let columns = square::turned(reach);
+    let thirds = others(reach);
+    let mut rows = [0u32; 32];
+    for a in 0..cells {
+        let own = without_bit(reach[a], a);
+        rows[a] = clash_row(reach[a], columns[a] | sharing(&thirds, own), a, cells);
     }
     rows
 }

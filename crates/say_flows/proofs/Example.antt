@@ -9,7 +9,7 @@ use Rattle.laws.specs.Sum.{sum}
 use Rattle.theory.specs.Verdict.{overloaded, lowestOver, loadVerdict, second, splits, splitOf, firstSplit, classVerdict}
 use Rattle.text.specs.Decimal.{digitsOf, decimal}
 use Rattle.speech.specs.Speech.{bytes, spoken}
-use Rattle.site.specs.Record.{siteOf, upTo, sizeOk, rowBad, extraLoad, badRow, extraBlocked, faultOf}
+use Rattle.site.specs.Record.{siteOf, upTo, sizeOk, ruleOk, rowBad, extraLoad, badRow, extraBlocked, faultOf}
 use Rattle.site.specs.Reach.{reaches, clashIn}
 use Rattle.site.specs.declared.Site.{Site}
 use Rattle.shares.specs.Share.{roundedUp, shareOf}
@@ -35,15 +35,15 @@ pair f g (suc k) = g
 
 -- two cells that clash, 16 slots; both are loaded to the full, which does not count here
 abbrev near : Site
-near = siteOf 2 16 1 (16 ∷ 16 ∷ []) (2 ∷ []) []
+near = siteOf 2 16 1 (16 ∷ 16 ∷ []) (2 ∷ []) [] 1
 
 -- P4's cells without a load, and so spare: 1~3, 2~4, 3~4
 abbrev far : Site
-far = siteOf 4 16 1 [] (4 ∷ 8 ∷ 8 ∷ []) []
+far = siteOf 4 16 1 [] (4 ∷ 8 ∷ 8 ∷ []) [] 1
 
 -- a side drift, of which all cells are spare: 1~2, 2~3, 1~4
 abbrev drift : Site
-drift = siteOf 4 16 1 [] (10 ∷ 4 ∷ []) []
+drift = siteOf 4 16 1 [] (10 ∷ 4 ∷ []) [] 1
 
 -- of two flows that do not go together the one that is worth more is taken; in a drift and in the tunnel past it they do
 taken :
@@ -52,7 +52,8 @@ taken :
     ≡ bytes "the loads of the site are set aside\nflow 1: cell 1, share 6, value 10, not taken\nflow 2: cell 2, share 16, value 30, taken\nworth 30\n"
     ∷ bytes "the loads of the site are set aside\nflow 1: cell 1, share 6, value 10, taken\nflow 2: cell 2, share 8, value 30, taken\nworth 40\n"
     ∷ bytes "the loads of the site are set aside\nflow 1: cell 3, share 6, value 10, taken\nflow 2: cell 4, share 16, value 30, taken\nworth 40\n" ∷ []
-unfolding firstOf sum overloaded lowestOver loadVerdict second splits splitOf firstSplit classVerdict upTo sizeOk rowBad extraLoad badRow extraBlocked faultOf
+unfolding firstOf sum overloaded lowestOver loadVerdict second splits splitOf firstSplit classVerdict upTo sizeOk ruleOk rowBad extraLoad badRow extraBlocked
+    faultOf
     reaches clashIn roundedUp shareOf allowed bestOf best badIn refusedIn firstBadIn answerIn admitLines listSaid spoken decimal digitsOf
 taken = refl
 
@@ -60,7 +61,7 @@ taken = refl
 refused :
     said near (pair (flow 1 1 1 1 1) (flow 5 1 1 1 1)) 2 ∷ said near (pair (flow 1 1 1 5 1) (flow 1 1 1 1 1)) 2
     ∷ said near (pair (flow 1 1 1 1 1) (flow 1 65535 1 4 1)) 3 ∷ said near (pair (flow 1 1 1 1 1) (flow 1 1 1 1 1)) 17
-    ∷ said far (pair (flow 1 1 1 1 1) (flow 1 1 1 1 1)) 1 ∷ said (siteOf 2 16 1 [] (0 ∷ 2 ∷ []) []) (pair (flow 1 1 1 1 1) (flow 1 1 1 1 1)) 1
+    ∷ said far (pair (flow 1 1 1 1 1) (flow 1 1 1 1 1)) 1 ∷ said (siteOf 2 16 1 [] (0 ∷ 2 ∷ []) [] 1) (pair (flow 1 1 1 1 1) (flow 1 1 1 1 1)) 1
     ∷ []
     ≡ bytes "refused 2, flow 2: a load or a flow is for a cell that the site does not have\n"
     ∷ bytes "refused 15, flow 1: the burst or the period of a flow is not 1 to 65,535, or its repeats are not 1 to 4\n"
@@ -71,6 +72,7 @@ refused :
     ++ "cells 2 and 3 clash with cell 4, and not with one another\n")
     ∷ bytes "refused 3, cell 2: the reach has a cell that reaches itself, or a cell that the site does not have\n"
     ∷ []
-unfolding firstOf sum second splits splitOf firstSplit classVerdict upTo sizeOk rowBad extraLoad badRow extraBlocked faultOf reaches clashIn roundedUp shareOf
+unfolding firstOf sum second splits splitOf firstSplit classVerdict upTo sizeOk ruleOk rowBad extraLoad badRow extraBlocked faultOf reaches clashIn roundedUp
+    shareOf
     badIn refusedIn firstBadIn answerIn nineteenLines nineteenSaid refusalMeanings refusalHeads meaning refusedLine spoken decimal digitsOf
 refused = refl

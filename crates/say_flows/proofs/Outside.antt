@@ -49,7 +49,7 @@ all-in s fine i h = bit-all 32 i ∙ lt-ltb i 32 (omega (arith, fine-sized s fin
 module _ (s : Site) (fine : faultOf s ≡ Fine) (rows : List ℕ) (relation : bitIn rows ≡ clashOf s)
     (i : ℕ) (e : i ≡ firstSplitIn rows 4294967295 (s .cells)) where
   first-named : i ≡ firstSplit (netOf s) everyone
-  first-named = e ∙ first-split-is (netOf s) rows relation (clash-sym (s .reach)) 4294967295 everyone (all-in s fine)
+  first-named = e ∙ first-split-is (netOf s) rows relation (clash-sym (s .rule) (s .reach)) 4294967295 everyone (all-in s fine)
 
   module _ (h : i < s .cells) where
     -- the verdict, and its triple
@@ -62,14 +62,14 @@ module _ (s : Site) (fine : faultOf s ≡ Fine) (rows : List ℕ) (relation : bi
 
     module _ (a : ℕ) (p : a ≡ splitIn rows 4294967295 i) where
       a-is : a ≡ splitOf (netOf s) everyone i
-      a-is = p ∙ split-is (netOf s) rows relation (clash-sym (s .reach)) 4294967295 everyone (all-in s fine) i h
+      a-is = p ∙ split-is (netOf s) rows relation (clash-sym (s .rule) (s .reach)) 4294967295 everyone (all-in s fine) i h
 
       pub a-below : a < i
       a-below = omega (arith, a-is, named .ab, named .bi)
 
       module _ (b : ℕ) (q : b ≡ gapIn (getD rows a 0) (bitAnd 4294967295 (getD rows i 0)) a i) where
         b-is : b ≡ second (netOf s) everyone i a
-        b-is = q ∙ second-is (netOf s) rows relation (clash-sym (s .reach)) 4294967295 everyone (all-in s fine) i a a-below h
+        b-is = q ∙ second-is (netOf s) rows relation (clash-sym (s .rule) (s .reach)) 4294967295 everyone (all-in s fine) i a a-below h
 
         pub b-below : b < i
         b-below = omega (arith, b-is, ap (second (netOf s) everyone i) a-is, named .bi)

@@ -10,7 +10,7 @@ use Rattle.laws.specs.Search.{firstOf}
 use Rattle.laws.specs.Sum.{sum, any}
 use Rattle.theory.specs.Greedy.{forbid, marked, fill, run}
 use Rattle.theory.specs.Verdict.{second, splits, splitOf, firstSplit, classVerdict}
-use Rattle.site.specs.Record.{siteOf, size, upTo, sizeOk, rowBad, extraLoad, badRow, extraBlocked, faultOf}
+use Rattle.site.specs.Record.{siteOf, size, upTo, sizeOk, ruleOk, rowBad, extraLoad, badRow, extraBlocked, faultOf}
 use Rattle.site.specs.Reach.{reaches, clashIn}
 use Rattle.site.specs.declared.Site.{Site}
 use Rattle.judges.specs.Judges.{classAnswer}
@@ -46,15 +46,15 @@ refusals-said = refl
 
 -- P4: 1~3, 2~4, 3~4, and two positions
 p4 : Site
-p4 = siteOf 4 2 1 (1 ∷ 1 ∷ 1 ∷ 1 ∷ replicate 28 0) (4 ∷ 8 ∷ 8 ∷ replicate 29 0) []
+p4 = siteOf 4 2 1 (1 ∷ 1 ∷ 1 ∷ 1 ∷ replicate 28 0) (4 ∷ 8 ∷ 8 ∷ replicate 29 0) [] 1
 
 -- cell 3 clashes with cells 1 and 2, and there is one position for all
 full : Site
-full = siteOf 3 1 1 (1 ∷ 1 ∷ 1 ∷ replicate 29 0) (4 ∷ 4 ∷ replicate 30 0) []
+full = siteOf 3 1 1 (1 ∷ 1 ∷ 1 ∷ replicate 29 0) (4 ∷ 4 ∷ replicate 30 0) [] 1
 
 -- a ring of four cells with these loads
 ring : List ℕ → Site
-ring loads = siteOf 4 2 1 (loads ++ replicate 28 0) (2 ∷ 4 ∷ 8 ∷ 1 ∷ replicate 28 0) []
+ring loads = siteOf 4 2 1 (loads ++ replicate 28 0) (2 ∷ 4 ∷ 8 ∷ 1 ∷ replicate 28 0) [] 1
 
 -- with a table that is just long enough
 saidOf : Site → List ℕ
@@ -69,6 +69,6 @@ anew-said :
     ∷ []
     ∷ []
 unfolding p4 full ring saidOf firstOf sum any part listOf forbid marked fill run second splits splitOf firstSplit classVerdict classAnswer wordOf upTo sizeOk
-    rowBad extraLoad badRow extraBlocked faultOf reaches clashIn planAnswer last missing odd fit giveNumbers numbering movedBy movedRows numberingOf movedSite
-    renumberOf spoken anewLines anewSaid
+    ruleOk rowBad extraLoad badRow extraBlocked faultOf reaches clashIn planAnswer last missing odd fit giveNumbers numbering movedBy movedRows numberingOf
+    movedSite renumberOf spoken anewLines anewSaid
 anew-said = refl

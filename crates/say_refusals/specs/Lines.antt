@@ -31,6 +31,7 @@ refusalMeanings =
     ∷ "the record of blocked positions blocks none\n"
     ∷ "the call was refused\n"
     ∷ "no numbering makes the site nested when all its cells count, the spare ones too\n"
+    ∷ "the rule is not 1 or 2, or not 2 where a site file says it\n"
     ∷ []
 
 -- the number, and the place

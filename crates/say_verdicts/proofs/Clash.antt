@@ -1,29 +1,32 @@
--- Where the checker answers a clash, its sentence is true: one of the three ways fits, since of cells that clash one at least reaches the other by the record,
--- and both cells send in the slot and channel that are named. Where it answers a blocked position, the cell that is named sends there.
+-- Where the checker answers a clash, its sentence is true: one of the four ways fits, since of cells that clash one at least reaches the other by the
+-- record, or under rule 2 both reach a third cell; and both cells send in the slot and channel that are named. Where it answers a blocked position, the cell
+-- that is named sends there.
 --     clash-said        who reaches whom, by the record, is what the sentence says
 --     clash-sends       both cells send there
 --     blocked-said      the sentence names cell, slot and channel
 --     blocked-sends     the cell sends there, and it is blocked
 -- Assumes nothing.
 use Prim.Native.Nat.{ℕ, _+_, _-_, _*_, _/_, _%_, _≤_, _<_}
-use mathlib.Core.Bool.{Bool, true, false, not, _||_, _&&_, false≢true}
+use mathlib.Core.Bool.{Bool, true, false, _&&_, false≢true}
 use mathlib.Core.List.{List}
-use mathlib.Core.Logic.{inl, inr}
+use mathlib.Core.Logic.{_⊎_, inl, inr}
 use mathlib.Core.Path.{_≡_, refl, sym, ap, _∙_}
 use native.Mathlib.Nat.{mod-lt, div-add-mod', div-lt-iff-lt-mul}
 use native.Mathlib.Omega.{arith}
 use borrow.Author.Tests.{eqb-true, eqb-false, lt-ltb}
-use lib.Dec.{ltb, eqb}
+use lib.Dec.{ltb}
 use Rattle.laws.specs.Choice.{pick}
-use Rattle.laws.proofs.Choice.{both}
+use Rattle.laws.proofs.Choice.{both-is}
 use Rattle.theory.specs.Greedy.{reserved}
 use Rattle.theory.specs.Named.{Barred, Clashes}
 use Rattle.site.specs.Record.{upTo, positions, isFine, faultOf}
-use Rattle.site.specs.Reach.{reaches, clashIn, netOf}
+use Rattle.site.specs.Reach.{reaches, clashOf, netOf}
+use Rattle.site.specs.Means.{Clashing}
 use Rattle.site.specs.declared.Site.{Site}
 use Rattle.site.specs.declared.Fault.{Fault}
-use Rattle.site.specs.declared.Fault.the-variants.{Fine, Size, Load, Reach, Blocked}
+use Rattle.site.specs.declared.Fault.the-variants.{Fine, Size, Rule, Load, Reach, Blocked}
 use Rattle.site.proofs.Faults.{fine-sized, few-positions, up-to-is}
+use Rattle.site.proofs.Means.{is-clashing}
 use Rattle.checker.specs.Check.{checkAnswer}
 use Rattle.checker.specs.declared.CheckAnswer.{CheckAnswer}
 use Rattle.checker.specs.declared.CheckAnswer.the-variants as check
@@ -46,23 +49,26 @@ names (check.Refused f) = false
 accepted : (f : Fault) (o answer : CheckAnswer) → names answer ≡ true → pick (isFine f) o (check.Refused f) ≡ answer → f ≡ Fine
 accepted Fine o answer h e = refl
 accepted Size o answer h e = absurd (false≢true (ap names e ∙ h))
+accepted Rule o answer h e = absurd (false≢true (ap names e ∙ h))
 accepted (Load k) o answer h e = absurd (false≢true (ap names e ∙ h))
 accepted (Reach k) o answer h e = absurd (false≢true (ap names e ∙ h))
 accepted (Blocked k) o answer h e = absurd (false≢true (ap names e ∙ h))
 
 -- the sentence for the ways that the record has
 way : (s : Site) (a c slot channel : ℕ) (forth back : Bool) → reaches (s .reach) (a - 1) (c - 1) ≡ forth → reaches (s .reach) (c - 1) (a - 1) ≡ back
-    → (forth || back) ≡ true → WaySaid s a c slot channel (sentence verdictLines (waySentence forth back a c slot channel))
+    → Clashing s a c → WaySaid s a c slot channel (sentence verdictLines (waySentence forth back a c slot channel))
 unfolding reaches
-way s a c slot channel true true p q h = inr (inr (eqb-true _ _ p, eqb-true _ _ q, refl))
+way s a c slot channel true true p q h = inr (inr (inl (eqb-true _ _ p, eqb-true _ _ q, refl)))
 way s a c slot channel true false p q h = inl (eqb-true _ _ p, eqb-false _ _ q, refl)
 way s a c slot channel false true p q h = inr (inl (eqb-false _ _ p, eqb-true _ _ q, refl))
-way s a c slot channel false false p q h = absurd (false≢true h)
-
--- cells that clash: one of the two reaches the other
-either : (rows : List ℕ) (x z : ℕ) → clashIn rows x z ≡ true → (reaches rows x z || reaches rows z x) ≡ true
-unfolding clashIn
-either rows x z e = both (not (eqb x z)) (reaches rows x z || reaches rows z x) e .1
+way s a c slot channel false false p q h =
+    let t = neither (h .why) (eqb-false _ _ p) (eqb-false _ _ q) in
+    inr (inr (inr (eqb-false _ _ p, eqb-false _ _ q, t .0, t .1, refl)))
+  where
+    neither : {A B C : Type 0} → A ⊎ (B ⊎ C) → (A → ⊥) → (B → ⊥) → C
+    neither (inl x) n m = absurd (n x)
+    neither (inr (inl x)) n m = absurd (m x)
+    neither (inr (inr x)) n m = x
 
 back : (a x : ℕ) → a ≡ x + 1 → a - 1 ≡ x
 back a x e = omega arith
@@ -116,8 +122,10 @@ module _ (s : Site) (t : List ℕ) (p a c : ℕ) (e : checkAnswer s t ≡ check.
       let m = shown in
       let at-a = up-to-is 32 a (i .0, omega (arith, i .1, i .2, z .cells-most)) in
       let at-c = up-to-is 32 c (omega (arith, i .0, i .1), omega (arith, i .2, z .cells-most)) in
-      let one : (reaches (s .reach) (a - 1) (c - 1) || reaches (s .reach) (c - 1) (a - 1)) ≡ true =
-      rw (back a (m .0) (m .2), back c (m .1) (m .3)) (either (s .reach) (m .0) (m .1) (m .4 .far)) in
+      let far : clashOf s (a - 1) (c - 1) ≡ true = rw (back a (m .0) (m .2), back c (m .1) (m .3)) (m .4 .far) in
+      let first = up-to-is (s .cells) a (i .0, omega (arith, i .1, i .2)) in
+      let second = up-to-is (s .cells) c (omega (arith, i .0, i .1), i .2) in
+      let one = is-clashing s a c fine (both-is _ _ first (both-is _ _ second far)) in
       rw (named s fine p width, at-a, at-c)
       (way s a c (p / s .channels + 1) (p % s .channels + 1) _ _ refl refl one)
 

@@ -10,8 +10,8 @@ use Rattle.laws.specs.Sum.{sum, any}
 use Rattle.laws.specs.Part.{part}
 use Rattle.theory.specs.Greedy.{forbid, marked, fill, unmet, run}
 use Rattle.theory.specs.Verdict.{holderAt, barredAt, lowestBarred, secondAt, clashesAt, firstAt, lowestClash, wrongIn, lowestWrong, openVerdict, tableVerdict}
-use Rattle.site.specs.Record.{siteOf, upTo, sizeOk, rowBad, extraLoad, badRow, extraBlocked, faultOf}
-use Rattle.site.specs.Reach.{reaches, clashIn}
+use Rattle.site.specs.Record.{siteOf, upTo, sizeOk, ruleOk, rowBad, extraLoad, badRow, extraBlocked, faultOf}
+use Rattle.site.specs.Reach.{reaches, reachedByBoth, clashIn}
 use Rattle.site.specs.declared.Site.{Site}
 use Rattle.site.specs.declared.Fault.the-variants as fault
 use Rattle.planner.specs.Plan.{planAnswer}
@@ -32,25 +32,25 @@ use Rattle.say_verdicts.specs.declared.File.the-variants.{SiteFile, Plan
 
 -- P1 and P2: cell 2 reaches cells 1 and 3
 abbrev P1 : Site
-P1 = siteOf 3 3 2 (5 ∷ 1 ∷ 4 ∷ []) (0 ∷ 5 ∷ []) []
+P1 = siteOf 3 3 2 (5 ∷ 1 ∷ 4 ∷ []) (0 ∷ 5 ∷ []) [] 1
 
 abbrev P2 : Site
-P2 = siteOf 3 3 2 (5 ∷ 2 ∷ 4 ∷ []) (0 ∷ 5 ∷ []) []
+P2 = siteOf 3 3 2 (5 ∷ 2 ∷ 4 ∷ []) (0 ∷ 5 ∷ []) [] 1
 
 -- P1 with position 5 blocked, which is slot 3, channel 2; and with position 6 blocked, which is past its last
 abbrev P1blocked : Site
-P1blocked = siteOf 3 3 2 (5 ∷ 1 ∷ 4 ∷ []) (0 ∷ 5 ∷ []) (32 ∷ [])
+P1blocked = siteOf 3 3 2 (5 ∷ 1 ∷ 4 ∷ []) (0 ∷ 5 ∷ []) (32 ∷ []) 1
 
 abbrev P1past : Site
-P1past = siteOf 3 3 2 (5 ∷ 1 ∷ 4 ∷ []) (0 ∷ 5 ∷ []) (64 ∷ [])
+P1past = siteOf 3 3 2 (5 ∷ 1 ∷ 4 ∷ []) (0 ∷ 5 ∷ []) (64 ∷ []) 1
 
 -- P3: cells 1 and 2 reach cell 3
 abbrev P3 : Site
-P3 = siteOf 3 2 1 (1 ∷ 1 ∷ 1 ∷ []) (4 ∷ 4 ∷ []) []
+P3 = siteOf 3 2 1 (1 ∷ 1 ∷ 1 ∷ []) (4 ∷ 4 ∷ []) [] 1
 
 -- two cells that reach each other
 abbrev twoWay : Site
-twoWay = siteOf 2 1 2 (1 ∷ 1 ∷ []) (2 ∷ 1 ∷ []) []
+twoWay = siteOf 2 1 2 (1 ∷ 1 ∷ []) (2 ∷ 1 ∷ []) [] 1
 
 -- P1's own table, P8's (cell 3 holds one too many), P9's (cells 2 and 3 meet at the last position), and one where cells 1 and 2 meet
 abbrev T1 : List ℕ
@@ -71,7 +71,7 @@ checked :
     checkSaid P1 (checkAnswer P1 T1) ∷ checkSaid twoWay (checkAnswer twoWay (0 ∷ 1 ∷ 0 ∷ 1 ∷ []))
     ∷ checkSaid P1 (checkAnswer P1 T9) ∷ checkSaid P1 (checkAnswer P1 T12)
     ∷ checkSaid P1 (checkAnswer P1 T8) ∷ checkSaid P1 (checkAnswer P1 (1 ∷ []))
-    ∷ checkSaid (siteOf 0 3 2 [] [] []) (checkAnswer (siteOf 0 3 2 [] [] []) T1)
+    ∷ checkSaid (siteOf 0 3 2 [] [] [] 1) (checkAnswer (siteOf 0 3 2 [] [] [] 1) T1)
     ∷ checkSaid P1blocked (checkAnswer P1blocked T9) ∷ checkSaid P1past (checkAnswer P1past T9) ∷ []
     ≡ bytes "valid\n"
     ∷ bytes "refused 6: cells 1 and 2 clash (each reaches the other), and both send in slot 1, channel 2\n"
@@ -83,16 +83,34 @@ checked :
     ∷ bytes "refused 22: cell 2 sends in slot 3, channel 2, which is blocked\n"
     ∷ bytes "refused 20, position 6: a blocked position is one that the site does not have: its slots and channels end before it\n" ∷ []
 unfolding firstOf sum any holderAt barredAt lowestBarred secondAt clashesAt firstAt lowestClash wrongIn lowestWrong openVerdict tableVerdict
-    upTo sizeOk rowBad extraLoad badRow extraBlocked faultOf reaches clashIn verdictOf checkAnswer loadNamed reachNamed clashSentence blockedSentence
+    upTo sizeOk ruleOk rowBad extraLoad badRow extraBlocked faultOf reaches clashIn verdictOf checkAnswer loadNamed reachNamed clashSentence blockedSentence
     verdictLines refusalMeanings refusalHeads meaning refusedLine spoken decimal digitsOf
 checked = refl
+
+-- ---- and under a rule: cells 1 and 2 reach cell 3, and both send first. Valid under rule 1; a clash by the third cell under rule 2; and no rule 3
+abbrev ruled : ℕ → Site
+ruled = siteOf 3 2 1 (1 ∷ 1 ∷ 1 ∷ []) (4 ∷ 4 ∷ []) []
+
+abbrev checkRuled : ℕ → List ℕ
+checkRuled rule = checkSaid (ruled rule) (checkAnswer (ruled rule) (1 ∷ 0 ∷ 1 ∷ 0 ∷ 0 ∷ 1 ∷ []))
+
+checked-ruled :
+    checkRuled 1 ∷ checkRuled 2 ∷ checkRuled 3 ∷ []
+    ≡ bytes "valid\n"
+    ∷ bytes "refused 6: cells 1 and 2 clash (both reach a third cell), and both send in slot 1, channel 1\n"
+    ∷ bytes "refused 24: the rule is not 1 or 2, or not 2 where a site file says it\n" ∷ []
+unfolding firstOf sum any holderAt barredAt lowestBarred secondAt clashesAt firstAt lowestClash wrongIn lowestWrong openVerdict tableVerdict
+    upTo sizeOk ruleOk rowBad extraLoad badRow extraBlocked faultOf reaches reachedByBoth clashIn verdictOf checkAnswer loadNamed reachNamed clashSentence
+    verdictLines refusalMeanings refusalHeads meaning refusedLine spoken decimal digitsOf
+checked-ruled = refl
 
 -- ---- plan: P1, and P2, which is full
 planned :
     planSaid P1 (planAnswer P1 (replicate 18 0)) ∷ planSaid P2 (planAnswer P2 (replicate 18 0)) ∷ []
     ≡ bytes "planned: 3 cells, 3 slots, 2 channels\n"
     ∷ bytes "refused 5, cell 2: no room for 1 of its fragments; duggfrask why says what that means\n" ∷ []
-unfolding firstOf sum any part forbid marked fill unmet run upTo sizeOk rowBad extraLoad badRow extraBlocked faultOf reaches clashIn planAnswer verdictLines
+unfolding firstOf sum any part forbid marked fill unmet run upTo sizeOk ruleOk rowBad extraLoad badRow extraBlocked faultOf reaches clashIn planAnswer
+    verdictLines
     spoken decimal digitsOf
 planned = refl
 
@@ -108,7 +126,7 @@ mended :
     ∷ bytes "planned: 3 cells, 2 slots, 1 channel\n"
     ∷ bytes "refused 5, cell 2: keeping these reservations leaves no room for 1 of its fragments; a fresh plan may do\n"
     ∷ bytes "refused 13: the lent output is too short\n" ∷ []
-unfolding firstOf sum any part forbid marked fill unmet run upTo sizeOk rowBad extraLoad badRow extraBlocked faultOf reaches clashIn
+unfolding firstOf sum any part forbid marked fill unmet run upTo sizeOk ruleOk rowBad extraLoad badRow extraBlocked faultOf reaches clashIn
     stand mendAnswer planAnswer changesSentence verdictLines refusalMeanings refusalHeads meaning refusedLine spoken decimal digitsOf
 mended = refl
 

@@ -23,6 +23,7 @@ verdictLines =
     ∷ "refused: the plan is for @1 cell@a, @2 slot@b and @3 channel@c, and the site is of another size\n"
     ∷ "refused 22: cell @1 sends in slot @2, channel @3, which is blocked\n"
     ∷ "--blocked: at character @1 stands no slot.channel of this site\n"
+    ∷ "refused 6: cells @1 and @2 clash (both reach a third cell), and both send in slot @3, channel @4\n"
     ∷ []
 
 -- ---- the rows by name
@@ -82,3 +83,7 @@ blockedRow = 16
 
 abbrev pub badListRow : ℕ
 badListRow = 17
+
+-- of two cells that clash by rule 2 alone
+abbrev pub clashThirdRow : ℕ
+clashThirdRow = 18

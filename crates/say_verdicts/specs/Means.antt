@@ -7,16 +7,18 @@ use mathlib.Core.Path.{_≡_}
 use Rattle.theory.specs.Greedy.{reserved}
 use Rattle.site.specs.Record.{positions}
 use Rattle.site.specs.Reach.{isOpen}
-use Rattle.site.specs.Means.{UpTo, Reaches}
+use Rattle.site.specs.Means.{UpTo, Reaches, Third}
 use Rattle.site.specs.declared.Site.{Site}
-use Rattle.say_verdicts.specs.Said.{clashForthLine, clashBackLine, clashBothLine}
+use Rattle.say_verdicts.specs.Said.{clashForthLine, clashBackLine, clashBothLine, clashThirdLine}
 
--- a reaches c and not the other way round, and the text says so; or c reaches a; or each reaches the other
+-- a reaches c and not the other way round, and the text says so; or c reaches a; or each reaches the other; or neither does, and under rule 2 some third cell
+-- is reached by both
 abbrev pub WaySaid : Site → (a c slot channel : ℕ) → List ℕ → Type 0
 WaySaid s a c slot channel text =
     (Reaches s a c × (Reaches s c a → ⊥) × (text ≡ clashForthLine a c slot channel))
     ⊎ ((Reaches s a c → ⊥) × Reaches s c a × (text ≡ clashBackLine a c slot channel))
     ⊎ (Reaches s a c × Reaches s c a × (text ≡ clashBothLine a c slot channel))
+    ⊎ ((Reaches s a c → ⊥) × (Reaches s c a → ⊥) × (s .rule ≡ 2) × ((k : ℕ) × Third s a c k) × (text ≡ clashThirdLine a c slot channel))
 
 -- "Slot t and channel f (from 1) have position (t-1)F + (f-1)": a slot and a channel of the site, and their position p
 pub record SlotAt (s : Site) (p slot channel : ℕ) : Type 0 where

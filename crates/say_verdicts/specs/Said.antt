@@ -10,7 +10,7 @@ use Rattle.site.specs.Record.{upTo}
 use Rattle.site.specs.Reach.{reaches}
 use Rattle.site.specs.declared.Site.{Site}
 use Rattle.site.specs.declared.Fault.{Fault}
-use Rattle.site.specs.declared.Fault.the-variants.{Fine, Size, Load, Reach, Blocked}
+use Rattle.site.specs.declared.Fault.the-variants.{Fine, Size, Rule, Load, Reach, Blocked}
 use Rattle.checker.specs.declared.CheckAnswer.{CheckAnswer}
 use Rattle.checker.specs.declared.CheckAnswer.the-variants as check
 use Rattle.mender.specs.declared.MendAnswer.{MendAnswer}
@@ -30,7 +30,8 @@ use Rattle.say_refusals.specs.declared.Place.{Place}
 use Rattle.say_refusals.specs.declared.Place.the-variants.{Nowhere, Byte, PlanByte, Line, Cell, Position}
 use Rattle.say_refusals.specs.declared.Sentence.{Sentence}
 use Rattle.say_refusals.specs.declared.Sentence.the-variants.{Plain, Refusal}
-use Rattle.say_verdicts.specs.Lines.{verdictLines, validRow, clashForthRow, clashBackRow, clashBothRow, countRow, plannedRow, noRoomRow, keptNoRoomRow}
+use Rattle.say_verdicts.specs.Lines.{verdictLines, validRow, clashForthRow, clashBackRow, clashBothRow, clashThirdRow, countRow, plannedRow, noRoomRow}
+use Rattle.say_verdicts.specs.Lines.{keptNoRoomRow}
 use Rattle.say_verdicts.specs.Lines.{unchangedRow, mendedRow, shareRow, blockedRow, badSlotsRow, badBurstRow, badPeriodRow, badRepeatsRow, otherPlanRow}
 use Rattle.say_verdicts.specs.Lines.{badListRow}
 use Rattle.say_verdicts.specs.declared.File.{File}
@@ -42,10 +43,11 @@ line row a b c d = Plain (Row row a b c d)
 
 -- ---- a record, a file, a sheet
 
--- what is wrong with a record: 1; 2 and 3 with the cell; 20 with the position
+-- what is wrong with a record: 1; 24; 2 and 3 with the cell; 20 with the position
 abbrev pub faultSentence : Fault → Sentence
 faultSentence Fine = Plain Silent
 faultSentence Size = Refusal 1 Nowhere
+faultSentence Rule = Refusal 24 Nowhere
 faultSentence (Load cell) = Refusal 2 (Cell cell)
 faultSentence (Reach cell) = Refusal 3 (Cell cell)
 faultSentence (Blocked position) = Refusal 20 (Position position)
@@ -76,11 +78,11 @@ loadNamed s cell = pick (ltb 0 cell && ltb cell 33) (getD (s .loads) (cell - 1) 
 unfoldable pub reachNamed : Site → ℕ → ℕ → Bool
 reachNamed s from to = upTo 32 from && (upTo 32 to && reaches (s .reach) (from - 1) (to - 1))
 
--- by whether a reaches c, and c reaches a. Where neither does there is no clash: by `clash-said` in proofs/Clash.antt that does not occur
+-- by whether a reaches c, and c reaches a. Where neither does and they clash, both reach a third cell: `clash-said` in proofs/Clash.antt
 abbrev pub waySentence : (forth back : Bool) (a c slot channel : ℕ) → Sentence
 waySentence forth back a c slot channel =
     pick forth (pick back (line clashBothRow a c slot channel) (line clashForthRow a c slot channel))
-    (pick back (line clashBackRow a c slot channel) (Refusal 6 Nowhere))
+    (pick back (line clashBackRow a c slot channel) (line clashThirdRow a c slot channel))
 
 -- a clash at position p, by slot and channel, and who reaches whom. A site has a channel and at most 2,048 positions; otherwise there is no place to name
 unfoldable pub clashSentence : Site → (p a c : ℕ) → Sentence
@@ -174,6 +176,9 @@ clashBackLine a c slot channel = phrase verdictLines (Row clashBackRow a c slot 
 
 abbrev pub clashBothLine : (a c slot channel : ℕ) → List ℕ
 clashBothLine a c slot channel = phrase verdictLines (Row clashBothRow a c slot channel)
+
+abbrev pub clashThirdLine : (a c slot channel : ℕ) → List ℕ
+clashThirdLine a c slot channel = phrase verdictLines (Row clashThirdRow a c slot channel)
 
 abbrev pub blockedSends : (cell slot channel : ℕ) → List ℕ
 blockedSends cell slot channel = phrase verdictLines (Row blockedRow cell slot channel 0)

@@ -61,6 +61,8 @@ const BLOCKED: usize = 16;
 
 const BAD_LIST: usize = 17;
 
+const CLASH_THIRD: usize = 18;
+
 // The files that an offset can be in.
 pub enum File {
     SiteFile,
@@ -92,7 +94,8 @@ fn put(out: &mut [u8], at: usize, what: Sentence) -> usize
           refused 15: the repeats are not 1 to 4\n|\
           refused: the plan is for @1 cell@a, @2 slot@b and @3 channel@c, and the site is of another size\n|\
           refused 22: cell @1 sends in slot @2, channel @3, which is blocked\n|\
-          --blocked: at character @1 stands no slot.channel of this site\n|",
+          --blocked: at character @1 stands no slot.channel of this site\n|\
+          refused 6: cells @1 and @2 clash (both reach a third cell), and both send in slot @3, channel @4\n|",
         what,
     )
 }
@@ -104,6 +107,7 @@ fn fault_sentence(reply: Fault) -> Sentence
     match reply {
         Fault::Fine => Sentence::Plain(Phrase::Silent),
         Fault::Size => Sentence::Refusal(1, Place::Nowhere),
+        Fault::Rule => Sentence::Refusal(24, Place::Nowhere),
         Fault::Load(cell) => Sentence::Refusal(2, Place::Cell(cell)),
         Fault::Reach(cell) => Sentence::Refusal(3, Place::Cell(cell)),
         Fault::Blocked(position) => Sentence::Refusal(20, Place::Position(position)),
@@ -199,10 +203,10 @@ fn way_sentence(
     if back {
         return Sentence::Plain(Phrase::Row(CLASH_BACK, a, c, slot, channel));
     }
-    Sentence::Refusal(6, Place::Nowhere)
+    Sentence::Plain(Phrase::Row(CLASH_THIRD, a, c, slot, channel))
 }
 
-// Where a clash is, by slot and channel, and which of the two cells reaches the other.
+// Where a clash is, by slot and channel, and which of the two cells reaches the other; where neither does, both reach a third.
 fn clash_sentence(site: Site, p: usize, a: usize, c: usize) -> Sentence
     ensures { λ r. ⌜ r ≡ clashSentence site p a c ⌝ }
 {

@@ -21,7 +21,7 @@ use Rattle.theory.specs.Verdict.{second, splits, splitOf, firstSplit, classVerd
 use Rattle.theory.specs.Verdict.{holderAt, barredAt, lowestBarred, openVerdict, clashesAt, firstAt, lowestClash, wrongIn, lowestWrong, tableVerdict}
 use Rattle.theory.proofs.TableLaws.{check-valid}
 use Rattle.admitting.specs.Best.{bestOf}
-use Rattle.site.specs.Record.{siteOf, size, upTo, sizeOk, rowBad, extraLoad, badRow, extraBlocked, faultOf}
+use Rattle.site.specs.Record.{siteOf, size, upTo, sizeOk, ruleOk, rowBad, extraLoad, badRow, extraBlocked, faultOf}
 use Rattle.site.specs.Reach.{reaches, clashIn, netOf}
 use Rattle.site.specs.declared.Site.{Site}
 use Rattle.planner.specs.Plan.{planAnswer}
@@ -43,7 +43,7 @@ filled xs = take 32 (xs ++ replicate 32 0)
 
 -- slots, channels, the loads, and the reach rows as numbers: bit b-1 of row a-1 where a reaches b
 abbrev pub siteWith : ℕ → ℕ → List ℕ → List ℕ → Site
-siteWith slots channels loads reach = siteOf (length loads) slots channels (filled loads) (filled reach) []
+siteWith slots channels loads reach = siteOf (length loads) slots channels (filled loads) (filled reach) [] 1
 
 -- P1: chained, with just as many channel-slots as it takes
 abbrev pub p1 : Site
@@ -99,7 +99,7 @@ idle = siteWith 1 1 (0 ∷ []) []
 
 -- the same site with these positions blocked
 abbrev pub barred : List ℕ → Site → Site
-barred words s = siteOf (s .cells) (s .slots) (s .channels) (s .loads) (s .reach) words
+barred words s = siteOf (s .cells) (s .slots) (s .channels) (s .loads) (s .reach) words (s .rule)
 
 -- P1 with position 0 blocked: cell 1 takes the 5 that are open, and cell 2 finds none
 abbrev pub p1-barred : Site
@@ -352,7 +352,8 @@ wordsOf s = whySaid s (replicate (size s) 0)
 pub letter-by-letter : map (λ e. wordsOf (e .site)) told ≡ map (λ e. letters (e .text)) told
 unfolding firstOf sum any most part forbid marked fill run overloaded lowestOver loadVerdict mostDemand gap breaks breakOf firstBreak chainVerdict
     second splits splitOf firstSplit classVerdict classAnswer
-    bestOf wordOf upTo sizeOk rowBad extraLoad badRow extraBlocked faultOf reaches clashIn planAnswer loadAnswer chainAnswer leastAnswer mutualIn
+    bestOf wordOf upTo sizeOk ruleOk rowBad extraLoad badRow extraBlocked faultOf reaches clashIn planAnswer loadAnswer chainAnswer leastAnswer
+    mutualIn
     heaviestIn heaviestOf digitsOf decimal spoken listText slotWord runStart runEnd runsFrom slotsEnd slotsFrom whyLines takesPhrase setPhrase
     cellPhrase cellPhrases fewest sizePhrase whyPhrases whySaid
 letter-by-letter = refl
@@ -377,7 +378,7 @@ one-of false false h = omega arith
 pub ring-has-none : NoPlan ring
 unfolding sum reaches clashIn
 ring-has-none res v =
-    let at : (a c k : ℕ) → a < c → c < 5 → k < 2 → clashIn (ring .reach) a c ≡ true → bit (res a k) + bit (res c k) ≤ 1 =
+    let at : (a c k : ℕ) → a < c → c < 5 → k < 2 → clashIn 1 (ring .reach) a c ≡ true → bit (res a k) + bit (res c k) ≤ 1 =
     λ a c k l m w e. one-of (res a k) (res c k) (v .apart a c k l m w e) in
     omega (
       arith,

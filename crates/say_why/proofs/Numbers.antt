@@ -39,7 +39,7 @@ use Rattle.say_why.proofs.Sizes.{fewest-exact}
 
 -- every site is like itself
 pub itself : (s : Site) → Alike s s
-itself s = record { same-cells = refl; same-loads = refl; same-reach = refl }
+itself s = record { same-cells = refl; same-loads = refl; same-reach = refl; same-rule = refl }
 
 -- where the greedy run plans the planner is done, and its table is valid
 pub run-planned : (s : Site) → faultOf s ≡ Fine → Plans (netOf s) → Planned s
@@ -47,13 +47,13 @@ run-planned s fine p table long = let e = done-means s table .1 (fine, long, p) 
 
 pub at-least : (s : Site) → AtLeast s (weight (netOf s) (bitAt (set s)))
 at-least s o alike fine few res v =
-    let close : Mutual (netOf o) (bitAt (set s)) = rw (alike .same-cells, alike .same-reach) (heaviest-is (netOf s) .close) in
+    let close : Mutual (netOf o) (bitAt (set s)) = rw (alike .same-cells, alike .same-reach, alike .same-rule) (heaviest-is (netOf s) .close) in
     let same : weight (netOf o) (bitAt (set s)) ≡ weight (netOf s) (bitAt (set s)) = rw (alike .same-cells, alike .same-loads) in
     omega (arith, mutual-fits (netOf o) res v (bitAt (set s)) close, net-open o, same)
 
 pub same-demand : (s o : Site) → Alike o s → mostDemand (netOf o) (counted o) ≡ mostDemand (netOf s) (counted s)
 unfolding mostDemand
-same-demand s o alike = rw (alike .same-cells, alike .same-loads, alike .same-reach)
+same-demand s o alike = rw (alike .same-cells, alike .same-loads, alike .same-reach, alike .same-rule)
 
 pub demand-does : (s : Site) → WillDo s (mostDemand (netOf s) (counted s))
 demand-does s o alike fine h =
@@ -63,7 +63,7 @@ demand-does s o alike fine h =
 
 pub own-does : (s : Site) → Plans (netOf s) → WillDo s (openOf s)
 own-does s p o alike fine h =
-    run-planned o fine (plans-roomier (netOf s) (netOf o) (alike .same-cells) (rw (alike .same-loads)) (rw (alike .same-reach)) h p)
+    run-planned o fine (plans-roomier (netOf s) (netOf o) (alike .same-cells) (rw (alike .same-loads)) (rw (alike .same-reach, alike .same-rule)) h p)
 
 -- no more positions are open than there are
 pub open-most : (s : Site) → openOf s ≤ positions s

@@ -1,11 +1,11 @@
 -- What the reader's answers mean, over the format. Any bytes have a first bad line, which is told, or are the sheet of a record, which is judged: `came`.
--- All else follows from that: 17 with the first bad line and only then, the accepted sheets, the refusals 1 and 3 after 17, and where the marks stand.
+-- All else follows from that: 17 with the first bad line and only then, the accepted sheets, the refusals 1, 24 and 3 after 17, and where the marks stand.
 -- Assumes nothing.
 use Prim.Native.Nat.{ℕ, zero, suc, _+_, _-_, _*_, _^_, _≤_, _<_, _/_, _%_}
 use mathlib.Core.Path.{_≡_, refl, sym, ap, _∙_}
 use mathlib.Core.Bool.{Bool, true, false, not, _&&_, true≢false}
 use mathlib.Core.List.{List, [], _∷_, _++_, append-assoc, append-nil}
-use mathlib.Core.Logic.{_↔_}
+use mathlib.Core.Logic.{_↔_, _⊎_}
 use native.Mathlib.Omega.{arith}
 use native.Mathlib.Decide.{decLt}
 use native.Mathlib.Nat.{add-zero, zero-add, div-eq-of-lt, mod-lt}
@@ -19,13 +19,13 @@ use Rattle.laws.specs.Search.{first}
 use Rattle.laws.proofs.Choice.{refute, both}
 use Rattle.laws.proofs.Search.{first-before, first-passes, first-none, first-is, first-least}
 use Rattle.positions.specs.Blocked.{mostPositions, blockedAt}
-use Rattle.site.specs.Record.{loadAt, rowOf, positions, upTo, sizeOk, rowBad, extraLoad, badRow, extraBlocked, faultOf, zeroSite}
+use Rattle.site.specs.Record.{loadAt, rowOf, positions, upTo, sizeOk, ruleOk, rowBad, extraLoad, badRow, extraBlocked, faultOf, zeroSite}
 use Rattle.site.specs.Reach.{reaches}
 use Rattle.site.specs.Means.{UpTo}
 use Rattle.site.specs.declared.Site.{Site}
 use Rattle.site.specs.declared.Fault.{Fault}
-use Rattle.site.specs.declared.Fault.the-variants.{Fine, Size, Load, Reach, Blocked}
-use Rattle.site.proofs.Faults.{up-to, up-to-is, few-positions}
+use Rattle.site.specs.declared.Fault.the-variants.{Fine, Size, Rule, Load, Reach, Blocked}
+use Rattle.site.proofs.Faults.{up-to, up-to-is, few-positions, ruled, ruled-is}
 use Rattle.lines.specs.Format.{crlf, header, marks, label, cellLine, bitsOf, lineNumber}
 use Rattle.lines.specs.Content.{cellsOfLine, loadOfLine, rowOfLine, lineIn, lineOk, headOk}
 use Rattle.text.specs.Decimal.{decimal}
@@ -45,6 +45,7 @@ no-line-at : (s : Site) (f : Fault) → faultOf s ≡ f → (l : ℕ) → judged
 unfolding judged
 no-line-at s Fine q l e = let w = rw q at e in let z : _≡_ {A = ℕ} 0 1 = cc in omega arith
 no-line-at s Size q l e = let w = rw q at e in let z : _≡_ {A = ℕ} 0 1 = cc in omega arith
+no-line-at s Rule q l e = let w = rw q at e in let z : _≡_ {A = ℕ} 0 1 = cc in omega arith
 no-line-at s (Load k) q l e = let w = rw q at e in let z : _≡_ {A = ℕ} 0 1 = cc in omega arith
 no-line-at s (Reach k) q l e = let w = rw q at e in let z : _≡_ {A = ℕ} 0 1 = cc in omega arith
 no-line-at s (Blocked k) q l e = let w = rw q at e in let z : _≡_ {A = ℕ} 0 1 = cc in omega arith
@@ -57,6 +58,7 @@ judged-at : (s : Site) (f : Fault) → faultOf s ≡ f → judged s .answer ≡ 
 unfolding judged
 judged-at s Fine q e = (refl, rw q)
 judged-at s Size q e = let w = rw q at e in let z : _≡_ {A = ℕ} 0 1 = cc in absurd (omega arith)
+judged-at s Rule q e = let w = rw q at e in let z : _≡_ {A = ℕ} 0 1 = cc in absurd (omega arith)
 judged-at s (Load k) q e = let w = rw q at e in let z : _≡_ {A = ℕ} 0 1 = cc in absurd (omega arith)
 judged-at s (Reach k) q e = let w = rw q at e in let z : _≡_ {A = ℕ} 0 1 = cc in absurd (omega arith)
 judged-at s (Blocked k) q e = let w = rw q at e in let z : _≡_ {A = ℕ} 0 1 = cc in absurd (omega arith)
@@ -65,15 +67,16 @@ zeros-at : (s : Site) (f : Fault) → faultOf s ≡ f → (judged s .answer ≡ 
 unfolding judged
 zeros-at s Fine q n = absurd (n (rw q))
 zeros-at s Size q n = rw q
+zeros-at s Rule q n = rw q
 zeros-at s (Load k) q n = rw q
 zeros-at s (Reach k) q n = rw q
 zeros-at s (Blocked k) q n = rw q
 
 -- ---- any bytes: the first bad line is told, or the record is judged
 
-data Came (b : List ℕ) (slots channels : ℕ) (blocked : List ℕ) : Type 0 where
-  told : (l : ℕ) → FirstBadOfSheet b l → readSheet b slots channels blocked ≡ badSheet l → Came b slots channels blocked
-  was : (s : Site) → SheetOf b slots channels blocked s → readSheet b slots channels blocked ≡ judged s → Came b slots channels blocked
+data Came (b : List ℕ) (slots channels : ℕ) (blocked : List ℕ) (rule : ℕ) : Type 0 where
+  told : (l : ℕ) → FirstBadOfSheet b l → readSheet b slots channels blocked rule ≡ badSheet l → Came b slots channels blocked rule
+  was : (s : Site) → SheetOf b slots channels blocked rule s → readSheet b slots channels blocked rule ≡ judged s → Came b slots channels blocked rule
 
 no-length : (l : List ℕ) → length l ≤ 0 → l ≡ []
 no-length [] h = refl
@@ -87,7 +90,7 @@ some-length (x ∷ l) h = (x, l, refl)
 line-ok : (n k load row : ℕ) (r : List ℕ) → 0 < n → load ≤ 65535 → lineOk n k (cellLine n k load (bitsOf row) ++ r) ≡ true
 line-ok n k load row r some few = ok-written n k load (bitsOf row) r (omega arith) (bits-two row) some few
 
-module _ (b : List ℕ) (slots channels : ℕ) (blocked : List ℕ) (words : BlockedHeld blocked) where
+module _ (b : List ℕ) (slots channels : ℕ) (blocked : List ℕ) (rule : ℕ) (words : BlockedHeld blocked) where
   abbrev n : ℕ
   n = cellsOfLine b
 
@@ -95,7 +98,7 @@ module _ (b : List ℕ) (slots channels : ℕ) (blocked : List ℕ) (words : Blo
   r = body b
 
   -- no first line
-  without : headOk b ≡ false → Came b slots channels blocked
+  without : headOk b ≡ false → Came b slots channels blocked rule
   unfolding readSheet
   without h = told 1 (no-first-line refl (λ m q u e. true≢false (sym (head-written m q (u .0) (u .1)) ∙ sym (ap headOk e) ∙ h))) (rw h)
 
@@ -108,146 +111,149 @@ module _ (b : List ℕ) (slots channels : ℕ) (blocked : List ℕ) (words : Blo
     well k low j m = not-false _ (first-before (λ i. not (lineOk n i (from n r i))) 0 n j (omega arith) (omega arith))
 
     -- the first line, the lines before the k-th and what is left
-    parts : (k : ℕ) → k ≤ n → k ≤ badCell n r → b ≡ header n ++ (linesFrom (made n r slots channels blocked k) 0 k ++ from n r k)
+    parts : (k : ℕ) → k ≤ n → k ≤ badCell n r → b ≡ header n ++ (linesFrom (made n r slots channels blocked rule k) 0 k ++ from n r k)
     unfolding body from
     parts k most low =
-        head-is b h .1 ∙ ap (λ (x : List ℕ). header n ++ x) (lines-made n r slots channels blocked k cells most (well k low) k 0 (omega arith))
+        head-is b h .1 ∙ ap (λ (x : List ℕ). header n ++ x) (lines-made n r slots channels blocked rule k cells most (well k low) k 0 (omega arith))
 
-    bad-cell : badCell n r < n → Came b slots channels blocked
+    bad-cell : badCell n r < n → Came b slots channels blocked rule
     unfolding readSheet cellsRead badCell
     bad-cell low =
         let k = badCell n r in
         let bad : lineOk n k (from n r k) ≡ false = not-true _ (first-passes (λ i. not (lineOk n i (from n r i))) 0 n (omega arith) low) in
         told (lineNumber k)
-        (no-cell-line (made n r slots channels blocked k) k (from n r k) refl
-        (fits-made n r slots channels blocked k cells (omega arith) (well k (omega arith)) words) low
+        (no-cell-line (made n r slots channels blocked rule k) k (from n r k) refl
+        (fits-made n r slots channels blocked rule k cells (omega arith) (well k (omega arith)) words) low
         (parts k (omega arith) (omega arith))
         (λ load row q few e. true≢false (sym (line-ok n k load row q (omega (arith, cells)) few) ∙ sym (ap (lineOk n k) e) ∙ bad)))
         (rw (h, lt-ltb (badCell n r) n low))
 
     module _ (all : n ≤ badCell n r) where
-      fits : FitsSheet (made n r slots channels blocked n)
-      fits = fits-made n r slots channels blocked n cells (omega arith) (well n all) words
+      fits : FitsSheet (made n r slots channels blocked rule n)
+      fits = fits-made n r slots channels blocked rule n cells (omega arith) (well n all) words
 
-      extra : 0 < length (from n r n) → Came b slots channels blocked
+      extra : 0 < length (from n r n) → Came b slots channels blocked rule
       unfolding readSheet cellsRead sheetBytes
       extra some =
           let w = some-length (from n r n) some in
-          let e = parts n (omega arith) all ∙ ap (λ (x : List ℕ). header n ++ (linesFrom (made n r slots channels blocked n) 0 n ++ x)) (w .2) in
+          let e = parts n (omega arith) all ∙ ap (λ (x : List ℕ). header n ++ (linesFrom (made n r slots channels blocked rule n) 0 n ++ x)) (w .2) in
           told (lineNumber n)
-          (one-too-many (made n r slots channels blocked n) (w .0) (w .1) refl fits
-          (e ∙ sym (append-assoc (header n) (linesFrom (made n r slots channels blocked n) 0 n) (w .0 ∷ w .1))))
+          (one-too-many (made n r slots channels blocked rule n) (w .0) (w .1) refl fits
+          (e ∙ sym (append-assoc (header n) (linesFrom (made n r slots channels blocked rule n) 0 n) (w .0 ∷ w .1))))
           (rw (h, le-ltb (badCell n r) n all, lt-ltb 0 (length (from n r n)) some))
 
-      whole : length (from n r n) ≤ 0 → Came b slots channels blocked
+      whole : length (from n r n) ≤ 0 → Came b slots channels blocked rule
       unfolding readSheet cellsRead sheetBytes siteOfSheet
       whole none =
-          let e = parts n (omega arith) all ∙ ap (λ (x : List ℕ). header n ++ (linesFrom (made n r slots channels blocked n) 0 n ++ x)) (no-length _ none) in
-          was (made n r slots channels blocked n)
+          let m = made n r slots channels blocked rule n in
+          let e = parts n (omega arith) all ∙ ap (λ (x : List ℕ). header n ++ (linesFrom m 0 n ++ x)) (no-length _ none) in
+          was (made n r slots channels blocked rule n)
           (record {
             fits = fits;
             slots-are = refl;
             channels-are = refl;
             blocked-are = refl;
-            bytes = sym (e ∙ ap (λ (x : List ℕ). header n ++ x) (append-nil (linesFrom (made n r slots channels blocked n) 0 n)));
+            rule-is = refl;
+            bytes = sym (e ∙ ap (λ (x : List ℕ). header n ++ x) (append-nil (linesFrom (made n r slots channels blocked rule n) 0 n)));
           })
           (rw (h, le-ltb (badCell n r) n all, le-ltb 0 (length (from n r n)) none))
 
-      after-all : Dec (0 < length (from n r n)) → Came b slots channels blocked
+      after-all : Dec (0 < length (from n r n)) → Came b slots channels blocked rule
       after-all (yes p) = extra p
       after-all (no p) = whole (omega arith)
 
-    after-first : Dec (badCell n r < n) → Came b slots channels blocked
+    after-first : Dec (badCell n r < n) → Came b slots channels blocked rule
     after-first (yes p) = bad-cell p
     after-first (no p) = after-all (omega arith) (decLt 0 (length (from n r n)))
 
-  came : Came b slots channels blocked
+  came : Came b slots channels blocked rule
   came = go (headOk b) refl
     where
-      go : (t : Bool) → headOk b ≡ t → Came b slots channels blocked
+      go : (t : Bool) → headOk b ≡ t → Came b slots channels blocked rule
       go true h = after-first h (decLt (badCell n r) n)
       go false h = without h
 
   -- ---- 17
 
   -- "17, sheet malformed, with its first bad line (from 1; missing and extra lines count)": with that line, and only then
-  pub bad-first : (l : ℕ) → readSheet b slots channels blocked .answer ≡ BadLine l → FirstBadOfSheet b l
+  pub bad-first : (l : ℕ) → readSheet b slots channels blocked rule .answer ≡ BadLine l → FirstBadOfSheet b l
   unfolding badSheet
   bad-first l e = go came
     where
-      go : Came b slots channels blocked → FirstBadOfSheet b l
+      go : Came b slots channels blocked rule → FirstBadOfSheet b l
       go (told m f q) =
           let is : BadLine m ≡ BadLine l = sym (ap (λ (x : SheetRead). x .answer) q) ∙ e in
           let same : m ≡ l = cc in
           rw (← same) f
       go (was s w q) = absurd (judged-no-line s l (sym (ap (λ (x : SheetRead). x .answer) q) ∙ e))
 
-  pub first-told : (l : ℕ) → FirstBadOfSheet b l → readSheet b slots channels blocked .answer ≡ BadLine l
+  pub first-told : (l : ℕ) → FirstBadOfSheet b l → readSheet b slots channels blocked rule .answer ≡ BadLine l
   unfolding readSheet badSheet sheetBytes
   first-told l (no-first-line e none) =
       let h : headOk b ≡ false = refute _ (λ t. none (cellsOfLine b) _ (head-is b t .0, cells-few b) (head-is b t .1)) in
       rw (h, e)
   first-told l (no-cell-line s k rest e fits low is none) =
       ap (λ (x : SheetRead). x .answer)
-      (ap (λ (x : List ℕ). readSheet x slots channels blocked) is
-      ∙ bad-after s fits k rest slots channels blocked low
+      (ap (λ (x : List ℕ). readSheet x slots channels blocked rule) is
+      ∙ bad-after s fits k rest slots channels blocked rule low
       (refute _ (λ t. let w = line-there (s .cells) k rest t in
       none (loadOfLine k rest) (rowOfLine (s .cells) k rest) (drop (length (lineIn (s .cells) k rest)) rest) (w .0)
       (rw (line-content (s .cells) k rest) (w .1)))))
       ∙ ap BadLine (sym e)
   first-told l (one-too-many s x rest e fits is) =
       ap (λ (y : SheetRead). y .answer)
-      (ap (λ (y : List ℕ). readSheet y slots channels blocked) (is ∙ append-assoc (header (s .cells)) (linesFrom s 0 (s .cells)) (x ∷ rest))
-      ∙ extra-after s fits (x ∷ rest) slots channels blocked (omega arith))
+      (ap (λ (y : List ℕ). readSheet y slots channels blocked rule) (is ∙ append-assoc (header (s .cells)) (linesFrom s 0 (s .cells)) (x ∷ rest))
+      ∙ extra-after s fits (x ∷ rest) slots channels blocked rule (omega arith))
       ∙ ap BadLine (sym e)
 
   -- where no line is bad, the bytes are the sheet of a record
-  pub no-bad-line : ((l : ℕ) → FirstBadOfSheet b l → ⊥) → (s : Site) × SheetOf b slots channels blocked s
+  pub no-bad-line : ((l : ℕ) → FirstBadOfSheet b l → ⊥) → (s : Site) × SheetOf b slots channels blocked rule s
   no-bad-line none = go came
     where
-      go : Came b slots channels blocked → (s : Site) × SheetOf b slots channels blocked s
+      go : Came b slots channels blocked rule → (s : Site) × SheetOf b slots channels blocked rule s
       go (told l f q) = absurd (none l f)
       go (was s w q) = (s, w)
 
   -- and then the record is judged
-  pub sheet-read : (s : Site) → SheetOf b slots channels blocked s → readSheet b slots channels blocked ≡ judged s
-  sheet-read s w = rw (← w .bytes, ← w .slots-are, ← w .channels-are, ← w .blocked-are) (sheet-judged s (w .fits))
+  pub sheet-read : (s : Site) → SheetOf b slots channels blocked rule s → readSheet b slots channels blocked rule ≡ judged s
+  sheet-read s w = rw (← w .bytes, ← w .slots-are, ← w .channels-are, ← w .blocked-are, ← w .rule-is) (sheet-judged s (w .fits))
 
   -- "each gives a site of zeros"
-  pub refused-zeros : (readSheet b slots channels blocked .answer ≡ Done → ⊥) → readSheet b slots channels blocked .site ≡ zeroSite
+  pub refused-zeros : (readSheet b slots channels blocked rule .answer ≡ Done → ⊥) → readSheet b slots channels blocked rule .site ≡ zeroSite
   unfolding badSheet
   refused-zeros n = go came
     where
-      go : Came b slots channels blocked → readSheet b slots channels blocked .site ≡ zeroSite
+      go : Came b slots channels blocked rule → readSheet b slots channels blocked rule .site ≡ zeroSite
       go (told l f q) = ap (λ (x : SheetRead). x .site) q
       go (was s w q) = ap (λ (x : SheetRead). x .site) q ∙ zeros-at s (faultOf s) refl (λ e. n (ap (λ (x : SheetRead). x .answer) q ∙ e))
 
   -- ---- the accepted sheets
 
   -- what is accepted is the sheet of the site that is read, and that has no fault
-  pub accepted-is : readSheet b slots channels blocked .answer ≡ Done
-      → SheetOf b slots channels blocked (readSheet b slots channels blocked .site) × (faultOf (readSheet b slots channels blocked .site) ≡ Fine)
+  pub accepted-is : readSheet b slots channels blocked rule .answer ≡ Done
+      → SheetOf b slots channels blocked rule (readSheet b slots channels blocked rule .site) × (faultOf (readSheet b slots channels blocked rule .site) ≡ Fine)
   unfolding badSheet
   accepted-is e = go came
     where
-      go : Came b slots channels blocked
-          → SheetOf b slots channels blocked (readSheet b slots channels blocked .site) × (faultOf (readSheet b slots channels blocked .site) ≡ Fine)
+      go : Came b slots channels blocked rule
+          → SheetOf b slots channels blocked rule (readSheet b slots channels blocked rule .site)
+          × (faultOf (readSheet b slots channels blocked rule .site) ≡ Fine)
       go (told l f q) =
           let is : BadLine l ≡ Done = sym (ap (λ (x : SheetRead). x .answer) q) ∙ e in
           let z : _≡_ {A = ℕ} 0 1 = cc in
           absurd (omega arith)
       go (was s w q) =
           let k = judged-at s (faultOf s) refl (sym (ap (λ (x : SheetRead). x .answer) q) ∙ e) in
-          let is : readSheet b slots channels blocked .site ≡ s = ap (λ (x : SheetRead). x .site) q ∙ k .1 in
+          let is : readSheet b slots channels blocked rule .site ≡ s = ap (λ (x : SheetRead). x .site) q ∙ k .1 in
           rw is (w, k .0)
 
   -- exactly the sheets of the format are accepted, each as the site whose sheet it is
-  pub sheet-accepted : (s : Site) → SheetOf b slots channels blocked s → faultOf s ≡ Fine
-      → readSheet b slots channels blocked ≡ record { site = s; answer = Done }
+  pub sheet-accepted : (s : Site) → SheetOf b slots channels blocked rule s → faultOf s ≡ Fine
+      → readSheet b slots channels blocked rule ≡ record { site = s; answer = Done }
   unfolding judged
   sheet-accepted s w fine = sheet-read s w ∙ rw fine
 
--- ---- after 17: 1, then 3
+-- ---- after 17: 1, then 24, then 3
 
 module _ (s : Site) (fits : FitsSheet s) where
   no-load : extraLoad s ≡ 32
@@ -298,45 +304,74 @@ module _ (s : Site) (fits : FitsSheet s) where
   abbrev after : Fault
   after = pick (ltb (extraBlocked s) mostPositions) (Blocked (extraBlocked s)) Fine
 
-  -- 1 for slots or channels out of range, then 3 with the lowest cell that marks itself, and then 20
+  -- 1 for slots or channels out of range, then 24, then 3 with the lowest cell that marks itself, and then 20
   pub fault-is : faultOf s ≡ sheetFault s
   unfolding faultOf sheetFault
   fault-is =
       rw (size-is, no-load, bad-row-is)
-      (ap (λ (f : Fault). pick (upTo 128 (s .slots) && upTo 16 (s .channels)) f Size)
+      (ap (λ (f : Fault). pick (upTo 128 (s .slots) && upTo 16 (s .channels)) (pick (ruleOk (s .rule)) f Rule) Size)
       (choose (ltb (ownMark s) (s .cells)) (ownMark s) after (λ e. let low : ownMark s < s .cells = ltb-true _ _ e in omega (arith, fits .cells))))
 
   -- so 1 exactly where slots or channels are out of range
   pub fault-one : faultOf s ≡ Size ↔ ((UpTo 128 (s .slots) × UpTo 16 (s .channels)) → ⊥)
   unfolding sheetFault
   fault-one = (
-    λ e u. not-size (ltb (ownMark s) (s .cells)) (ltb (extraBlocked s) mostPositions)
+    λ e u. not-size (ruleOk (s .rule)) (ltb (ownMark s) (s .cells)) (ltb (extraBlocked s) mostPositions)
         (rw (up-to-is 128 (s .slots) (u .0), up-to-is 16 (s .channels) (u .1)) at (sym fault-is ∙ e)),
     λ n. fault-is ∙ rw (refute (upTo 128 (s .slots) && upTo 16 (s .channels)) (λ t. let w = both _ _ t in n (up-to 128 _ (w .0), up-to 16 _ (w .1)))),
   )
     where
-      not-size : (t u : Bool) → pick t (Reach (ownMark s + 1)) (pick u (Blocked (extraBlocked s)) Fine) ≡ Size → ⊥
-      not-size true u e = let z : _≡_ {A = ℕ} 0 1 = cc in omega arith
-      not-size false true e = let z : _≡_ {A = ℕ} 0 1 = cc in omega arith
-      not-size false false e = let z : _≡_ {A = ℕ} 0 1 = cc in omega arith
+      not-size : (o t u : Bool) → pick o (pick t (Reach (ownMark s + 1)) (pick u (Blocked (extraBlocked s)) Fine)) Rule ≡ Size → ⊥
+      not-size false t u e = let z : _≡_ {A = ℕ} 0 1 = cc in omega arith
+      not-size true true u e = let z : _≡_ {A = ℕ} 0 1 = cc in omega arith
+      not-size true false true e = let z : _≡_ {A = ℕ} 0 1 = cc in omega arith
+      not-size true false false e = let z : _≡_ {A = ℕ} 0 1 = cc in omega arith
+
+  -- and then 24 exactly where the rule is neither 1 nor 2
+  pub fault-twenty-four : faultOf s ≡ Rule ↔ (UpTo 128 (s .slots) × UpTo 16 (s .channels) × ((s .rule ≡ 1) ⊎ (s .rule ≡ 2) → ⊥))
+  unfolding sheetFault
+  fault-twenty-four = (
+    λ e. to-rule (upTo 128 (s .slots) && upTo 16 (s .channels)) (ruleOk (s .rule)) (ltb (ownMark s) (s .cells)) (ltb (extraBlocked s) mostPositions) refl refl
+        (sym fault-is ∙ e),
+    λ m. fault-is ∙ rw (up-to-is 128 (s .slots) (m .0), up-to-is 16 (s .channels) (m .1), refute (ruleOk (s .rule)) (λ t. m .2 (ruled (s .rule) t))),
+  )
+    where
+      to-rule : (t o u v : Bool) → (upTo 128 (s .slots) && upTo 16 (s .channels)) ≡ t → ruleOk (s .rule) ≡ o →
+          pick t (pick o (pick u (Reach (ownMark s + 1)) (pick v (Blocked (extraBlocked s)) Fine)) Rule) Size ≡ Rule →
+          UpTo 128 (s .slots) × UpTo 16 (s .channels) × ((s .rule ≡ 1) ⊎ (s .rule ≡ 2) → ⊥)
+      to-rule false o u v p q e = let z : _≡_ {A = ℕ} 0 1 = cc in absurd (omega arith)
+      to-rule true true true v p q e = let z : _≡_ {A = ℕ} 0 1 = cc in absurd (omega arith)
+      to-rule true true false true p q e = let z : _≡_ {A = ℕ} 0 1 = cc in absurd (omega arith)
+      to-rule true true false false p q e = let z : _≡_ {A = ℕ} 0 1 = cc in absurd (omega arith)
+      to-rule true false u v p q e =
+          let w = both _ _ p in
+          (up-to 128 _ (w .0), up-to 16 _ (w .1), λ r. true≢false (sym (ruled-is (s .rule) r) ∙ q))
 
   -- and else 3 exactly where a cell marks itself, with the lowest one
   pub fault-three : (k : ℕ) → faultOf s ≡ Reach (k + 1) ↔ MarksItself s k
   unfolding sheetFault ownMark
   fault-three k = (
-    λ e. to-mark (upTo 128 (s .slots) && upTo 16 (s .channels)) (ltb (ownMark s) (s .cells)) (ltb (extraBlocked s) mostPositions) refl refl
+    λ e. to-mark (upTo 128 (s .slots) && upTo 16 (s .channels)) (ruleOk (s .rule)) (ltb (ownMark s) (s .cells)) (ltb (extraBlocked s) mostPositions)
+        refl refl refl
         (sym fault-is ∙ e),
     λ m.
         let own-is : ownMark s ≡ k = first-is (λ j. reaches (s .reach) j j) 0 k (s .cells) (omega arith) (m .cell) (m .itself) (λ j g l. m .lower j l) in
-        fault-is ∙ rw (up-to-is 128 (s .slots) (m .slots), up-to-is 16 (s .channels) (m .channels), own-is, lt-ltb k (s .cells) (m .cell)),
+        fault-is ∙ rw (
+          up-to-is 128 (s .slots) (m .slots),
+          up-to-is 16 (s .channels) (m .channels),
+          ruled-is (s .rule) (m .ruled),
+          own-is,
+          lt-ltb k (s .cells) (m .cell),
+        ),
   )
     where
-      to-mark : (t u v : Bool) → (upTo 128 (s .slots) && upTo 16 (s .channels)) ≡ t → ltb (ownMark s) (s .cells) ≡ u →
-          pick t (pick u (Reach (ownMark s + 1)) (pick v (Blocked (extraBlocked s)) Fine)) Size ≡ Reach (k + 1) → MarksItself s k
-      to-mark false u v p q e = let z : _≡_ {A = ℕ} 0 1 = cc in absurd (omega arith)
-      to-mark true false true p q e = let z : _≡_ {A = ℕ} 0 1 = cc in absurd (omega arith)
-      to-mark true false false p q e = let z : _≡_ {A = ℕ} 0 1 = cc in absurd (omega arith)
-      to-mark true true v p q e =
+      to-mark : (t o u v : Bool) → (upTo 128 (s .slots) && upTo 16 (s .channels)) ≡ t → ruleOk (s .rule) ≡ o → ltb (ownMark s) (s .cells) ≡ u →
+          pick t (pick o (pick u (Reach (ownMark s + 1)) (pick v (Blocked (extraBlocked s)) Fine)) Rule) Size ≡ Reach (k + 1) → MarksItself s k
+      to-mark false o u v p y q e = let z : _≡_ {A = ℕ} 0 1 = cc in absurd (omega arith)
+      to-mark true false u v p y q e = let z : _≡_ {A = ℕ} 0 1 = cc in absurd (omega arith)
+      to-mark true true false true p y q e = let z : _≡_ {A = ℕ} 0 1 = cc in absurd (omega arith)
+      to-mark true true false false p y q e = let z : _≡_ {A = ℕ} 0 1 = cc in absurd (omega arith)
+      to-mark true true true v p y q e =
           let w = both _ _ p in
           let next : ownMark s + 1 ≡ k + 1 = cc in
           let is : ownMark s ≡ k = omega arith in
@@ -344,6 +379,7 @@ module _ (s : Site) (fits : FitsSheet s) where
           record {
             slots = up-to 128 _ (w .0);
             channels = up-to 16 _ (w .1);
+            ruled = ruled (s .rule) y;
             cell = omega arith;
             itself = rw is at (first-passes (λ j. reaches (s .reach) j j) 0 (s .cells) (omega arith) low);
             lower = λ j l. first-before (λ j. reaches (s .reach) j j) 0 (s .cells) j (omega arith) (omega arith);
@@ -353,7 +389,8 @@ module _ (s : Site) (fits : FitsSheet s) where
   pub fault-twenty : (k : ℕ) → faultOf s ≡ Blocked k ↔ BlockedPast s k
   unfolding sheetFault ownMark extraBlocked
   fault-twenty k = (
-    λ e. to-past (upTo 128 (s .slots) && upTo 16 (s .channels)) (ltb (ownMark s) (s .cells)) (ltb (extraBlocked s) mostPositions) refl refl refl
+    λ e. to-past (upTo 128 (s .slots) && upTo 16 (s .channels)) (ruleOk (s .rule)) (ltb (ownMark s) (s .cells)) (ltb (extraBlocked s) mostPositions)
+        refl refl refl refl
         (sym fault-is ∙ e),
     λ m.
         let none : ownMark s ≡ s .cells = first-none (λ j. reaches (s .reach) j j) 0 (s .cells) (omega arith) (λ j g l. m .unmarked j l) in
@@ -361,6 +398,7 @@ module _ (s : Site) (fits : FitsSheet s) where
         fault-is ∙ rw (
           up-to-is 128 (s .slots) (m .slots),
           up-to-is 16 (s .channels) (m .channels),
+          ruled-is (s .rule) (m .ruled),
           none,
           le-ltb (s .cells) (s .cells) (omega arith),
           is,
@@ -368,12 +406,14 @@ module _ (s : Site) (fits : FitsSheet s) where
         ),
   )
     where
-      to-past : (t u v : Bool) → (upTo 128 (s .slots) && upTo 16 (s .channels)) ≡ t → ltb (ownMark s) (s .cells) ≡ u → ltb (extraBlocked s) mostPositions ≡ v →
-          pick t (pick u (Reach (ownMark s + 1)) (pick v (Blocked (extraBlocked s)) Fine)) Size ≡ Blocked k → BlockedPast s k
-      to-past false u v p q r e = let z : _≡_ {A = ℕ} 0 1 = cc in absurd (omega arith)
-      to-past true true v p q r e = let z : _≡_ {A = ℕ} 0 1 = cc in absurd (omega arith)
-      to-past true false false p q r e = let z : _≡_ {A = ℕ} 0 1 = cc in absurd (omega arith)
-      to-past true false true p q r e =
+      to-past : (t o u v : Bool) → (upTo 128 (s .slots) && upTo 16 (s .channels)) ≡ t → ruleOk (s .rule) ≡ o → ltb (ownMark s) (s .cells) ≡ u
+          → ltb (extraBlocked s) mostPositions ≡ v
+          → pick t (pick o (pick u (Reach (ownMark s + 1)) (pick v (Blocked (extraBlocked s)) Fine)) Rule) Size ≡ Blocked k → BlockedPast s k
+      to-past false o u v p y q r e = let z : _≡_ {A = ℕ} 0 1 = cc in absurd (omega arith)
+      to-past true false u v p y q r e = let z : _≡_ {A = ℕ} 0 1 = cc in absurd (omega arith)
+      to-past true true true v p y q r e = let z : _≡_ {A = ℕ} 0 1 = cc in absurd (omega arith)
+      to-past true true false false p y q r e = let z : _≡_ {A = ℕ} 0 1 = cc in absurd (omega arith)
+      to-past true true false true p y q r e =
           let w = both _ _ p in
           let t = up-to 128 _ (w .0) in
           let f = up-to 16 _ (w .1) in
@@ -391,6 +431,7 @@ module _ (s : Site) (fits : FitsSheet s) where
           record {
             slots = t;
             channels = f;
+            ruled = ruled (s .rule) y;
             unmarked = λ j l. first-before (λ i. reaches (s .reach) i i) 0 (s .cells) j (omega arith) (omega arith);
             past = rw is at (first-least (blockedAt (s .blocked)) (positions s) mostPositions);
             most = rw is at low;

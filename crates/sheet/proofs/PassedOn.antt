@@ -13,7 +13,7 @@ use Rattle.records.proofs.PassedOn.{written-refused}
 use Rattle.site.specs.Record.{isFine, faultOf}
 use Rattle.site.specs.declared.Site.{Site}
 use Rattle.site.specs.declared.Fault.{Fault}
-use Rattle.site.specs.declared.Fault.the-variants.{Fine, Size, Load, Reach, Blocked}
+use Rattle.site.specs.declared.Fault.the-variants.{Fine, Size, Rule, Load, Reach, Blocked}
 use Rattle.lines.specs.Format.{lineNumber}
 use Rattle.lines.specs.Content.{cellsOfLine, headOk}
 use Rattle.sheet.specs.Read.{from, badCell, body, siteOfSheet, judged, badSheet, cellsRead, readSheet}
@@ -28,6 +28,7 @@ no-fault-told : (s : Site) (f : Fault) → faultOf s ≡ f → (g : Fault) → j
 unfolding judged
 no-fault-told s Fine q g e = let w = rw q at e in let z : _≡_ {A = ℕ} 0 1 = cc in absurd (omega arith)
 no-fault-told s Size q g e = let w = rw q at e in (cc, λ y. let z : _≡_ {A = ℕ} 0 1 = cc in omega arith)
+no-fault-told s Rule q g e = let w = rw q at e in (cc, λ y. let z : _≡_ {A = ℕ} 0 1 = cc in omega arith)
 no-fault-told s (Load k) q g e = let w = rw q at e in (cc, λ y. let z : _≡_ {A = ℕ} 0 1 = cc in omega arith)
 no-fault-told s (Reach k) q g e = let w = rw q at e in (cc, λ y. let z : _≡_ {A = ℕ} 0 1 = cc in omega arith)
 no-fault-told s (Blocked k) q g e = let w = rw q at e in (cc, λ y. let z : _≡_ {A = ℕ} 0 1 = cc in omega arith)
@@ -41,12 +42,12 @@ said true false true a b c j f e = let z : _≡_ {A = ℕ} 0 1 = cc in absurd (o
 said true false false a b c j f e = e
 
 -- a refusal after 17 is the fault of the record that the lines make
-pub read-told : (b : List ℕ) (slots channels : ℕ) (blocked : List ℕ) (f : Fault) → readSheet b slots channels blocked .answer ≡ read.Refused f →
-    (f ≡ faultOf (siteOfSheet (cellsOfLine b) (body b) slots channels blocked)) × (f ≡ Fine → ⊥)
+pub read-told : (b : List ℕ) (slots channels : ℕ) (blocked : List ℕ) (rule : ℕ) (f : Fault) → readSheet b slots channels blocked rule .answer ≡ read.Refused f →
+    (f ≡ faultOf (siteOfSheet (cellsOfLine b) (body b) slots channels blocked rule)) × (f ≡ Fine → ⊥)
 unfolding readSheet cellsRead
-read-told b slots channels blocked f e =
+read-told b slots channels blocked rule f e =
     let n = cellsOfLine b in
-    let s = siteOfSheet n (body b) slots channels blocked in
+    let s = siteOfSheet n (body b) slots channels blocked rule in
     no-fault-told s (faultOf s) refl f
     (said (headOk b) (ltb (badCell n (body b)) n) (ltb 0 (length (from n (body b) n))) (lineNumber (badCell n (body b))) (lineNumber n) 1 (judged s) f e)
 

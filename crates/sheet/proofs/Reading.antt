@@ -35,10 +35,10 @@ pub begun : (s : List ℕ) (at n : ℕ) → Reading s (drop at s) n (replicate 3
 unfolding from badCell loadsOfSheet rowsOfSheet
 begun s at n = record { most = omega arith; place = refl; sought = refl; loads-are = refl; rows-are = refl }
 
-module _ (s r : List ℕ) (n : ℕ) (loads reach : List ℕ) (p k slots channels : ℕ) (blocked : List ℕ)
+module _ (s r : List ℕ) (n : ℕ) (loads reach : List ℕ) (p k slots channels : ℕ) (blocked : List ℕ) (rule : ℕ)
     (w : Reading s r n loads reach p k) (short : length s < nowhere) where
   -- a line that is not of the format
-  pub stopped : (l : Line) → l ≡ lineRead s p n k → l .next ≡ nowhere → k < n → badSheet (lineNumber k) ≡ cellsRead n r slots channels blocked
+  pub stopped : (l : Line) → l ≡ lineRead s p n k → l .next ≡ nowhere → k < n → badSheet (lineNumber k) ≡ cellsRead n r slots channels blocked rule
   unfolding cellsRead
   stopped l e h m =
       let b : lineOk n k (from n r k) ≡ false = ap (lineOk n k) (sym (w .place)) ∙ answer-bad s p n k short l e h in
@@ -71,24 +71,24 @@ module _ (s r : List ℕ) (n : ℕ) (loads reach : List ℕ) (p k slots channels
     left : length s - p ≡ length (from n r n)
     left = sym (length-drop p s) ∙ ap length (w .place) ∙ ap (λ (i : ℕ). length (from n r i)) end
 
-    pub extra : p < length s → badSheet (lineNumber n) ≡ cellsRead n r slots channels blocked
+    pub extra : p < length s → badSheet (lineNumber n) ≡ cellsRead n r slots channels blocked rule
     unfolding cellsRead
     extra h = rw (whole, le-ltb n n (omega arith), lt-ltb 0 (length (from n r n)) (omega (arith, left)))
 
-    pub finished : length s ≤ p → judged (siteOf n slots channels loads reach blocked) ≡ cellsRead n r slots channels blocked
+    pub finished : length s ≤ p → judged (siteOf n slots channels loads reach blocked rule) ≡ cellsRead n r slots channels blocked rule
     unfolding cellsRead siteOfSheet
     finished h =
         rw (whole, le-ltb n n (omega arith), le-ltb 0 (length (from n r n)) (omega (arith, left)), w .loads-are, w .rows-are, end)
 
 -- ---- the first line
 
-module _ (s : List ℕ) (slots channels : ℕ) (blocked : List ℕ) (short : length s < nowhere) (h : Head) (e : h ≡ headRead s) where
-  pub first-bad : h .next ≡ nowhere → badSheet 1 ≡ readSheet s slots channels blocked
+module _ (s : List ℕ) (slots channels : ℕ) (blocked : List ℕ) (rule : ℕ) (short : length s < nowhere) (h : Head) (e : h ≡ headRead s) where
+  pub first-bad : h .next ≡ nowhere → badSheet 1 ≡ readSheet s slots channels blocked rule
   unfolding readSheet
   first-bad n = rw (head-bad s short h e n)
 
   pub first-good : (h .next ≡ nowhere → ⊥)
-      → (h .cells ≡ cellsOfLine s) × (cellsRead (h .cells) (drop (h .next) s) slots channels blocked ≡ readSheet s slots channels blocked)
+      → (h .cells ≡ cellsOfLine s) × (cellsRead (h .cells) (drop (h .next) s) slots channels blocked rule ≡ readSheet s slots channels blocked rule)
   unfolding readSheet body
   first-good n =
       let g = head-good s short h e n in

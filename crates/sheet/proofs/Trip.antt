@@ -88,15 +88,16 @@ module _ (s : Site) (fits : FitsSheet s) where
     rest-left = let e : k - k ≡ 0 = omega arith in from-written k (omega arith) ∙ rw e
 
     -- the first line is passed
-    module _ (slots channels : ℕ) (blocked : List ℕ) where
-      first-passed : readSheet (header (s .cells) ++ lines) slots channels blocked ≡ cellsRead (s .cells) lines slots channels blocked
+    module _ (slots channels : ℕ) (blocked : List ℕ) (rule : ℕ) where
+      first-passed : readSheet (header (s .cells) ++ lines) slots channels blocked rule ≡ cellsRead (s .cells) lines slots channels blocked rule
       unfolding readSheet body
       first-passed =
           let u = fits .cells in
           rw (head-written (s .cells) lines (u .0) (u .1), cells-written (s .cells) lines (u .1), drop-append-seam (header (s .cells)) lines)
 
       -- and the next line is bad
-      pub bad-after : k < s .cells → lineOk (s .cells) k rest ≡ false → readSheet (header (s .cells) ++ lines) slots channels blocked ≡ badSheet (lineNumber k)
+      pub bad-after : k < s .cells → lineOk (s .cells) k rest ≡ false
+          → readSheet (header (s .cells) ++ lines) slots channels blocked rule ≡ badSheet (lineNumber k)
       unfolding cellsRead badCell
       bad-after low bad =
           let is = first-is (λ j. not (lineOk (s .cells) j (from (s .cells) lines j))) 0 k (s .cells) (omega arith) low
@@ -104,7 +105,7 @@ module _ (s : Site) (fits : FitsSheet s) where
           first-passed ∙ rw (is, lt-ltb k (s .cells) low)
 
   -- the lines of all cells
-  module _ (rest : List ℕ) (slots channels : ℕ) (blocked : List ℕ) where
+  module _ (rest : List ℕ) (slots channels : ℕ) (blocked : List ℕ) (rule : ℕ) where
     abbrev all : List ℕ
     all = lines (s .cells) rest
 
@@ -115,14 +116,14 @@ module _ (s : Site) (fits : FitsSheet s) where
         (λ k l h. ap not (line-passed (s .cells) rest k h))
 
     -- and something after them
-    pub extra-after : 0 < length rest → readSheet (header (s .cells) ++ all) slots channels blocked ≡ badSheet (lineNumber (s .cells))
+    pub extra-after : 0 < length rest → readSheet (header (s .cells) ++ all) slots channels blocked rule ≡ badSheet (lineNumber (s .cells))
     unfolding cellsRead
     extra-after h =
-        first-passed (s .cells) rest slots channels blocked
+        first-passed (s .cells) rest slots channels blocked rule
         ∙ rw (no-bad, le-ltb (s .cells) (s .cells) (omega arith), rest-left (s .cells) rest, lt-ltb 0 (length rest) h)
 
     -- what is read is what was written
-    site-same : siteOfSheet (s .cells) all slots channels blocked ≡ siteOf (s .cells) slots channels (s .loads) (s .reach) blocked
+    site-same : siteOfSheet (s .cells) all slots channels blocked rule ≡ siteOf (s .cells) slots channels (s .loads) (s .reach) blocked rule
     unfolding siteOfSheet
     site-same =
         rw (
@@ -135,18 +136,18 @@ module _ (s : Site) (fits : FitsSheet s) where
         )
 
     all-judged : rest ≡ []
-        → readSheet (header (s .cells) ++ all) slots channels blocked ≡ judged (siteOf (s .cells) slots channels (s .loads) (s .reach) blocked)
+        → readSheet (header (s .cells) ++ all) slots channels blocked rule ≡ judged (siteOf (s .cells) slots channels (s .loads) (s .reach) blocked rule)
     unfolding cellsRead
     all-judged e =
-        first-passed (s .cells) rest slots channels blocked
+        first-passed (s .cells) rest slots channels blocked rule
         ∙ rw (no-bad, le-ltb (s .cells) (s .cells) (omega arith), rest-left (s .cells) rest, site-same, e)
 
   -- reading the sheet of a record, fine or not, is judging the record
-  pub sheet-judged : readSheet (sheetBytes s) (s .slots) (s .channels) (s .blocked) ≡ judged s
+  pub sheet-judged : readSheet (sheetBytes s) (s .slots) (s .channels) (s .blocked) (s .rule) ≡ judged s
   unfolding sheetBytes
   sheet-judged =
-      ap (λ (r : List ℕ). readSheet (header (s .cells) ++ r) (s .slots) (s .channels) (s .blocked)) (sym (append-nil (linesFrom s 0 (s .cells))))
-      ∙ all-judged [] (s .slots) (s .channels) (s .blocked) refl
+      ap (λ (r : List ℕ). readSheet (header (s .cells) ++ r) (s .slots) (s .channels) (s .blocked) (s .rule)) (sym (append-nil (linesFrom s 0 (s .cells))))
+      ∙ all-judged [] (s .slots) (s .channels) (s .blocked) (s .rule) refl
 
 -- a fine record can be held
 pub fine-fits : (s : Site) → Held s → faultOf s ≡ Fine → FitsSheet s
@@ -162,53 +163,53 @@ fine-fits s held fine =
 
 -- "Reading a written sheet gives the site"
 pub written-then-read : (s : Site) → FitsSheet s → faultOf s ≡ Fine
-    → readSheet (sheetBytes s) (s .slots) (s .channels) (s .blocked) ≡ record { site = s; answer = Done }
+    → readSheet (sheetBytes s) (s .slots) (s .channels) (s .blocked) (s .rule) ≡ record { site = s; answer = Done }
 unfolding judged
 written-then-read s fits fine = sheet-judged s fits ∙ rw fine
 
 -- ---- lines that are passed
 
 -- the site that the first k lines make
-abbrev pub made : ℕ → List ℕ → ℕ → ℕ → List ℕ → ℕ → Site
-made n r slots channels blocked k = siteOf n slots channels (loadsOfSheet n r k) (rowsOfSheet n r k) blocked
+abbrev pub made : ℕ → List ℕ → ℕ → ℕ → List ℕ → ℕ → ℕ → Site
+made n r slots channels blocked rule k = siteOf n slots channels (loadsOfSheet n r k) (rowsOfSheet n r k) blocked rule
 
-module _ (n : ℕ) (r : List ℕ) (slots channels : ℕ) (blocked : List ℕ) (k : ℕ) (cells : UpTo 32 n) (most : k ≤ n)
+module _ (n : ℕ) (r : List ℕ) (slots channels : ℕ) (blocked : List ℕ) (rule : ℕ) (k : ℕ) (cells : UpTo 32 n) (most : k ≤ n)
     (well : (j : ℕ) → j < k → lineOk n j (from n r j) ≡ true) where
   next : (j : ℕ) → j < k → from n r j ≡ lineIn n j (from n r j) ++ from n r (suc j)
   unfolding from
   next j h = line-there n j (from n r j) (well j h) .1
 
-  load-is : (j : ℕ) → j < k → loadAt (made n r slots channels blocked k) j ≡ loadOfLine j (from n r j)
+  load-is : (j : ℕ) → j < k → loadAt (made n r slots channels blocked rule k) j ≡ loadOfLine j (from n r j)
   load-is j h = rw (loads-fill n r k) (fill-at (λ i. loadOfLine i (from n r i)) k j h (omega arith))
 
-  row-is : (j : ℕ) → j < k → rowOf (made n r slots channels blocked k) j ≡ rowOfLine n j (from n r j)
+  row-is : (j : ℕ) → j < k → rowOf (made n r slots channels blocked rule k) j ≡ rowOfLine n j (from n r j)
   row-is j h = rw (rows-fill n r k) (fill-at (λ i. rowOfLine n i (from n r i)) k j h (omega arith))
 
-  line-is : (j : ℕ) → j < k → lineOf (made n r slots channels blocked k) j ≡ lineIn n j (from n r j)
+  line-is : (j : ℕ) → j < k → lineOf (made n r slots channels blocked rule k) j ≡ lineIn n j (from n r j)
   unfolding lineOf
   line-is j h = rw (load-is j h, row-is j h) (line-content n j (from n r j))
 
   -- they are its lines
-  pub lines-made : (d j : ℕ) → j + d ≡ k → from n r j ≡ linesFrom (made n r slots channels blocked k) j d ++ from n r k
+  pub lines-made : (d j : ℕ) → j + d ≡ k → from n r j ≡ linesFrom (made n r slots channels blocked rule k) j d ++ from n r k
   unfolding linesFrom
   lines-made zero j e = let g : j ≡ k = omega arith in ap (from n r) g
   lines-made (suc d) j e =
-      let m = made n r slots channels blocked k in
+      let m = made n r slots channels blocked rule k in
       next j (omega arith)
       ∙ rw (line-is j (omega arith), append-assoc (lineIn n j (from n r j)) (linesFrom m (suc j) d) (from n r k))
       (ap (λ (x : List ℕ). lineIn n j (from n r j) ++ x) (lines-made d (suc j) (omega arith)))
 
-  loads-few : (j : ℕ) → Dec (j < k) → loadAt (made n r slots channels blocked k) j ≤ 65535
+  loads-few : (j : ℕ) → Dec (j < k) → loadAt (made n r slots channels blocked rule k) j ≤ 65535
   loads-few j (yes h) = omega (arith, load-is j h, line-there n j (from n r j) (well j h) .0)
   loads-few j (no h) = rw (loads-fill n r k, fill-past (λ i. loadOfLine i (from n r i)) k j (omega arith)) (omega arith)
 
-  rows-narrow : (j : ℕ) → Dec (j < k) → rowOf (made n r slots channels blocked k) j < 2 ^ n
+  rows-narrow : (j : ℕ) → Dec (j < k) → rowOf (made n r slots channels blocked rule k) j < 2 ^ n
   unfolding rowOfLine
   rows-narrow j (yes h) = rw (row-is j h) (weigh-lt (markOfLine (marksOfLine j (from n r j))) (mark-two (marksOfLine j (from n r j))) n 0)
   rows-narrow j (no h) = rw (rows-fill n r k, fill-past (λ i. rowOfLine n i (from n r i)) k j (omega arith)) (pow-pos n)
 
   -- and a sheet can hold it
-  pub fits-made : BlockedHeld blocked → FitsSheet (made n r slots channels blocked k)
+  pub fits-made : BlockedHeld blocked → FitsSheet (made n r slots channels blocked rule k)
   fits-made words =
       let wide : 2 ^ n ≤ 2 ^ 32 = pow-le-pow-right (zero-lt-suc 1) (cells .1) in
       record {

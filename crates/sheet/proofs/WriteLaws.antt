@@ -58,7 +58,7 @@ module _ (s : Site) where
 -- ---- a site's lines by what they are made of
 
 abbrev pub plain : ℕ → List ℕ → List ℕ → Site
-plain n loads reach = siteOf n 0 0 loads reach []
+plain n loads reach = siteOf n 0 0 loads reach [] 0
 
 pub lines-plain : (s : Site) (m k : ℕ) → linesFrom s k m ≡ linesFrom (plain (s .cells) (s .loads) (s .reach)) k m
 unfolding linesFrom lineOf

@@ -7,7 +7,7 @@ use Rattle.site.specs.Given.{Given, faultGiven}
 use Rattle.sheet.specs.declared.SheetAnswer.{SheetAnswer}
 use Rattle.sheet.specs.declared.SheetAnswer.the-variants.{Done, BadLine, Refused}
 
--- 0 done; "17, sheet malformed, with its first bad line"; the record's 1, 3 with the row, and 20 with the position
+-- 0 done; "17, sheet malformed, with its first bad line"; the record's 1, 24, 3 with the row, and 20 with the position
 abbrev pub sheetGiven : SheetAnswer → Given
 sheetGiven Done = record { number = 0; values = [] }
 sheetGiven (BadLine line) = record { number = 17; values = line ∷ [] }

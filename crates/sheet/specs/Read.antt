@@ -31,8 +31,9 @@ rowsOfSheet n r zero = replicate 32 0
 rowsOfSheet n r (suc k) = set (rowsOfSheet n r k) k (rowOfLine n k (from n r k))
 
 -- the site that they make; "Slots and channels come beside it." W8: "The sheet is given its blocked set beside it."
-unfoldable pub siteOfSheet : ℕ → List ℕ → ℕ → ℕ → List ℕ → Site
-siteOfSheet n r slots channels blocked = siteOf n slots channels (loadsOfSheet n r n) (rowsOfSheet n r n) blocked
+-- W11: "the sheet is given its rule beside it"
+unfoldable pub siteOfSheet : ℕ → List ℕ → ℕ → ℕ → List ℕ → ℕ → Site
+siteOfSheet n r slots channels blocked rule = siteOf n slots channels (loadsOfSheet n r n) (rowsOfSheet n r n) blocked rule
 
 -- ---- the answer
 
@@ -47,7 +48,7 @@ refusedSheet answer = record { site = zeroSite; answer = answer }
 unfoldable pub badSheet : ℕ → SheetRead
 badSheet line = refusedSheet (BadLine line)
 
--- "after it 1, then 3 for a mark on oneself", and W8's 20 after 3: the record's own fault
+-- "after it 1, then 3 for a mark on oneself", W8's 20 after 3 and W11's 24 after 1: the record's own fault
 unfoldable pub judged : Site → SheetRead
 judged s = pick (isFine (faultOf s)) (sheetDone s) (refusedSheet (Refused (faultOf s)))
 
@@ -56,15 +57,15 @@ unfoldable pub badCell : ℕ → List ℕ → ℕ
 badCell n r = first (λ k. not (lineOk n k (from n r k))) 0 n
 
 -- the lines of n cells, and nothing after them: "missing and extra lines count"
-unfoldable pub cellsRead : ℕ → List ℕ → ℕ → ℕ → List ℕ → SheetRead
-cellsRead n r slots channels blocked =
+unfoldable pub cellsRead : ℕ → List ℕ → ℕ → ℕ → List ℕ → ℕ → SheetRead
+cellsRead n r slots channels blocked rule =
     pick (ltb (badCell n r) n) (badSheet (lineNumber (badCell n r)))
-    (pick (ltb 0 (length (from n r n))) (badSheet (lineNumber n)) (judged (siteOfSheet n r slots channels blocked)))
+    (pick (ltb 0 (length (from n r n))) (badSheet (lineNumber n)) (judged (siteOfSheet n r slots channels blocked rule)))
 
 -- what stands after the first line
 unfoldable pub body : List ℕ → List ℕ
 body b = drop (length (header (cellsOfLine b))) b
 
 -- the first line, and then those of the cells
-unfoldable pub readSheet : List ℕ → ℕ → ℕ → List ℕ → SheetRead
-readSheet b slots channels blocked = pick (headOk b) (cellsRead (cellsOfLine b) (body b) slots channels blocked) (badSheet 1)
+unfoldable pub readSheet : List ℕ → ℕ → ℕ → List ℕ → ℕ → SheetRead
+readSheet b slots channels blocked rule = pick (headOk b) (cellsRead (cellsOfLine b) (body b) slots channels blocked rule) (badSheet 1)

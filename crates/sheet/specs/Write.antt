@@ -9,7 +9,7 @@ use Rattle.site.specs.Record.{faultOf, isFine}
 use Rattle.site.specs.declared.Site.{Site}
 use Rattle.sheet.specs.Sheet.{sheetBytes}
 
--- "Writers: 1, 2, 3, .. 13"; W8: 20 after 3. The blocked set is not written: it comes beside the sheet
+-- "Writers: 1, 2, 3, .. 13"; W8: 20 after 3; W11: 24 after 1. The blocked set and the rule are not written: they come beside the sheet
 unfoldable pub sheetWritten : Site → List ℕ → Written
 sheetWritten s out = pick (isFine (faultOf s)) (written (sheetBytes s) out) (Refused (faultOf s))
 

@@ -1,4 +1,4 @@
-// The range sheet of the fitters, read into a site and written from one. Slots, channels and the blocked positions come beside it.
+// The range sheet of the fitters, read into a site and written from one. Slots, channels, the blocked positions and the rule come beside it.
 use lines::Head;
 use lines::Line;
 use lines::NOWHERE;
@@ -70,9 +70,10 @@ fn read_cells(
     slots: u16,
     channels: u16,
     blocked: [u64; 32],
+    rule: u16,
 ) -> SheetRead
     requires { ⌜ (0 < n) × (n ≤ 32) ⌝ }
-    ensures { λ r. ⌜ r ≡ cellsRead n (drop at (now (s .entry))) slots channels blocked ⌝ }
+    ensures { λ r. ⌜ r ≡ cellsRead n (drop at (now (s .entry))) slots channels blocked rule ⌝ }
 {
     let mut loads = [0u16; 32];
     let mut reach = [0u32; 32];
@@ -99,12 +100,19 @@ fn read_cells(
         loads,
         reach,
         blocked,
+        rule,
     })
 }
 
-// Reads a sheet, of a site with these slots, channels and blocked positions: 17, 1, 3, then 20.
-pub fn read_sheet(bytes: &[u8], slots: u16, channels: u16, blocked: [u64; 32]) -> SheetRead
-    ensures { λ r. ⌜ r ≡ readSheet (now (bytes .entry)) slots channels blocked ⌝ }
+// Reads a sheet, of a site with these slots, channels, blocked positions and this rule: 17, 1, 24, 3, then 20.
+pub fn read_sheet(
+    bytes: &[u8],
+    slots: u16,
+    channels: u16,
+    blocked: [u64; 32],
+    rule: u16,
+) -> SheetRead
+    ensures { λ r. ⌜ r ≡ readSheet (now (bytes .entry)) slots channels blocked rule ⌝ }
 {
     let h = read_head(bytes);
     let at = h.next;
@@ -112,7 +120,7 @@ pub fn read_sheet(bytes: &[u8], slots: u16, channels: u16, blocked: [u64; 32]) -
     if at == NOWHERE {
         return bad_at(1);
     }
-    read_cells(bytes, at, n, slots, channels, blocked)
+    read_cells(bytes, at, n, slots, channels, blocked, rule)
 }
 
 // One more, where the number is above the bound.

@@ -14,7 +14,7 @@ use Rattle.site.specs.Record.{isFine, faultOf}
 use Rattle.site.specs.Reach.{clashNamed, clashAnswer}
 use Rattle.site.specs.declared.Site.{Site}
 use Rattle.site.specs.declared.Fault.{Fault}
-use Rattle.site.specs.declared.Fault.the-variants.{Fine, Size, Load, Reach, Blocked}
+use Rattle.site.specs.declared.Fault.the-variants.{Fine, Size, Rule, Load, Reach, Blocked}
 use Rattle.site.specs.declared.ClashAnswer.the-variants.{Clear, Clash, Refused}
 
 -- For an answer type A whose refusals tell their faults apart: a call whose answer for a record with no fault is no refusal.
@@ -34,6 +34,7 @@ pub proper-call : {A : Type 0} (proper : A → Bool) (refused : Fault → A) →
     → (f : Fault) (done : A) → proper done ≡ true → proper (pick (isFine f) done (refused f)) ≡ true
 proper-call proper refused only Fine done h = h
 proper-call proper refused only Size done h = only Size
+proper-call proper refused only Rule done h = only Rule
 proper-call proper refused only (Load k) done h = only (Load k)
 proper-call proper refused only (Reach k) done h = only (Reach k)
 proper-call proper refused only (Blocked k) done h = only (Blocked k)

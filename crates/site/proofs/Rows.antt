@@ -18,6 +18,7 @@ use Rattle.laws.proofs.Bits.{bit-above}
 use Rattle.laws.proofs.Words.{word-bit, word-past, word-eq, word-within, none-word}
 use Rattle.laws.specs.Choice.{pick}
 use Rattle.laws.proofs.Stores.{length-list, list-at, list-eq, sets-zeros}
+use Rattle.reachrows.proofs.Rules.{both-none}
 use Rattle.site.specs.Record.{faultOf}
 use Rattle.site.specs.Reach.{reaches, clashIn, clashOf, clashWithin, clashRows}
 use Rattle.site.specs.declared.Site.{Site}
@@ -56,14 +57,17 @@ module _ (s : Site) where
   made-at n true q e = rw e (long (ltb-true 32 (s .cells) q))
   made-at n false q e = let most : s .cells ≤ 32 = ltb-false 32 (s .cells) q in short n e (omega arith)
 
-  pub rows-made : (n : ℕ) → n ≡ pick (ltb 32 (s .cells)) 32 (s .cells) → sets (replicate 32 0) 0 (listOf (λ a. wordOf (clashOf s a) n) n) ≡ clashRows s
-  rows-made n e = made-at n (ltb 32 (s .cells)) refl e
+  -- by the relation of the site's rule, whatever it is called
+  pub rows-made : (clash : ℕ → ℕ → Bool) (n : ℕ) → clash ≡ clashOf s → n ≡ pick (ltb 32 (s .cells)) 32 (s .cells)
+      → sets (replicate 32 0) 0 (listOf (λ a. wordOf (clash a) n) n) ≡ clashRows s
+  rows-made clash n same e =
+      ap (λ (f : ℕ → ℕ → Bool). sets (replicate 32 0) 0 (listOf (λ a. wordOf (f a) n) n)) same ∙ made-at n (ltb 32 (s .cells)) refl e
 
 -- ---- a relation that has nothing beyond I, in rows
 module _ (s : Site) (few : s .cells ≤ 32) (none : (a b : ℕ) → s .cells ≤ a → clashOf s a b ≡ false) where
   within-at : (a b : ℕ) (t u : Bool) → ltb a (s .cells) ≡ t → ltb b (s .cells) ≡ u → (t && (u && clashOf s a b)) ≡ clashOf s a b
   within-at a b true true p q = refl
-  within-at a b true false p q = sym (clash-sym (s .reach) a b ∙ none b a (ltb-false b (s .cells) q))
+  within-at a b true false p q = sym (clash-sym (s .rule) (s .reach) a b ∙ none b a (ltb-false b (s .cells) q))
   within-at a b false u p q = sym (none a b (ltb-false a (s .cells) p))
 
   within : (a b : ℕ) → clashWithin s a b ≡ clashOf s a b
@@ -74,7 +78,7 @@ module _ (s : Site) (few : s .cells ≤ 32) (none : (a b : ℕ) → s .cells ≤
       ⊎-elim (λ h. word-bit (clashWithin s a) 32 b (ltb-true b 32 h) ∙ within a b)
       (λ h.
       let past : 32 ≤ b = ltb-false b 32 h in
-      word-past (clashWithin s a) 32 b past ∙ sym (clash-sym (s .reach) a b ∙ none b a (omega arith)))
+      word-past (clashWithin s a) 32 b past ∙ sym (clash-sym (s .rule) (s .reach) a b ∙ none b a (omega arith)))
       (cases (ltb b 32))
 
   rows-bit : (a b : ℕ) → bitIn (clashRows s) a b ≡ clashOf s a b
@@ -106,7 +110,13 @@ module _ (s : Site) (fine : faultOf s ≡ Fine) (long : length (s .reach) ≡ 32
 
   clash-outside : (a b : ℕ) → s .cells ≤ a → clashOf s a b ≡ false
   unfolding clashIn
-  clash-outside a b h = simp (outside a b (λ l m. omega arith), outside b a (λ l m. omega arith), and-false)
+  clash-outside a b h =
+      simp (
+        outside a b (λ l m. omega arith),
+        outside b a (λ l m. omega arith),
+        both-none (s .reach) a b (λ c. outside a c (λ l m. omega arith)),
+        and-false,
+      )
 
   pub rows-clash : bitIn (clashRows s) ≡ clashOf s
   rows-clash = relation s (fine-sized s fine .cells-most) clash-outside

@@ -11,7 +11,7 @@ use Rattle.site.specs.Record.{loadAt, faultOf}
 use Rattle.site.specs.Reach.{reaches}
 use Rattle.site.specs.declared.Site.{Site}
 use Rattle.site.specs.declared.Fault.{Fault}
-use Rattle.site.specs.declared.Fault.the-variants.{Fine, Size, Load, Reach, Blocked}
+use Rattle.site.specs.declared.Fault.the-variants.{Fine, Size, Rule, Load, Reach, Blocked}
 use Rattle.site.specs.declared.ClashAnswer.{ClashAnswer}
 use Rattle.site.specs.declared.ClashAnswer.the-variants.{Clear, Clash, Refused}
 
@@ -37,6 +37,10 @@ pub record Sizes (i t f : ℕ) : Type 0 where
 abbrev pub Sized : Site → Type 0
 Sized s = Sizes (s .cells) (s .slots) (s .channels)
 
+-- W11: rule 1 or rule 2
+abbrev pub Ruled : Site → Type 0
+Ruled s = (s .rule ≡ 1) ⊎ (s .rule ≡ 2)
+
 -- "load set beyond cell I": of this cell
 abbrev pub LoadBeyond : Site → ℕ → Type 0
 LoadBeyond s cell = (s .cells < cell) × (cell ≤ 32) × (1 ≤ getD (s .loads) (cell - 1) 0)
@@ -51,26 +55,35 @@ pub record RowGood (s : Site) (row : ℕ) : Type 0 where
 abbrev pub BlockedBeyond : Site → ℕ → Type 0
 BlockedBeyond s k = (s .slots * s .channels ≤ k) × (k < 2048) × (getD (s .blocked) (k / 64) 0 / 2 ^ (k % 64) % 2 ≡ 1)
 
--- which fault is a record's: 1, then 2 with the "lowest such cell", then 3 with the "lowest row", then 20 with the lowest position
+-- which fault is a record's: 1, then 24, then 2 with the "lowest such cell", then 3 with the "lowest row", then 20 with the lowest position
 abbrev pub FaultMeans : Site → Fault → Type 0
 FaultMeans s Size = Sized s → ⊥
-FaultMeans s (Load cell) = Sized s × LoadBeyond s cell × ((k : ℕ) → k < cell → LoadBeyond s k → ⊥)
+FaultMeans s Rule = Sized s × (Ruled s → ⊥)
+FaultMeans s (Load cell) = Sized s × Ruled s × LoadBeyond s cell × ((k : ℕ) → k < cell → LoadBeyond s k → ⊥)
 FaultMeans s (Reach row) =
-    Sized s × ((k : ℕ) → LoadBeyond s k → ⊥) × UpTo 32 row × (RowGood s row → ⊥) × ((k : ℕ) → 1 ≤ k → k < row → RowGood s k)
+    Sized s × Ruled s × ((k : ℕ) → LoadBeyond s k → ⊥) × UpTo 32 row × (RowGood s row → ⊥) × ((k : ℕ) → 1 ≤ k → k < row → RowGood s k)
 FaultMeans s (Blocked k) =
-    Sized s × ((j : ℕ) → LoadBeyond s j → ⊥) × ((j : ℕ) → UpTo 32 j → RowGood s j)
+    Sized s × Ruled s × ((j : ℕ) → LoadBeyond s j → ⊥) × ((j : ℕ) → UpTo 32 j → RowGood s j)
     × BlockedBeyond s k × ((j : ℕ) → j < k → BlockedBeyond s j → ⊥)
 FaultMeans s Fine =
-    Sized s × ((k : ℕ) → LoadBeyond s k → ⊥) × ((k : ℕ) → UpTo 32 k → RowGood s k) × ((k : ℕ) → BlockedBeyond s k → ⊥)
+    Sized s × Ruled s × ((k : ℕ) → LoadBeyond s k → ⊥) × ((k : ℕ) → UpTo 32 k → RowGood s k) × ((k : ℕ) → BlockedBeyond s k → ⊥)
 
 -- ---- clash
 
--- "Two different cells clash when either reaches the other": cells of the site
+-- W11: "some third cell is reached by both": this cell of the site, which is neither of the two
+pub record Third (s : Site) (a b c : ℕ) : Type 0 where
+  pub inside : UpTo (s .cells) c
+  pub not-first : c ≡ a → ⊥
+  pub not-second : c ≡ b → ⊥
+  pub by-first : Reaches s a c
+  pub by-second : Reaches s b c
+
+-- "Two different cells clash when either reaches the other": cells of the site. W11: under rule 2 "also when some third cell is reached by both"
 pub record Clashing (s : Site) (a b : ℕ) : Type 0 where
   pub first-in : UpTo (s .cells) a
   pub second-in : UpTo (s .cells) b
   pub two : a ≡ b → ⊥
-  pub either : Reaches s a b ⊎ Reaches s b a
+  pub why : Reaches s a b ⊎ (Reaches s b a ⊎ ((s .rule ≡ 2) × ((c : ℕ) × Third s a b c)))
 
 -- which answer is the clash call's; a record's fault is passed on
 abbrev pub ClashMeans : Site → ℕ → ℕ → ClashAnswer → Type 0
@@ -98,6 +111,7 @@ pub record LoadChanged (s t : Site) (cell v : ℕ) : Type 0 where
   pub slots : t .slots ≡ s .slots
   pub channels : t .channels ≡ s .channels
   pub blocked : t .blocked ≡ s .blocked
+  pub rule : t .rule ≡ s .rule
 
 -- a reach edit: that reach, to `now`, and nothing else
 pub record ReachChanged (s t : Site) (from to : ℕ) (now : Bool) : Type 0 where
@@ -107,3 +121,4 @@ pub record ReachChanged (s t : Site) (from to : ℕ) (now : Bool) : Type 0 where
   pub slots : t .slots ≡ s .slots
   pub channels : t .channels ≡ s .channels
   pub blocked : t .blocked ≡ s .blocked
+  pub rule : t .rule ≡ s .rule

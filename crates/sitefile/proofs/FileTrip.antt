@@ -5,7 +5,7 @@ use Prim.Native.Nat.{ℕ, _+_, _-_, _*_, _%_, _≤_, _<_}
 use mathlib.Core.Path.{_≡_, refl, sym, ap, ap₂, _∙_}
 use mathlib.Core.Bool.{Bool, true, false}
 use mathlib.Core.List.{List, [], _∷_, _++_, append-nil}
-use mathlib.Core.Logic.{⊎-elim}
+use mathlib.Core.Logic.{_⊎_, ⊎-elim}
 use native.Mathlib.Nat.{zero-add}
 use native.Mathlib.Decide.{decLt}
 use native.Mathlib.Omega.{arith}
@@ -20,18 +20,18 @@ use Rattle.records.specs.Bits.{bytesFor, leftOver}
 use Rattle.records.specs.Bytes.{Bytes, le16, twoBytesEach, numbersIn}
 use Rattle.records.specs.Layout.{recordOf, bodyAt, recordEnd}
 use Rattle.records.specs.Reasons.{firstReason, recordReasons, NoneApply}
-use Rattle.records.specs.Head.{cellsOfHead, slotsOfHead, channelsOfHead, headRecord, headAnswer}
+use Rattle.records.specs.Head.{cellsOfHead, slotsOfHead, channelsOfHead}
 use Rattle.records.specs.declared.ReadAnswer.{ReadAnswer}
 use Rattle.records.specs.declared.ReadAnswer.the-variants.{Done, Refused}
 use Rattle.records.specs.declared.Length.the-variants.{Exact, Pairs}
 use Rattle.records.proofs.Laws.{Opening, record-open, exact, even, exact-true, pairs-true, length-least}
 use Rattle.records.proofs.Bytes.{bytes-drop, bytes-take, two-bytes-length, numbers-length, numbers-trip, bytes-trip}
 use Rattle.records.proofs.Reasons.{andThen, both-done, done-none, none-done}
-use Rattle.records.proofs.Head.{HeadGood, head-read, head-done}
-use Rattle.records.proofs.RecordTrip.{record-body, rest-back, record-back, body-length, record-again, head-again}
-use Rattle.site.specs.Record.{positions, sizeOk, siteOf}
+use Rattle.records.proofs.RecordTrip.{record-body, rest-back, record-back, body-length, record-again}
+use Rattle.site.specs.Record.{positions, siteOf}
 use Rattle.site.specs.declared.Site.{Site}
-use Rattle.site.proofs.Faults.{Sizes, sizes, sizes-is, few-positions}
+use Rattle.site.proofs.Faults.{Sizes, sizes, few-positions, ruled}
+use Rattle.sitefile.specs.Head.{ruleOfHead, siteHeadAnswer, siteHead, headKind, headBody}
 use Rattle.sitefile.specs.Blocks.{blockedOfBody, blockBytes, nothingIn, blockRecord}
 use Rattle.sitefile.specs.Reasons.{loadsAt, reachAt, lastAt, positionsOfHead, loadsReasons, pairReasons, reachReasons, blockReasons, lastReasons}
 use Rattle.sitefile.specs.Read.{allZero, loadsOfBody, reachOfBody, blockedOr, siteOfFile, siteAnswer}
@@ -39,6 +39,7 @@ use Rattle.sitefile.specs.Loop.{pairsReadOf, pairsRead, blocksRead}
 use Rattle.sitefile.specs.Write.{pairBytes, siteBytes}
 use Rattle.sitefile.specs.declared.PairsRead.{PairsRead}
 use Rattle.sitefile.specs.declared.BlocksRead.{BlocksRead}
+use Rattle.sitefile.proofs.Head.{SiteHeadGood, site-head-read, head-written}
 use Rattle.sitefile.proofs.WriteLaws.{pair-bytes-even}
 use Rattle.sitefile.proofs.Rows.{Rows}
 use Rattle.sitefile.proofs.PairTrip.{Named, rowsRead, pairs-read, pairs-written}
@@ -51,6 +52,7 @@ use Rattle.sitefile.proofs.ReadLaws.{last-none, blocks-told, blocks-giv
 -- a site whose record is in order
 pub record GoodSite (s : Site) : Type 0 where
   pub range : Sizes (s .cells) (s .slots) (s .channels)
+  pub rule-in : (s .rule ≡ 1) ⊎ (s .rule ≡ 2)
   pub size : length (s .loads) ≡ 32
   pub unused : (k : ℕ) → s .cells ≤ k → getD (s .loads) k 0 ≡ 0
   pub rows : Rows (s .reach)
@@ -107,12 +109,13 @@ module _ (s : Site) (good : GoodSite s) where
   E = blockRecord (s .blocked) (positions s)
 
   -- where each record stands
-  head-here : drop 0 B ≡ headRecord (s .cells) (s .slots) (s .channels) ++ (recordOf 2 L ++ (recordOf 3 P ++ E))
+  head-here : drop 0 B ≡ siteHead (s .rule) (s .cells) (s .slots) (s .channels) ++ (recordOf 2 L ++ (recordOf 3 P ++ E))
   unfolding siteBytes
   head-here = refl
 
   loads-here : drop (loadsAt B) B ≡ recordOf 2 L ++ (recordOf 3 P ++ E)
-  loads-here = rest-back B 0 1 (twoBytesEach (s .cells ∷ s .slots ∷ s .channels ∷ [])) (recordOf 2 L ++ (recordOf 3 P ++ E)) head-here
+  loads-here =
+      rest-back B 0 (headKind (s .rule)) (headBody (s .rule) (s .cells) (s .slots) (s .channels)) (recordOf 2 L ++ (recordOf 3 P ++ E)) head-here
 
   reach-here : drop (reachAt B) B ≡ recordOf 3 P ++ E
   reach-here = rest-back B (loadsAt B) 2 L (recordOf 3 P ++ E) loads-here
@@ -133,12 +136,11 @@ module _ (s : Site) (good : GoodSite s) where
   channels-back = omega arith
 
   -- each record has no reason to be refused
-  head-good : headAnswer B ≡ Done
-  head-good =
-      head-done B
-      (record-back B 0 1 (twoBytesEach (s .cells ∷ s .slots ∷ s .channels ∷ [])) (recordOf 2 L ++ (recordOf 3 P ++ E)) head-here
-      (Exact 8) (exact-true 8 (omega arith)))
-      ((λ j. sizeOk (cells-back j) (slots-back j) (channels-back j)) ∙ sizes-is _ _ _ (good .range))
+  head-told : (siteHeadAnswer B ≡ Done) × (ruleOfHead B ≡ s .rule)
+  head-told = head-written B (recordOf 2 L ++ (recordOf 3 P ++ E)) (s .cells) (s .slots) (s .channels) (good .range) (s .rule) (good .rule-in) head-here
+
+  head-good : siteHeadAnswer B ≡ Done
+  head-good = head-told .0
 
   loads-good : firstReason (loadsReasons B (loadsAt B) (cellsOfHead B)) ≡ Done
   loads-good =
@@ -249,10 +251,11 @@ module _ (s : Site) (good : GoodSite s) where
   unfolding siteOfFile
   written-stated =
       λ j. siteOf (cells-back j) (slots-back j) (channels-back j) (loads-stated j) ((ap reachOfBody reach-body ∙ pairs-back 0 .1) j) (blocked-stated j)
+      (head-told .1 j)
 
 -- what an accepted file tells: each record is open, its contents are in order, and nothing follows the last
 pub record Accepted (b : List ℕ) : Type 0 where
-  pub head : HeadGood b
+  pub head : SiteHeadGood b
   pub loads : Opening b (loadsAt b) 2 (Exact (2 + 2 * cellsOfHead b)) (loadsAt b + 4) (le16 b (loadsAt b) - 2)
   pub reach : Opening b (reachAt b) 3 Pairs (reachAt b + 4) (le16 b (reachAt b) - 2)
   pub pairs : firstReason (pairReasons (cellsOfHead b) (reachAt b) 0 0 (bodyAt b (reachAt b))) ≡ Done
@@ -265,7 +268,7 @@ accepted b e =
     let k = both-done _ _ (l .1) in
     let r = both-done _ _ (sym (reach-parts b (reachAt b) (cellsOfHead b)) ∙ k .0) in
     record {
-      head = head-read b (h .0);
+      head = site-head-read b (h .0);
       loads = record-open b (loadsAt b) 2 (Exact (2 + 2 * cellsOfHead b)) (l .0);
       reach = record-open b (reachAt b) 3 Pairs (r .0);
       pairs = r .1;
@@ -388,7 +391,7 @@ module _ (b : List ℕ) (bytes : Bytes b) (done : siteAnswer b ≡ Done) where
   pub read-written : siteBytes (siteOfFile b) ≡ b
   unfolding siteBytes siteOfFile
   read-written =
-      let H = headRecord (cellsOfHead b) (slotsOfHead b) (channelsOfHead b) in
+      let H = siteHead (ruleOfHead b) (cellsOfHead b) (slotsOfHead b) (channelsOfHead b) in
       let M = recordOf 2 (twoBytesEach (take (cellsOfHead b) (loadsOfBody X))) in
       let third : recordOf 3 (pairBytes (reachOfBody Y)) ++ blockRecord (blockedOr b (lastAt b)) N ≡ drop (reachAt b) b =
       (λ j. recordOf 3 (rows-trip .0 j) ++ last-again j) ∙ record-again b bytes (reachAt b) 3 Pairs _ _ (a .reach) in
@@ -396,7 +399,7 @@ module _ (b : List ℕ) (bytes : Bytes b) (done : siteAnswer b ≡ Done) where
       ap (λ (l : List ℕ). recordOf 2 l ++ drop (reachAt b) b) loads-bytes ∙ record-again b bytes (loadsAt b) 2 (Exact (2 + 2 * cellsOfHead b)) _ _ (a .loads) in
       ap (λ (l : List ℕ). H ++ (M ++ l)) third
       ∙ ap (λ (l : List ℕ). H ++ l) second
-      ∙ head-again b bytes (a .head)
+      ∙ a .head .again bytes
 
   -- what is read is in order
   pub read-good : GoodSite (siteOfFile b)
@@ -404,6 +407,7 @@ module _ (b : List ℕ) (bytes : Bytes b) (done : siteAnswer b ≡ Done) where
   read-good =
       record {
         range = range;
+        rule-in = ruled (ruleOfHead b) (a .head .ruled);
         size = length-sets allZero 0 (numbersIn X);
         unused = λ k h. sets-past (numbersIn X) allZero 0 k (omega (arith, w-length)) ∙ zeros-at 32 k;
         rows = rows-trip .1;

@@ -16,7 +16,7 @@ use Rattle.site.proofs.Accepted.{fine-sound, sound-fine, row-ok, ok-row, row-no
 use Rattle.site.specs.Held.{Held}
 use Rattle.sitefile.proofs.PairLaws.{PairOk, pair-ok, pair-is}
 use Rattle.laws.proofs.Bits.{some-left, no-bits}
-use Rattle.site.proofs.Faults.{sizes, sizes-is}
+use Rattle.site.proofs.Faults.{sizes, sizes-is, ruled, ruled-is}
 use Rattle.sitefile.proofs.Rows.{digitIn}
 use Rattle.sitefile.proofs.PairTrip.{Named}
 use Rattle.sitefile.proofs.FileTrip.{GoodSite}
@@ -57,6 +57,7 @@ module _ (s : Site) (held : Held s) (fine : faultOf s ≡ Fine) where
   fine-good =
       record {
         range = sizes _ _ _ (fine-sound s fine .sizes);
+        rule-in = ruled (s .rule) (fine-sound s fine .rule-ok);
         size = held .loads;
         unused = no-load;
         rows = record { size = held .rows; fits = held .bits };
@@ -94,6 +95,7 @@ module _ (s : Site) (good : GoodSite s) where
   good-fine =
       sound-fine s (record {
         sizes = sizes-is (s .cells) (s .slots) (s .channels) (good .range);
+        rule-ok = ruled-is (s .rule) (good .rule-in);
         loads = λ k a b. good .unused k a;
         rows = row-passes;
         none-past = good .blocked .none-past;

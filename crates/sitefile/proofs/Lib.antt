@@ -13,6 +13,7 @@ pub mod Good
 pub mod Trip
 pub mod Before
 pub mod Example
+pub mod Head
 pub mod Reasons
 pub mod PassedOn
 pub mod Zeros

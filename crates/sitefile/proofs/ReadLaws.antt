@@ -14,12 +14,13 @@ use Rattle.records.specs.Bits.{bytesFor, leftOver}
 use Rattle.records.specs.Bytes.{le16}
 use Rattle.records.specs.Layout.{bodyAt, recordEnd}
 use Rattle.records.specs.Reasons.{Reason, reason, firstReason, recordReasons, endReason}
-use Rattle.records.specs.Head.{cellsOfHead, headAnswer}
+use Rattle.records.specs.Head.{cellsOfHead}
 use Rattle.records.specs.declared.Length.the-variants.{Exact, Pairs}
 use Rattle.records.specs.declared.ReadAnswer.{ReadAnswer}
 use Rattle.records.specs.declared.ReadAnswer.the-variants.{Done, Refused}
 use Rattle.records.proofs.Laws.{Opening, record-open, exact, within}
 use Rattle.records.proofs.Reasons.{andThen, first-append, both-done}
+use Rattle.sitefile.specs.Head.{siteHeadAnswer}
 use Rattle.sitefile.specs.Blocks.{blockedOfBody, nothingIn}
 use Rattle.sitefile.specs.Reasons.{loadsAt, reachAt, lastAt, positionsOfHead, loadsReasons, pairReasons, reachReasons, blockReasons, lastReasons}
 use Rattle.sitefile.specs.Read.{reachOfBody, blockedOr, siteAnswer}
@@ -153,10 +154,10 @@ module _ (s : List ℕ) where
   abbrev Z : ReadAnswer
   Z = firstReason (lastReasons s (lastAt s) (positionsOfHead s))
 
-  pub head-stop : (n k : ℕ) → headAnswer s ≡ Refused n k → siteAnswer s ≡ Refused n k
+  pub head-stop : (n k : ℕ) → siteHeadAnswer s ≡ Refused n k → siteAnswer s ≡ Refused n k
   head-stop n k e = site-parts s ∙ ap (λ (x : ReadAnswer). andThen x (andThen L (andThen K Z))) e
 
-  module _ (head : headAnswer s ≡ Done) where
+  module _ (head : siteHeadAnswer s ≡ Done) where
     past-head : siteAnswer s ≡ andThen L (andThen K Z)
     past-head = site-parts s ∙ ap (λ (x : ReadAnswer). andThen x (andThen L (andThen K Z))) head
 

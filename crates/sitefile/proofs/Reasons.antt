@@ -1,6 +1,6 @@
 -- A site read is refused for the first reason in document 01's order: record by record, and then for bytes after the last one. Assumes nothing.
 use Prim.Native.Nat.{ℕ, _≤_}
-use mathlib.Core.Path.{_≡_, refl, sym, ap, _∙_}
+use mathlib.Core.Path.{_≡_, refl, sym, ap, ap₂, _∙_}
 use mathlib.Core.List.{List, [], _∷_, _++_, map, map-append}
 use mathlib.Core.Bool.{Bool, true, false}
 use native.Mathlib.Omega.{arith}
@@ -9,7 +9,7 @@ use lib.ListN.{length}
 use Rattle.laws.specs.Choice.{pick}
 use Rattle.records.specs.Layout.{bodyAt, recordEnd}
 use Rattle.records.specs.Reasons.{Reason, firstReason, recordReasons, First}
-use Rattle.records.specs.Head.{cellsOfHead, headReasons, headAnswer}
+use Rattle.records.specs.Head.{cellsOfHead, headReasons}
 use Rattle.records.specs.declared.Length.the-variants.{Pairs}
 use Rattle.records.specs.declared.ReadAnswer.{ReadAnswer}
 use Rattle.records.specs.declared.ReadAnswer.the-variants.{Done, Refused}
@@ -17,6 +17,7 @@ use Rattle.records.proofs.Reasons.{andThen, first-append, refused-first, Some, 
 use Rattle.site.specs.declared.Site.{Site}
 use Rattle.sitefile.specs.Reasons.{loadsAt, reachAt, lastAt, positionsOfHead, loadsReasons, pairReasons, reachReasons, blockReasons}
 use Rattle.sitefile.specs.Reasons.{lastReasons, siteReasons}
+use Rattle.sitefile.specs.Head.{isRuled, ruledReasons, siteHeadReasons, siteHeadAnswer}
 use Rattle.sitefile.specs.Read.{siteOfFile, siteAnswer, siteDone, refusedSite, siteReadOf, readSite}
 
 module _ (s : List ℕ) where
@@ -28,15 +29,15 @@ module _ (s : List ℕ) where
 
   pub site-parts :
       siteAnswer s
-      ≡ andThen (headAnswer s) (andThen (firstReason (loadsReasons s (loadsAt s) (cellsOfHead s)))
+      ≡ andThen (siteHeadAnswer s) (andThen (firstReason (loadsReasons s (loadsAt s) (cellsOfHead s)))
       (andThen (firstReason (reachReasons s (reachAt s) (cellsOfHead s))) (firstReason (lastReasons s (lastAt s) (positionsOfHead s)))))
-  unfolding siteAnswer siteReasons headAnswer
+  unfolding siteAnswer siteReasons siteHeadAnswer
   site-parts =
       let loads = loadsReasons s (loadsAt s) (cellsOfHead s) in
       let reach = reachReasons s (reachAt s) (cellsOfHead s) in
       let last = lastReasons s (lastAt s) (positionsOfHead s) in
-      first-append (headReasons s) (loads ++ (reach ++ last))
-      ∙ ap (andThen (firstReason (headReasons s))) (first-append loads (reach ++ last) ∙ ap (andThen (firstReason loads)) (first-append reach last))
+      first-append (siteHeadReasons s) (loads ++ (reach ++ last))
+      ∙ ap (andThen (firstReason (siteHeadReasons s))) (first-append loads (reach ++ last) ∙ ap (andThen (firstReason loads)) (first-append reach last))
 
   -- what a read gives, by its answer
   pub refuse : (n at : ℕ) → siteAnswer s ≡ Refused n at → refusedSite (Refused n at) ≡ readSite s
@@ -57,7 +58,7 @@ pub first-refused : (s : List ℕ) → readSite s .answer ≡ siteAnswer s
 unfolding readSite
 first-refused s = answer-of (siteOfFile s) (siteAnswer s)
 
--- the order, as numbers and offsets: head, its contents, loads, reach, its pairs, then kind 6 where it is due, with 14, 21 and 12
+-- the order, as numbers and offsets: head, its contents (kind 5: 1, then 24), loads, reach, its pairs, then kind 6 where it is due, with 14, 21 and 12
 last-numbers :
     (s : List ℕ) (at n : ℕ) → map (λ (r : Reason). r .number) (lastReasons s at n) ≡ pick (ltb at (length s)) (8 ∷ 9 ∷ 10 ∷ 8 ∷ 14 ∷ 21 ∷ 12 ∷ []) []
 unfolding lastReasons
@@ -77,29 +78,60 @@ last-offsets s at n = go (ltb at (length s))
     go true = refl
     go false = refl
 
+-- the head: W11, 24 after 1, of kind 5 alone
+head-numbers :
+    (s : List ℕ) → map (λ (r : Reason). r .number) (siteHeadReasons s) ≡ pick (isRuled s) (8 ∷ 9 ∷ 10 ∷ 8 ∷ 1 ∷ 24 ∷ []) (8 ∷ 9 ∷ 10 ∷ 8 ∷ 1 ∷ [])
+unfolding siteHeadReasons
+head-numbers s = go (isRuled s)
+  where
+    go :
+        (t : Bool) →
+        map (λ (r : Reason). r .number) (pick t (ruledReasons s) (headReasons s)) ≡ pick t (8 ∷ 9 ∷ 10 ∷ 8 ∷ 1 ∷ 24 ∷ []) (8 ∷ 9 ∷ 10 ∷ 8 ∷ 1 ∷ [])
+    go true = refl
+    go false = refl
+
+head-offsets :
+    (s : List ℕ) → map (λ (r : Reason). r .offset) (siteHeadReasons s) ≡ pick (isRuled s) (0 ∷ 0 ∷ 0 ∷ 0 ∷ 0 ∷ 0 ∷ []) (0 ∷ 0 ∷ 0 ∷ 0 ∷ 0 ∷ [])
+unfolding siteHeadReasons
+head-offsets s = go (isRuled s)
+  where
+    go :
+        (t : Bool) →
+        map (λ (r : Reason). r .offset) (pick t (ruledReasons s) (headReasons s)) ≡ pick t (0 ∷ 0 ∷ 0 ∷ 0 ∷ 0 ∷ 0 ∷ []) (0 ∷ 0 ∷ 0 ∷ 0 ∷ 0 ∷ [])
+    go true = refl
+    go false = refl
+
+-- the records after the head
+abbrev rest : List ℕ → List Reason
+rest s =
+    loadsReasons s (loadsAt s) (cellsOfHead s) ++ (reachReasons s (reachAt s) (cellsOfHead s) ++ lastReasons s (lastAt s) (positionsOfHead s))
+
 pub numbers :
     (s : List ℕ) →
     map (λ (r : Reason). r .number) (siteReasons s)
-    ≡ 8 ∷ 9 ∷ 10 ∷ 8 ∷ 1 ∷ 8 ∷ 9 ∷ 10 ∷ 8 ∷ 8 ∷ 9 ∷ 10 ∷ 8
+    ≡ pick (isRuled s) (8 ∷ 9 ∷ 10 ∷ 8 ∷ 1 ∷ 24 ∷ []) (8 ∷ 9 ∷ 10 ∷ 8 ∷ 1 ∷ []) ++ (8 ∷ 9 ∷ 10 ∷ 8 ∷ 8 ∷ 9 ∷ 10 ∷ 8
     ∷ (map (λ (r : Reason). r .number) (pairReasons (cellsOfHead s) (reachAt s) 0 0 (bodyAt s (reachAt s)))
-    ++ pick (ltb (lastAt s) (length s)) (8 ∷ 9 ∷ 10 ∷ 8 ∷ 14 ∷ 21 ∷ 12 ∷ []) [])
+    ++ pick (ltb (lastAt s) (length s)) (8 ∷ 9 ∷ 10 ∷ 8 ∷ 14 ∷ 21 ∷ 12 ∷ []) []))
 unfolding siteReasons
 numbers s =
     let pairs = pairReasons (cellsOfHead s) (reachAt s) 0 0 (bodyAt s (reachAt s)) in
-    ap (λ (l : List ℕ). 8 ∷ 9 ∷ 10 ∷ 8 ∷ 1 ∷ 8 ∷ 9 ∷ 10 ∷ 8 ∷ 8 ∷ 9 ∷ 10 ∷ 8 ∷ l)
+    map-append (λ (r : Reason). r .number) (siteHeadReasons s) (rest s)
+    ∙ ap₂ (λ (h l : List ℕ). h ++ (8 ∷ 9 ∷ 10 ∷ 8 ∷ 8 ∷ 9 ∷ 10 ∷ 8 ∷ l)) (head-numbers s)
     (map-append (λ (r : Reason). r .number) pairs (lastReasons s (lastAt s) (positionsOfHead s))
     ∙ ap (λ (l : List ℕ). map (λ (r : Reason). r .number) pairs ++ l) (last-numbers s (lastAt s) (positionsOfHead s)))
 
 pub offsets :
     (s : List ℕ) →
     map (λ (r : Reason). r .offset) (siteReasons s)
-    ≡ 0 ∷ 0 ∷ 0 ∷ 0 ∷ 0 ∷ loadsAt s ∷ loadsAt s ∷ loadsAt s ∷ loadsAt s ∷ reachAt s ∷ reachAt s ∷ reachAt s ∷ reachAt s
+    ≡ pick (isRuled s) (0 ∷ 0 ∷ 0 ∷ 0 ∷ 0 ∷ 0 ∷ []) (0 ∷ 0 ∷ 0 ∷ 0 ∷ 0 ∷ [])
+    ++ (loadsAt s ∷ loadsAt s ∷ loadsAt s ∷ loadsAt s ∷ reachAt s ∷ reachAt s ∷ reachAt s ∷ reachAt s
     ∷ (map (λ (r : Reason). r .offset) (pairReasons (cellsOfHead s) (reachAt s) 0 0 (bodyAt s (reachAt s)))
-    ++ pick (ltb (lastAt s) (length s)) (lastAt s ∷ lastAt s ∷ lastAt s ∷ lastAt s ∷ lastAt s ∷ lastAt s ∷ recordEnd s (lastAt s) ∷ []) [])
+    ++ pick (ltb (lastAt s) (length s)) (lastAt s ∷ lastAt s ∷ lastAt s ∷ lastAt s ∷ lastAt s ∷ lastAt s ∷ recordEnd s (lastAt s) ∷ []) []))
 unfolding siteReasons
 offsets s =
     let pairs = pairReasons (cellsOfHead s) (reachAt s) 0 0 (bodyAt s (reachAt s)) in
-    ap (λ (l : List ℕ). 0 ∷ 0 ∷ 0 ∷ 0 ∷ 0 ∷ loadsAt s ∷ loadsAt s ∷ loadsAt s ∷ loadsAt s ∷ reachAt s ∷ reachAt s ∷ reachAt s ∷ reachAt s ∷ l)
+    map-append (λ (r : Reason). r .offset) (siteHeadReasons s) (rest s)
+    ∙ ap₂ (λ (h l : List ℕ). h ++ (loadsAt s ∷ loadsAt s ∷ loadsAt s ∷ loadsAt s ∷ reachAt s ∷ reachAt s ∷ reachAt s ∷ reachAt s ∷ l)) (head-offsets s)
     (map-append (λ (r : Reason). r .offset) pairs (lastReasons s (lastAt s) (positionsOfHead s))
     ∙ ap (λ (l : List ℕ). map (λ (r : Reason). r .offset) pairs ++ l) (last-offsets s (lastAt s) (positionsOfHead s)))
 
@@ -131,6 +163,14 @@ some-last s at n = go (ltb at (length s))
     go true = (omega arith, (omega arith, (omega arith, (omega arith, (omega arith, (omega arith, (omega arith, tt)))))))
     go false = tt
 
+some-head : (s : List ℕ) → Some (siteHeadReasons s)
+unfolding siteHeadReasons
+some-head s = go (isRuled s)
+  where
+    go : (t : Bool) → Some (pick t (ruledReasons s) (headReasons s))
+    go true = (omega arith, (omega arith, (omega arith, (omega arith, (omega arith, (omega arith, tt))))))
+    go false = (omega arith, (omega arith, (omega arith, (omega arith, (omega arith, tt)))))
+
 some-site : (s : List ℕ) → Some (siteReasons s)
 unfolding siteReasons
 some-site s =
@@ -140,7 +180,7 @@ some-site s =
     let r : Some (reachReasons s (reachAt s) (cellsOfHead s) ++ last) = (omega arith, (omega arith, (omega arith, (omega arith, p)))) in
     let l : Some (loadsReasons s (loadsAt s) (cellsOfHead s) ++ (reachReasons s (reachAt s) (cellsOfHead s) ++ last)) =
     (omega arith, (omega arith, (omega arith, (omega arith, r)))) in
-    (omega arith, (omega arith, (omega arith, (omega arith, (omega arith, l)))))
+    some-append (siteHeadReasons s) (rest s) (some-head s) l
 
 pub refused-some : (s : List ℕ) (n at : ℕ) → readSite s .answer ≡ Refused n at → 1 ≤ n
 unfolding siteAnswer

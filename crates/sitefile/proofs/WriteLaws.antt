@@ -1,8 +1,9 @@
 -- The writer's definitions: a turn of the loads' loop, the file's length, and its parts stored one after the other.
 -- Assumes nothing.
 use Prim.Native.Nat.{ℕ, suc, _+_, _*_, _%_, _≤_, _<_}
-use mathlib.Core.Path.{_≡_, refl, sym, ap, _∙_}
+use mathlib.Core.Path.{_≡_, refl, sym, ap, ap₂, _∙_}
 use mathlib.Core.List.{List, [], _∷_, _++_}
+use native.Mathlib.Nat.{zero-add}
 use native.Mathlib.Numerals.{add-one}
 use native.Mathlib.Omega.{arith}
 use lib.ListN.{length, getD, take, drop, length-append, length-take, drop-of-length-le}
@@ -10,13 +11,14 @@ use lib.Seq.{sets, drop-cons, getD-take, length-take-le}
 use Rattle.laws.proofs.Stores.{sets-append}
 use Rattle.records.specs.Bytes.{twoBytesEach}
 use Rattle.records.specs.Layout.{recordOf}
-use Rattle.records.specs.Head.{headRecord, headSize}
 use Rattle.records.proofs.Write.{record-put}
 use Rattle.records.proofs.Bytes.{two-bytes-length}
 use Rattle.site.specs.Record.{positions}
+use Rattle.sitefile.specs.Head.{siteHead, headLength}
 use Rattle.sitefile.specs.Blocks.{blockRecord}
 use Rattle.sitefile.specs.Write.{pairBytes, siteBytes}
 use Rattle.site.specs.declared.Site.{Site}
+use Rattle.sitefile.proofs.Head.{head-long}
 use Rattle.sitefile.proofs.RowLaws.{pairs-even, pairs-most}
 
 -- a turn of the loads' loop, and its end
@@ -45,9 +47,14 @@ module _ (s : Site) (cells : s .cells ≤ 32) (size : length (s .loads) ≡ 32) 
 
   -- the file's length, and its parts stored one after the other
   pub site-length :
-      length (siteBytes s) ≡ headSize + 4 + 2 * s .cells + 4 + length (pairBytes (s .reach)) + length (blockRecord (s .blocked) (positions s))
+      length (siteBytes s) ≡ headLength (s .rule) + 4 + 2 * s .cells + 4 + length (pairBytes (s .reach)) + length (blockRecord (s .blocked) (positions s))
   unfolding siteBytes
-  site-length = simp length-append (omega (arith, loads-length))
+  site-length =
+      let H = siteHead (s .rule) (s .cells) (s .slots) (s .channels) in
+      let R = recordOf 2 (twoBytesEach (take (s .cells) (s .loads))) ++ (recordOf 3 (pairBytes (s .reach)) ++ blockRecord (s .blocked) (positions s)) in
+      let r : length R ≡ 4 + 2 * s .cells + (4 + length (pairBytes (s .reach)) + length (blockRecord (s .blocked) (positions s)))
+      = simp length-append (omega (arith, loads-length)) in
+      length-append H R ∙ ap₂ (λ (x y : ℕ). x + y) (head-long (s .rule) (s .cells) (s .slots) (s .channels)) r ∙ omega arith
 
   pub site-put :
       (out : List ℕ) →
@@ -55,32 +62,35 @@ module _ (s : Site) (cells : s .cells ≤ 32) (size : length (s .loads) ≡ 32) 
       (sets
       (sets
       (sets
-      (sets (sets out 0 (headRecord (s .cells) (s .slots) (s .channels))) headSize (twoBytesEach ((2 + 2 * s .cells) ∷ 2 ∷ [])))
-      (headSize + 4)
+      (sets (sets out 0 (siteHead (s .rule) (s .cells) (s .slots) (s .channels))) (headLength (s .rule)) (twoBytesEach ((2 + 2 * s .cells) ∷ 2 ∷ [])))
+      (headLength (s .rule) + 4)
       (twoBytesEach (take (s .cells) (s .loads))))
-      (headSize + 4 + 2 * s .cells)
+      (headLength (s .rule) + 4 + 2 * s .cells)
       (twoBytesEach ((2 + length (pairBytes (s .reach))) ∷ 3 ∷ [])))
-      (headSize + 4 + 2 * s .cells + 4)
+      (headLength (s .rule) + 4 + 2 * s .cells + 4)
       (pairBytes (s .reach)))
-      (headSize + 4 + 2 * s .cells + 4 + length (pairBytes (s .reach)))
+      (headLength (s .rule) + 4 + 2 * s .cells + 4 + length (pairBytes (s .reach)))
       (blockRecord (s .blocked) (positions s))
       ≡ sets out 0 (siteBytes s)
   unfolding siteBytes
   site-put out =
-      let H = headRecord (s .cells) (s .slots) (s .channels) in
+      let H = siteHead (s .rule) (s .cells) (s .slots) (s .channels) in
+      let n = headLength (s .rule) in
       let L = twoBytesEach (take (s .cells) (s .loads)) in
       let P = pairBytes (s .reach) in
       let Z = blockRecord (s .blocked) (positions s) in
       let X = sets out 0 H in
-      let Y = sets X headSize (recordOf 2 L) in
-      let at = headSize + 4 + 2 * s .cells in
-      let e : headSize + length (recordOf 2 L) ≡ headSize + 4 + 2 * s .cells = omega (arith, loads-length) in
-      let f : headSize + 4 + 2 * s .cells + 4 + length P ≡ headSize + 4 + 2 * s .cells + length (recordOf 3 P) = omega arith in
+      let Y = sets X n (recordOf 2 L) in
+      let at = n + 4 + 2 * s .cells in
+      let e : n + length (recordOf 2 L) ≡ n + 4 + 2 * s .cells = omega (arith, loads-length) in
+      let f : n + 4 + 2 * s .cells + 4 + length P ≡ n + 4 + 2 * s .cells + length (recordOf 3 P) = omega arith in
       ap (λ (l : List ℕ). sets l (at + 4 + length P) Z)
-      (record-put (sets (sets X headSize (twoBytesEach ((2 + 2 * s .cells) ∷ 2 ∷ []))) (headSize + 4) L) at 3 (2 + length P) P refl
-      ∙ ap (λ (l : List ℕ). sets l at (recordOf 3 P)) (record-put X headSize 2 (2 + 2 * s .cells) L (omega (arith, loads-length))))
+      (record-put (sets (sets X n (twoBytesEach ((2 + 2 * s .cells) ∷ 2 ∷ []))) (n + 4) L) at 3 (2 + length P) P refl
+      ∙ ap (λ (l : List ℕ). sets l at (recordOf 3 P)) (record-put X n 2 (2 + 2 * s .cells) L (omega (arith, loads-length))))
       ∙ ap (λ (k : ℕ). sets (sets Y at (recordOf 3 P)) k Z) f
       ∙ sym (sets-append Y at (recordOf 3 P) Z)
       ∙ ap (λ (k : ℕ). sets Y k (recordOf 3 P ++ Z)) (sym e)
-      ∙ sym (sets-append X headSize (recordOf 2 L) (recordOf 3 P ++ Z))
+      ∙ sym (sets-append X n (recordOf 2 L) (recordOf 3 P ++ Z))
+      ∙ ap (λ (k : ℕ). sets X k (recordOf 2 L ++ (recordOf 3 P ++ Z)))
+      (sym (zero-add (length H) ∙ head-long (s .rule) (s .cells) (s .slots) (s .channels)))
       ∙ sym (sets-append out 0 H (recordOf 2 L ++ (recordOf 3 P ++ Z)))

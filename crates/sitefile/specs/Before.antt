@@ -1,4 +1,4 @@
--- The site file as it was before kind 6: its bytes, the reasons to refuse it, and the site that it states.
+-- The site file as it was before kind 6 and kind 5: its bytes, the reasons to refuse it, and the site that it states; and as it was before kind 5 alone.
 use Prim.Native.Nat.{ℕ}
 use mathlib.Core.List.{List, [], _∷_, _++_}
 use lib.ListN.{take}
@@ -7,9 +7,10 @@ use Rattle.records.specs.Bytes.{twoBytesEach}
 use Rattle.records.specs.Layout.{recordOf, bodyAt}
 use Rattle.records.specs.Reasons.{Reason, endReason}
 use Rattle.records.specs.Head.{headRecord, cellsOfHead, slotsOfHead, channelsOfHead, headReasons}
-use Rattle.site.specs.Record.{siteOf}
+use Rattle.site.specs.Record.{positions, siteOf}
 use Rattle.site.specs.declared.Site.{Site}
-use Rattle.sitefile.specs.Reasons.{loadsAt, reachAt, lastAt, loadsReasons, reachReasons}
+use Rattle.sitefile.specs.Blocks.{blockRecord}
+use Rattle.sitefile.specs.Reasons.{loadsAt, reachAt, lastAt, positionsOfHead, loadsReasons, reachReasons, lastReasons}
 use Rattle.sitefile.specs.Read.{loadsOfBody, reachOfBody}
 use Rattle.sitefile.specs.Write.{pairBytes}
 
@@ -19,6 +20,21 @@ threeKinds s =
     headRecord (s .cells) (s .slots) (s .channels)
     ++ (recordOf 2 (twoBytesEach (take (s .cells) (s .loads)))
     ++ recordOf 3 (pairBytes (s .reach)))
+
+-- and kind 6 after kind 3 where something is blocked: what a file was before W11
+abbrev pub fourKinds : Site → List ℕ
+fourKinds s =
+    headRecord (s .cells) (s .slots) (s .channels)
+    ++ (recordOf 2 (twoBytesEach (take (s .cells) (s .loads)))
+    ++ (recordOf 3 (pairBytes (s .reach))
+    ++ blockRecord (s .blocked) (positions s)))
+
+abbrev pub fourReasons : List ℕ → List Reason
+fourReasons s =
+    headReasons s
+    ++ (loadsReasons s (loadsAt s) (cellsOfHead s)
+    ++ (reachReasons s (reachAt s) (cellsOfHead s)
+    ++ lastReasons s (lastAt s) (positionsOfHead s)))
 
 -- "Then 12": after kind 3
 abbrev pub threeReasons : List ℕ → List Reason
@@ -30,4 +46,4 @@ threeReasons s =
 
 abbrev pub threeSite : List ℕ → Site
 threeSite s =
-    siteOf (cellsOfHead s) (slotsOfHead s) (channelsOfHead s) (loadsOfBody (bodyAt s (loadsAt s))) (reachOfBody (bodyAt s (reachAt s))) emptySet
+    siteOf (cellsOfHead s) (slotsOfHead s) (channelsOfHead s) (loadsOfBody (bodyAt s (loadsAt s))) (reachOfBody (bodyAt s (reachAt s))) emptySet 1

@@ -3,11 +3,12 @@ use Prim.Native.Nat.{ℕ, zero, suc, _+_}
 use mathlib.Core.List.{List, [], _++_}
 use mathlib.Core.Path.{_≡_}
 use Rattle.positions.specs.Blocked.{emptySet}
-use Rattle.records.specs.Head.{cellsOfHead, headAnswer}
+use Rattle.records.specs.Head.{cellsOfHead}
 use Rattle.records.specs.Layout.{bodyAt}
 use Rattle.records.specs.Reasons.{firstReason}
 use Rattle.records.specs.declared.ReadAnswer.{ReadAnswer}
 use Rattle.records.specs.declared.ReadAnswer.the-variants.{Done, Refused}
+use Rattle.sitefile.specs.Head.{siteHeadAnswer}
 use Rattle.sitefile.specs.Pairs.{pairOf}
 use Rattle.sitefile.specs.Reasons.{loadsAt, reachAt, loadsReasons, pairReasons, reachReasons, lastReasons}
 use Rattle.sitefile.specs.declared.PairsRead.{PairsRead}
@@ -42,7 +43,7 @@ blocksRead s at n = blocksReadOf (blockedOr s at) (firstReason (lastReasons s at
 
 -- what the reader of kinds 3 and 6 is given: the records before them are in order, and these are their numbers
 pub record LoadsRead (s : List ℕ) (at cells : ℕ) (loads : List ℕ) : Type 0 where
-  pub head : headAnswer s ≡ Done
+  pub head : siteHeadAnswer s ≡ Done
   pub found : firstReason (loadsReasons s (loadsAt s) (cellsOfHead s)) ≡ Done
   pub place : at ≡ reachAt s
   pub cells-are : cells ≡ cellsOfHead s

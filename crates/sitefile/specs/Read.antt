@@ -14,6 +14,7 @@ use Rattle.records.specs.declared.ReadAnswer.{ReadAnswer}
 use Rattle.records.specs.declared.ReadAnswer.the-variants.{Done, Refused}
 use Rattle.site.specs.Record.{siteOf, zeroSite}
 use Rattle.site.specs.declared.Site.{Site}
+use Rattle.sitefile.specs.Head.{ruleOfHead}
 use Rattle.sitefile.specs.Pairs.{markAll}
 use Rattle.sitefile.specs.Blocks.{blockedOfBody}
 use Rattle.sitefile.specs.Reasons.{loadsAt, reachAt, lastAt, siteReasons}
@@ -40,6 +41,7 @@ siteOfFile s =
     (loadsOfBody (bodyAt s (loadsAt s)))
     (reachOfBody (bodyAt s (reachAt s)))
     (blockedOr s (lastAt s))
+    (ruleOfHead s)
 
 unfoldable pub siteAnswer : List ℕ → ReadAnswer
 siteAnswer s = firstReason (siteReasons s)

@@ -1,6 +1,6 @@
 -- The reasons to refuse a site file, one after the other in document 01's order. "A site file is kinds 1, 2, 3; kind 3 is there even when empty."
 -- "In a file, record by record: 8 for the four bytes, 9, 10, 8 for the end, then contents: head 1; each pair 3 then 11 .. Then 12."
--- W8: kind 6 after kind 3, "21, kind 6 with nothing blocked, after 14".
+-- W8: kind 6 after kind 3, "21, kind 6 with nothing blocked, after 14". W11: kind 5 in place of kind 1, and 24 after 1.
 use Prim.Native.Nat.{ℕ, _+_, _*_}
 use mathlib.Core.List.{List, [], _∷_, _++_}
 use mathlib.Core.Bool.{Bool, not, _||_, _&&_}
@@ -10,8 +10,9 @@ use Rattle.laws.specs.Choice.{pick}
 use Rattle.records.specs.Bits.{bytesFor, leftOver}
 use Rattle.records.specs.Layout.{bodyAt, recordEnd}
 use Rattle.records.specs.Reasons.{Reason, reason, recordReasons, endReason}
-use Rattle.records.specs.Head.{cellsOfHead, slotsOfHead, channelsOfHead, afterHead, headReasons}
+use Rattle.records.specs.Head.{cellsOfHead, slotsOfHead, channelsOfHead, afterHead}
 use Rattle.records.specs.declared.Length.the-variants.{Exact, Pairs}
+use Rattle.sitefile.specs.Head.{siteHeadReasons}
 use Rattle.sitefile.specs.Pairs.{pairOk}
 use Rattle.sitefile.specs.Blocks.{blockedOfBody, nothingIn}
 
@@ -65,7 +66,7 @@ lastReasons s at n = pick (ltb at (length s)) (blockReasons s at n) []
 
 unfoldable pub siteReasons : List ℕ → List Reason
 siteReasons s =
-    headReasons s
+    siteHeadReasons s
     ++ (loadsReasons s (loadsAt s) (cellsOfHead s)
     ++ (reachReasons s (reachAt s) (cellsOfHead s)
     ++ lastReasons s (lastAt s) (positionsOfHead s)))

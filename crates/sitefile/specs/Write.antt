@@ -5,12 +5,12 @@ use lib.ListN.{take}
 use Rattle.laws.specs.Choice.{pick}
 use Rattle.records.specs.Bytes.{twoBytesEach}
 use Rattle.records.specs.Layout.{recordOf}
-use Rattle.records.specs.Head.{headRecord}
 use Rattle.records.specs.Write.{written, laidOver}
 use Rattle.records.specs.declared.Written.{Written}
 use Rattle.records.specs.declared.Written.the-variants.{Refused}
 use Rattle.site.specs.Record.{positions, faultOf, isFine}
 use Rattle.site.specs.declared.Site.{Site}
+use Rattle.sitefile.specs.Head.{siteHead}
 use Rattle.sitefile.specs.Pairs.{pairsFrom}
 use Rattle.sitefile.specs.Blocks.{blockRecord}
 
@@ -18,15 +18,16 @@ use Rattle.sitefile.specs.Blocks.{blockRecord}
 unfoldable pub pairBytes : List ℕ → List ℕ
 pairBytes reach = pairsFrom reach 0 1024
 
--- "A site file is kinds 1, 2, 3": the head, "I loads, two bytes each", the pairs. W8: kind 6 after kind 3, absent when nothing is blocked
+-- "A site file is kinds 1, 2, 3": the head, "I loads, two bytes each", the pairs. W8: kind 6 after kind 3, absent when nothing is blocked.
+-- W11: kind 5 in place of kind 1 for rule 2
 unfoldable pub siteBytes : Site → List ℕ
 siteBytes s =
-    headRecord (s .cells) (s .slots) (s .channels)
+    siteHead (s .rule) (s .cells) (s .slots) (s .channels)
     ++ (recordOf 2 (twoBytesEach (take (s .cells) (s .loads)))
     ++ (recordOf 3 (pairBytes (s .reach))
     ++ blockRecord (s .blocked) (positions s)))
 
--- "Writers: 1, 2, 3, .. 13"; W8: 20 after 3
+-- "Writers: 1, 2, 3, .. 13"; W8: 20 after 3; W11: 24 after 1
 unfoldable pub siteWritten : Site → List ℕ → Written
 siteWritten s out = pick (isFine (faultOf s)) (written (siteBytes s) out) (Refused (faultOf s))
 

@@ -1,4 +1,4 @@
-// The site file: kinds 1, 2 and 3 of house files, and 6 where something is blocked, read into a site and written from one.
+// The site file: kinds 1, 2 and 3 of house files, 5 in place of 1 for rule 2, and 6 where something is blocked, read into a site and written from one.
 use positions::none_blocked;
 use records::AFTER_HEAD;
 use records::Length;
@@ -16,6 +16,7 @@ use records::put_two_bytes;
 use records::two_bytes;
 use site::Fault;
 use site::Site;
+use site::size_ok;
 use site::within;
 ghost use mathlib.Core.Path.{_≡_};
 ghost use mathlib.Core.List.{[], _∷_};
@@ -27,13 +28,23 @@ ghost use Rattle.laws.specs.Part.{listOf};
 ghost use Rattle.positions.specs.Blocked.{mostPositions, wordIn};
 ghost use Rattle.site.specs.Record.{positions};
 ghost use Rattle.records.specs.Bytes.{twoBytesEach};
+ghost use Rattle.records.specs.Reasons.{firstReason};
+ghost use Rattle.records.specs.declared.ReadAnswer.the-variants.{Done};
 ghost use Rattle.records.specs.Write.{written, laidOver};
 ghost use Rattle.sitefile.specs.Pairs.{pairOk, place};
 ghost use Rattle.sitefile.specs.Blocks.{bitStated, blockedOfBody, blockByte, blockRecord};
+ghost use Rattle.sitefile.specs.Head.{ruleOfHead, ruledReasons, siteHeadAnswer, siteHead, headLength};
 ghost use Rattle.sitefile.specs.Loop.{rowFrom};
 ghost use Rattle.sitefile.specs.Read.{loadsOfBody, refusedSite, readSite};
 ghost use Rattle.sitefile.specs.Loop.{noRows, pairsRead, reachRead, noBlocks, blocksRead, LoadsRead};
 ghost use Rattle.sitefile.specs.Write.{siteBytes, pairBytes, siteWritten, siteOut};
+
+// The kind and the length of a head with a rule.
+const RULED_KIND: u16 = 5;
+
+const RULED_LENGTH: u16 = 10;
+
+const AFTER_RULED: usize = 2 + RULED_LENGTH as usize;
 
 // What a site read gives: the site, or a site of zeros beside the refusal.
 pub struct SiteRead {
@@ -51,6 +62,54 @@ struct PairsRead {
 struct BlocksRead {
     pub blocked: [u64; 32],
     pub answer: ReadAnswer,
+}
+
+// A head of kind 5: its record at the start of the file, I, T and F in range, and rule 2.
+fn ruled_head(s: &[u8]) -> ReadAnswer
+    ensures { λ r. ⌜ r ≡ firstReason (ruledReasons (now (s .entry))) ⌝ }
+{
+    let o = open(s, 0, RULED_KIND, Length::Exact(RULED_LENGTH));
+    let Opened::Body(_, _) = o else {
+        return opened_answer(o);
+    };
+    let cells = two_bytes(s, 4);
+    let slots = two_bytes(s, 6);
+    let channels = two_bytes(s, 8);
+    if !size_ok(cells, slots, channels) {
+        return ReadAnswer::Refused(1, 0);
+    }
+    let rule = two_bytes(s, 10);
+    if rule == 2 {
+        ReadAnswer::Done
+    } else {
+        ReadAnswer::Refused(24, 0)
+    }
+}
+
+// The head: of kind 5 where it says so, and else of kind 1.
+fn site_head(s: &[u8]) -> ReadAnswer
+    ensures { λ r. ⌜ r ≡ siteHeadAnswer (now (s .entry)) ⌝ }
+{
+    if s.len() < 4 {
+        return ReadAnswer::Refused(8, 0);
+    }
+    let kind = two_bytes(s, 2);
+    if kind == RULED_KIND {
+        return ruled_head(s);
+    }
+    head_answer(s)
+}
+
+// The rule that a good head states.
+fn rule_of(s: &[u8]) -> u16
+    requires { ⌜ siteHeadAnswer (now s) ≡ Done ⌝ }
+    ensures { λ r. ⌜ r ≡ ruleOfHead (now (s .entry)) ⌝ }
+{
+    let kind = two_bytes(s, 2);
+    if kind == RULED_KIND {
+        return two_bytes(s, 10);
+    }
+    1
 }
 
 // The loads of a kind 2 body.
@@ -260,6 +319,7 @@ fn read_rest(bytes: &[u8], at: usize, cells: u16, loads: [u16; 32]) -> SiteRead
     let ReadAnswer::Done = answer else {
         return refused(answer);
     };
+    let rule = rule_of(bytes);
     let mut site = Site::zeros();
     site.cells = cells;
     site.slots = slots;
@@ -267,19 +327,22 @@ fn read_rest(bytes: &[u8], at: usize, cells: u16, loads: [u16; 32]) -> SiteRead
     site.loads = loads;
     site.reach = reach;
     site.blocked = blocked;
+    site.rule = rule;
     SiteRead { site, answer }
 }
 
-// Reads a site file: kinds 1, 2, 3, and 6 where something is blocked.
+// Reads a site file: kinds 1, 2, 3, with 5 in place of 1 for rule 2, and 6 where something is blocked.
 pub fn read_site(bytes: &[u8]) -> SiteRead
     ensures { λ r. ⌜ r ≡ readSite (now (bytes .entry)) ⌝ }
 {
-    let head = head_answer(bytes);
+    let head = site_head(bytes);
     let ReadAnswer::Done = head else {
         return refused(head);
     };
     let cells = two_bytes(bytes, 4);
-    let o = open(bytes, AFTER_HEAD, 2, Length::Exact(2 + 2 * cells));
+    let at = 2 + two_bytes(bytes, 0) as usize;
+    let length = 2 + 2 * cells;
+    let o = open(bytes, at, 2, Length::Exact(length));
     let Opened::Body(start, len) = o else {
         return refused(opened_answer(o));
     };
@@ -404,6 +467,33 @@ fn put_blocks(out: &mut [u8], at: usize, set: &[u64; 32], n: usize, need: usize)
     put_bits(out, at + 4, set, m);
 }
 
+// How many bytes the head takes.
+fn head_len(rule: u16) -> usize
+    ensures { λ r. ⌜ r ≡ headLength rule ⌝ }
+    ensures { λ r. ⌜ r ≤ 12 ⌝ }
+{
+    if rule != 2 {
+        return AFTER_HEAD;
+    }
+    AFTER_RULED
+}
+
+// The head, at the start of the file: of kind 5 for rule 2, and else of kind 1.
+fn put_site_head(out: &mut [u8], cells: u16, slots: u16, channels: u16, rule: u16)
+    requires { ⌜ headLength rule ≤ length (now out) ⌝ }
+    ensures { λ _. ⌜ now (out .exit) ≡ sets (now (out .entry)) 0 (siteHead rule cells slots channels) ⌝ }
+{
+    if rule != 2 {
+        put_head(out, cells, slots, channels);
+        return;
+    }
+    put_start(out, 0, RULED_LENGTH, RULED_KIND);
+    put_two_bytes(out, 4, cells);
+    put_two_bytes(out, 6, slots);
+    put_two_bytes(out, 8, channels);
+    put_two_bytes(out, 10, rule);
+}
+
 // The site file of a site whose record is in order.
 fn put_site(s: Site, out: &mut [u8]) -> Written
     requires { ⌜ (s .cells ≤ 32) × (positions s ≤ mostPositions) ⌝ }
@@ -414,19 +504,21 @@ fn put_site(s: Site, out: &mut [u8]) -> Written
     let reach = s.reach;
     let blocked = s.blocked;
     let cells = s.cells;
+    let rule = s.rule;
     let n = cells as usize;
     let all = s.slots as usize * s.channels as usize;
     let m = pairs_len(reach);
     let last = blocks_len(&blocked, all);
-    let from = AFTER_HEAD + 4;
+    let first = head_len(rule);
+    let from = first + 4;
     let at = from + 2 * n;
     let end = at + 4 + m;
     let need = end + last;
     if out.len() < need {
         return Written::OutShort(need);
     }
-    put_head(out, cells, s.slots, s.channels);
-    put_start(out, AFTER_HEAD, 2 + 2 * cells, 2);
+    put_site_head(out, cells, s.slots, s.channels, rule);
+    put_start(out, first, 2 + 2 * cells, 2);
     put_loads(out, from, loads, n);
     put_start(out, at, (2 + m) as u16, 3);
     put_pairs(out, at + 4, &reach, end);
@@ -434,7 +526,7 @@ fn put_site(s: Site, out: &mut [u8]) -> Written
     Written::Done(need)
 }
 
-// Writes the site file of a site: 1, 2, 3, 20, then 13.
+// Writes the site file of a site: 1, 24, 2, 3, 20, then 13.
 pub fn write_site(site: Site, out: &mut [u8]) -> Written
     ensures { λ r. ⌜ r ≡ siteWritten site (now (out .entry)) ⌝ }
     ensures { λ _. ⌜ now (out .exit) ≡ siteOut site (now (out .entry)) ⌝ }

@@ -62,6 +62,7 @@ pub fn fault_answer(said: Fault) -> Answer
     match said {
         Fault::Fine => give(0, 0, 0, 0),
         Fault::Size => give(1, 0, 0, 0),
+        Fault::Rule => give(24, 0, 0, 0),
         Fault::Load(cell) => give(2, cell, 0, 0),
         Fault::Reach(row) => give(3, row, 0, 0),
         Fault::Blocked(position) => give(20, position, 0, 0),

@@ -17,7 +17,7 @@ use Rattle.site.proofs.Given.{faultFrom}
 use Rattle.site.proofs.PassedOn.{proper-call, proper-either}
 use Rattle.site.specs.declared.Site.{Site}
 use Rattle.site.specs.declared.Fault.{Fault}
-use Rattle.site.specs.declared.Fault.the-variants.{Fine, Size, Load, Reach, Blocked}
+use Rattle.site.specs.declared.Fault.the-variants.{Fine, Size, Rule, Load, Reach, Blocked}
 use Rattle.planner.specs.Plan.{answerOf}
 use Rattle.planner.specs.Given.{planProper}
 use Rattle.planner.proofs.Given.{run-proper}
@@ -41,6 +41,7 @@ readBack g = pick (eqb (g .number) 0) Done (pick (eqb (g .number) 4) TableShort 
 read-refusal : (f : Fault) → formProper (Refused f) ≡ true → readBack (formGiven (Refused f)) ≡ Refused f
 read-refusal Fine h = absurd (false≢true h)
 read-refusal Size h = refl
+read-refusal Rule h = refl
 read-refusal (Load k) h = refl
 read-refusal (Reach k) h = refl
 read-refusal (Blocked k) h = refl
@@ -73,9 +74,9 @@ check-words-proper s w =
 
 -- the numbers and the values, in their order, of an answer of each kind
 abbrev forms : (cell row position : ℕ) → List FormAnswer
-forms cell row position = Done ∷ TableShort ∷ Refused Size ∷ Refused (Load cell) ∷ Refused (Reach row) ∷ Refused (Blocked position) ∷ []
+forms cell row position = Done ∷ TableShort ∷ Refused Size ∷ Refused Rule ∷ Refused (Load cell) ∷ Refused (Reach row) ∷ Refused (Blocked position) ∷ []
 
 pub form-numbers : (cell row position : ℕ)
-    → (map (λ (a : FormAnswer). formGiven a .number) (forms cell row position) ≡ 0 ∷ 4 ∷ 1 ∷ 2 ∷ 3 ∷ 20 ∷ [])
-    × (map (λ (a : FormAnswer). formGiven a .values) (forms cell row position) ≡ [] ∷ [] ∷ [] ∷ (cell ∷ []) ∷ (row ∷ []) ∷ (position ∷ []) ∷ [])
+    → (map (λ (a : FormAnswer). formGiven a .number) (forms cell row position) ≡ 0 ∷ 4 ∷ 1 ∷ 24 ∷ 2 ∷ 3 ∷ 20 ∷ [])
+    × (map (λ (a : FormAnswer). formGiven a .values) (forms cell row position) ≡ [] ∷ [] ∷ [] ∷ [] ∷ (cell ∷ []) ∷ (row ∷ []) ∷ (position ∷ []) ∷ [])
 form-numbers cell row position = (refl, refl)

@@ -16,7 +16,7 @@ use Rattle.theory.specs.Greedy.{reserved}
 use Rattle.site.specs.Record.{positions, size, faultOf, isFine}
 use Rattle.site.specs.declared.Site.{Site}
 use Rattle.site.specs.declared.Fault.{Fault}
-use Rattle.site.specs.declared.Fault.the-variants.{Fine, Size, Load, Reach, Blocked}
+use Rattle.site.specs.declared.Fault.the-variants.{Fine, Size, Rule, Load, Reach, Blocked}
 use Rattle.words.specs.Words.{wordsOf}
 use Rattle.wordforms.specs.Words.{sendsAt, bytesOf}
 use Rattle.wordtable.specs.Forms.{lentShort, formAnswer, toWords, toBytes}
@@ -86,6 +86,7 @@ goes-by : (f : Fault) (b : Bool) → pick (isFine f) (pick b TableShort Done) (R
 goes-by Fine true e = let z : _≡_ {A = ℕ} 0 1 = cc in absurd (omega arith)
 goes-by Fine false e = (refl, refl)
 goes-by Size b e = let z : _≡_ {A = ℕ} 0 1 = cc in absurd (omega arith)
+goes-by Rule b e = let z : _≡_ {A = ℕ} 0 1 = cc in absurd (omega arith)
 goes-by (Load k) b e = let z : _≡_ {A = ℕ} 0 1 = cc in absurd (omega arith)
 goes-by (Reach k) b e = let z : _≡_ {A = ℕ} 0 1 = cc in absurd (omega arith)
 goes-by (Blocked k) b e = let z : _≡_ {A = ℕ} 0 1 = cc in absurd (omega arith)
@@ -95,6 +96,7 @@ kept-by : (f : Fault) (b : Bool) (done kept : List ℕ) → OneOf (1 ∷ 2 ∷ [
 kept-by Fine true done kept h = refl
 kept-by Fine false done kept h = absurd (⊎-elim (λ e. omega arith) (λ e. omega arith) h)
 kept-by Size b done kept h = refl
+kept-by Rule b done kept h = refl
 kept-by (Load k) b done kept h = refl
 kept-by (Reach k) b done kept h = refl
 kept-by (Blocked k) b done kept h = refl

@@ -20,7 +20,8 @@ impl Kind {
     }
 }
 
-/// What a file is: a sheet by its first line, whatever ends it; a house file by the kind of the record after its head.
+/// What a file is: a sheet by its first line, whatever ends it; a house file by the kind of the record after its head, and
+/// by its head alone where that is of kind 5, which only a site file has. Fewer than 14 bytes show no house file.
 fn kind_of(bytes: &[u8]) -> Option<Kind> {
     if bytes.starts_with(b"cell,load") {
         return Some(Kind::RangeSheet);
@@ -28,10 +29,14 @@ fn kind_of(bytes: &[u8]) -> Option<Kind> {
     if bytes.starts_with(b"cell,burst,period,repeats,value") {
         return Some(Kind::FlowSheet);
     }
+    let next = bytes.get(12..14)?;
+    if bytes.starts_with(&[10, 0, 5, 0]) {
+        return Some(Kind::SiteFile);
+    }
     if !bytes.starts_with(&[8, 0, 1, 0]) {
         return None;
     }
-    match bytes.get(12..14)? {
+    match next {
         [2, 0] => Some(Kind::SiteFile),
         [4, 0] => Some(Kind::PlanFile),
         _ => None,
@@ -71,6 +76,17 @@ mod tests {
         for other in
             [with(&[5, 0, 4]), with(&[5, 0, 3, 0]), with(&[5, 0, 4, 1]), vec![9, 0, 1, 0], vec![], b"cell".to_vec()]
         {
+            assert_eq!(kind_of(&other), None, "{other:?}");
+        }
+        let ruled = |more: &[u8]| [&[10, 0, 5, 0, 3, 0, 3, 0, 2, 0, 2, 0][..], more].concat();
+        for whole in [ruled(&[8, 0, 2, 0]), ruled(&[5, 0, 4, 0]), ruled(&[8, 0])] {
+            assert_eq!(kind_of(&whole), Some(Kind::SiteFile), "{whole:?}");
+        }
+        for other in [
+            ruled(&[8]),
+            vec![8, 0, 5, 0, 3, 0, 3, 0, 2, 0, 8, 0, 2, 0],
+            vec![10, 0, 1, 0, 3, 0, 3, 0, 2, 0, 2, 0, 8, 0],
+        ] {
             assert_eq!(kind_of(&other), None, "{other:?}");
         }
         assert_eq!(kind_of(b"cell,load,1\n"), Some(Kind::RangeSheet));

@@ -6,11 +6,11 @@ use crate::heaviest::{heaviest, Heaviest};
 use crate::judge::{chain, least, load_test, nested};
 use crate::numbering::renumber;
 use crate::planner::plan;
-use crate::site::{Site, MOST_CHANNELS, MOST_SLOTS};
+use crate::site::{Site, MOST_CHANNELS, MOST_SLOTS, RULE_2};
 
 /// Whether the site is chained, and if not whether it is nested; the load test, the plan or what a no means; how many channel-slots it takes and the
-/// heaviest clash; and so how many slots and channels, or where something is blocked what. Last, of a site that is not nested, what a numbering
-/// says of it. The site comes from a reader, and is sound.
+/// heaviest clash; and so how many slots and channels, or where something is blocked what; of a site that is not nested what a numbering says of it; and
+/// the rule where it is 2. The site comes from a reader, and is sound.
 pub fn why(site: &Site) -> String {
     let gap = chain(site).expect("a sound site");
     let clash = heaviest(site).expect("a sound site");
@@ -36,6 +36,7 @@ pub fn why(site: &Site) -> String {
         + &takes_lines(site, &clash, enough)
         + &if site.has_blocked() { blocked_line(site) } else { size_lines(site, clash.load, enough) }
         + if split.is_some() { anew_line(site) } else { "" }
+        + &rule_lines(site)
 }
 
 /// Whether a numbering of all cells makes the site nested, and if one does whether the renumbered site can be planned: then this one has a plan, and
@@ -49,6 +50,31 @@ fn anew_line(site: &Site) -> &'static str {
             "renumbered it is nested and can be planned: this site has a plan (duggfrask renumber, plan, carry)\n"
         }
         Err(_) => "renumbered it is nested and full: this site has no plan\n",
+    }
+}
+
+/// Running sites have rule 1, and of it nothing is said. Of rule 2, what it is, and each pair of cells that it alone makes
+/// clash, by first cell, then second.
+fn rule_lines(site: &Site) -> String {
+    if site.rule != RULE_2 {
+        return String::new();
+    }
+    let mut lines = String::from("rule 2: two cells clash also when some third cell is reached by both\n");
+    for first in 1..=site.count() {
+        for second in first + 1..=site.count() {
+            lines += &third_line(site, first, second);
+        }
+    }
+    lines
+}
+
+/// Of two cells of which neither reaches the other, the third cell: the lowest that both reach. Nothing where there is none.
+fn third_line(site: &Site, a: usize, b: usize) -> String {
+    match site.third(a, b) {
+        Some(third) if !site.reaches(a, b) && !site.reaches(b, a) => {
+            format!("  {a} and {b} clash: both reach {third}\n")
+        }
+        _ => String::new(),
     }
 }
 
@@ -269,6 +295,55 @@ blocked: *.2
         assert!(
             lines.contains("\nplanned\nit takes at least 20 channel-slots, and 127 will do; the site has 127 open\n")
         );
+    }
+
+    #[test]
+    fn a_clash_by_a_third_cell() {
+        let mut site = Site { rule: 2, ..Site::sized(5, 4, 2) };
+        for (from, to) in [(1, 2), (2, 4), (5, 4)] {
+            site = site.with_reach(from, to, true).unwrap();
+        }
+        site.loads[..5].copy_from_slice(&[4, 3, 0, 3, 2]);
+        let expected = "\
+chained
+the load test holds
+planned
+it takes 8 channel-slots, and no fewer; the site has 8
+of all cells that clash with one another these need the most, 8:
+  cell 2, load 3
+  cell 4, load 3
+  cell 5, load 2
+with 2 channels: 4 slots, and no fewer
+with 4 slots: 2 channels, and no fewer
+rule 2: two cells clash also when some third cell is reached by both
+  2 and 5 clash: both reach 4
+";
+        assert_eq!(why(&site), expected);
+        // Of rule 1 nothing is said, and the same reach makes no clash.
+        let lines = why(&Site { rule: 1, ..site });
+        assert!(!lines.contains("rule") && !lines.contains("both reach"), "{lines}");
+    }
+
+    #[test]
+    fn each_clash_by_a_third_cell() {
+        // 1, 3 and 4 all reach the spare cells 5 and 6, and 3 reaches 2 too; 6 reaches 5, and 5 nobody.
+        let mut site = Site { rule: 2, ..Site::sized(6, 2, 1) };
+        for (from, to) in [(1, 5), (1, 6), (3, 5), (3, 6), (3, 2), (4, 5), (4, 6), (6, 5)] {
+            site = site.with_reach(from, to, true).unwrap();
+        }
+        let end = "\
+rule 2: two cells clash also when some third cell is reached by both
+  1 and 3 clash: both reach 5
+  1 and 4 clash: both reach 5
+  3 and 4 clash: both reach 5
+";
+        let lines = why(&site);
+        assert!(lines.ends_with(end), "{lines}");
+        // Where one of the two reaches the other, no third cell is named. What reaches both makes no clash.
+        let lines = why(&site.with_reach(4, 1, true).unwrap());
+        assert!(lines.ends_with("\n  1 and 3 clash: both reach 5\n  3 and 4 clash: both reach 5\n"), "{lines}");
+        let lines = why(&site.with_reach(3, 1, true).unwrap());
+        assert!(!lines.contains("1 and 2 clash") && !lines.contains("1 and 3 clash"), "{lines}");
     }
 
     #[test]

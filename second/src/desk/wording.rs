@@ -94,13 +94,13 @@ pub fn not_nested((a, b, i): (usize, usize, usize)) -> String {
     format!("refused 19: {sentence}: cells {a} and {b} clash with cell {i}, and not with one another\n")
 }
 
-/// Who reaches whom, of two cells that clash.
+/// Who reaches whom, of two cells that clash; where neither does, both reach a third cell.
 fn way(site: &Site, first: usize, second: usize) -> String {
     match (site.reaches(first, second), site.reaches(second, first)) {
         (true, true) => String::from("each reaches the other"),
         (true, false) => format!("{first} reaches {second}"),
         (false, true) => format!("{second} reaches {first}"),
-        (false, false) => unreachable!("cells that clash"),
+        (false, false) => String::from("both reach a third cell"),
     }
 }
 
@@ -166,6 +166,13 @@ mod tests {
             let line = format!("refused 6: cells 1 and 2 clash ({way}), and both send in slot 3, channel 2\n");
             assert_eq!(sends_wrongly(&site, &no), line);
         }
+        let mut five = Site { rule: 2, ..Site::sized(5, 4, 2) };
+        for (from, to) in [(2, 4), (5, 4), (2, 3), (5, 3), (1, 5)] {
+            five = five.with_reach(from, to, true).unwrap();
+        }
+        let no = refuse::<()>(6, &[4, 2, 5]).unwrap_err();
+        let line = "refused 6: cells 2 and 5 clash (both reach a third cell), and both send in slot 3, channel 1\n";
+        assert_eq!(sends_wrongly(&five, &no), line);
         assert_eq!(change_line(&site, &[2, 0, 0, 1]), "cell 2: slot 1 channel 1 added\n");
         assert_eq!(change_line(&site, &[1, 3, 1, 0]), "cell 1: slot 2 channel 2 dropped\n");
     }
@@ -178,7 +185,7 @@ mod tests {
 
     #[test]
     fn the_page_has_every_meaning() {
-        for number in 1..=22 {
+        for number in (1..=22).chain([24]) {
             let meaning = meaning(NUMBERS, number);
             assert!(meaning.starts_with(|first: char| first.is_ascii_lowercase()), "{number}: {meaning}");
             assert!(!meaning.ends_with('.') && !meaning.contains(". "), "{number}: {meaning}");

@@ -63,7 +63,7 @@ nested-requires c κs =
     let site = c .before .before .before .before .before .before .args .site in
     let ok = fine (c .before .before .before) in
     let rows = c .before .clash-rows in
-    (fine-sized site ok .cells-most, mirrored-by (rows .result) (clashOf site) (rows .ensures .1 ok) (clash-sym (site .reach)))
+    (fine-sized site ok .cells-most, mirrored-by (rows .result) (clashOf site) (rows .ensures .1 ok) (clash-sym (site .rule) (site .reach)))
 
 -- what the test of the class says of the site
 verdict : (c : tie.After-nested) → c .nested .result ≡ isNested (classVerdict

@@ -21,7 +21,7 @@ returns : tie.Need-returns
 unfolding movedSite
 returns c =
     let s = c .before .before .before .before .before .before .before .before .before .args .site in
-    ap₂ (λ (loads reach : List ℕ). siteOf (s .cells) (s .slots) (s .channels) loads reach (s .blocked))
+    ap₂ (λ (loads reach : List ℕ). siteOf (s .cells) (s .slots) (s .channels) loads reach (s .blocked) (s .rule))
     (c .before .before .before .moved-loads .ensures) (c .moved-rows .ensures)
 
 pub moved-site-spec : {M : Type 1} → statement M

@@ -10,13 +10,13 @@ use Rattle.laws.specs.Part.{listOf}
 use Rattle.laws.proofs.Stores.{sets-none, sets-more}
 use Rattle.reachrows.specs.Rows.{clashIn}
 use Rattle.square.proofs.Square.{turned-bit}
-use Rattle.reachrows.proofs.Rule.{row-rule}
+use Rattle.reachrows.proofs.Rule.{row-one}
 use borrow.Author.Needs.{needs}
 use Rattle.reachrows.proofs.many_rows.Statement.{statement}
 use Rattle.reachrows.proofs.many_rows.Tie as tie
 
 abbrev rowIn : List ℕ → ℕ → ℕ → ℕ
-rowIn reach cells a = wordOf (clashIn reach a) cells
+rowIn reach cells a = wordOf (clashIn 1 reach a) cells
 
 abbrev Inv-loop : tie.InvT-loop
 Inv-loop cells reach columns rows₀ a₀ rows a = (a ≤ cells) × (length rows ≡ 32) × (rows ≡ sets rows₀ 0 (listOf (rowIn reach cells) a))
@@ -67,7 +67,7 @@ loop-again c =
       length-set (at .loop .rows) (at .loop .a) _ ∙ at .loop .inv .1,
       sets-more (rowIn reach (args .cells)) (at .loop .a) _ (at .loop .rows) _
           (c .clash-row .ensures
-          ∙ row-rule reach (getD (columns .result) (at .loop .a) 0) (args .cells) (at .loop .a) (λ b l.
+          ∙ row-one reach (getD (columns .result) (at .loop .a) 0) (args .cells) (at .loop .a) (λ b l.
           ap (λ (z : List ℕ). bitIn z (at .loop .a) b) (columns .ensures) ∙ turned-bit reach (at .loop .a) b (omega arith) (omega arith)))
           (at .loop .inv .2),
     )

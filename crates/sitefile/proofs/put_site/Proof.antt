@@ -5,7 +5,7 @@ use mathlib.Core.Path.{_≡_, sym, _∙_}
 use native.Mathlib.Omega.{arith}
 use lib.ListN.{length}
 use denote.Ref.{now}
-use Rattle.records.specs.Head.{headSize}
+use Rattle.sitefile.specs.Head.{headLength}
 use Rattle.sitefile.specs.Write.{siteBytes}
 use Rattle.records.proofs.Write.{written-done, written-short, laid-done, laid-short}
 use Rattle.sitefile.proofs.WriteLaws.{pair-bytes-most, site-length, site-put}
@@ -38,41 +38,44 @@ few : (c : tie.After-pairs-len) → c .pairs-len .result ≤ 2048
 few c = rw (c .pairs-len .ensures) (pair-bytes-most _)
 
 need :
-    (c : tie.After-blocks-len) →
-    headSize + 4 + 2 * begin c .args .s .cells + 4 + c .before .before .pairs-len .result + c .blocks-len .result
-    ≡ length (siteBytes (begin c .args .s))
+    (c : tie.After-head-len) →
+    c .head-len .result + 4 + 2 * begin (c .before) .args .s .cells + 4 + c .before .before .before .pairs-len .result + c .before .blocks-len .result
+    ≡ length (siteBytes (begin (c .before) .args .s))
 need c =
-    let a = begin c in
-    (λ j. headSize + 4 + 2 * a .args .s .cells + 4 + c .before .before .pairs-len .ensures j + c .blocks-len .ensures .0 j)
+    let a = begin (c .before) in
+    (λ j. c .head-len .ensures .0 j + 4 + 2 * a .args .s .cells + 4 + c .before .before .before .pairs-len .ensures j + c .before .blocks-len .ensures .0 j)
     ∙ sym (site-length (a .args .s) (a .pre .0) (size a))
 
 blocks-len-requires : tie.Need-blocks-len-requires
 blocks-len-requires c κs = search needs
 
+head-len-requires : tie.Need-head-len-requires
+head-len-requires c κs = search needs
+
 add-from : tie.Need-add-from
-add-from c = search needs
+add-from c = omega (arith, c .head-len .ensures .1)
 
 mul-at : tie.Need-mul-at
 mul-at c = search needs
 
 add-at : tie.Need-add-at
-add-at c = search needs
+add-at c = omega (arith, c .head-len .ensures .1, begin (c .before) .pre .0)
 
 add-end : tie.Need-add-end
-add-end c = search needs
+add-end c = omega (arith, c .head-len .ensures .1, begin (c .before) .pre .0)
 
 add-end-2 : tie.Need-add-end-2
-add-end-2 c = omega (arith, few (c .before .before))
+add-end-2 c = omega (arith, few (c .before .before .before), c .head-len .ensures .1, begin (c .before) .pre .0)
 
 add-need : tie.Need-add-need
-add-need c = omega (arith, few (c .before .before), c .blocks-len .ensures .1)
+add-need c = omega (arith, few (c .before .before .before), c .before .blocks-len .ensures .1, c .head-len .ensures .1, begin (c .before) .pre .0)
 
 returns : tie.Need-returns
 returns c =
     (written-short _ _ _ (need (c .before)) (c .if1 .taken), laid-short _ _ (omega (arith, need (c .before))))
 
-put-head-requires : tie.Need-put-head-requires
-put-head-requires c κs = search needs
+put-site-head-requires : tie.Need-put-site-head-requires
+put-site-head-requires c κs = omega (arith, c .before .before .head-len .ensures .0)
 
 mul-put-start : tie.Need-mul-put-start
 mul-put-start c = search needs
@@ -94,7 +97,7 @@ cast-put-start c =
     let l = c .before .before .before in
     let w = l .before .before .before .before in
     let h = w .before .before .before .before in
-    omega (arith, few (h .before .before .before .before .before))
+    omega (arith, few (h .before .before .before .before .before .before))
 
 put-start-requires-2 : tie.Need-put-start-requires-2
 put-start-requires-2 c κs = search needs
@@ -112,7 +115,7 @@ put-blocks-requires c κs =
     let l = r .before .before .before .before in
     let w = l .before .before .before .before in
     let h = w .before .before .before .before in
-    let k = h .before .before .before in
+    let k = h .before .before .before .before in
     (begin k .pre .1, k .blocks-len .ensures .0, omega arith)
 
 same-length : tie.Need-same-length
@@ -127,19 +130,21 @@ returns-2 c =
     let w = l .before .before .before .before in
     let h = w .before .before .before .before in
     let e = h .before .before in
-    let k = e .before in
+    let n = e .before in
+    let k = n .before in
     let a = begin k in (
-      written-done _ _ _ (need k) (e .if1 .left),
+      written-done _ _ _ (need n) (e .if1 .left),
       rw (
         q .put-blocks .ensures,
         p .put-pairs .ensures,
         r .put-start2 .ensures,
         l .put-loads .ensures,
         w .put-start .ensures,
-        h .put-head .ensures,
+        h .put-site-head .ensures,
+        n .head-len .ensures .0,
         k .before .before .pairs-len .ensures,
       )
-          (site-put (a .args .s) (a .pre .0) (size a) (now (a .args .out)) ∙ laid-done _ _ (omega (arith, need k))),
+          (site-put (a .args .s) (a .pre .0) (size a) (now (a .args .out)) ∙ laid-done _ _ (omega (arith, need n))),
     )
 
 pub put-site-spec : {M : Type 1} → statement M
@@ -152,6 +157,7 @@ put-site-spec =
     mul-all
     pairs-len-requires
     blocks-len-requires
+    head-len-requires
     add-from
     mul-at
     add-at
@@ -159,7 +165,7 @@ put-site-spec =
     add-end-2
     add-need
     returns
-    put-head-requires
+    put-site-head-requires
     mul-put-start
     add-put-start
     put-start-requires

@@ -9,7 +9,7 @@ use Rattle.records.specs.Bytes.{le16}
 use Rattle.records.specs.Head.{cellsOfHead}
 use Rattle.records.specs.declared.Length.the-variants.{Pairs}
 use Rattle.records.proofs.Laws.{Opening}
-use Rattle.records.proofs.Head.{head-read, head-sizes}
+use Rattle.sitefile.proofs.Head.{site-head-read, site-head-sizes}
 use Rattle.site.specs.Record.{siteOf}
 use Rattle.site.proofs.Faults.{few-positions}
 use Rattle.sitefile.specs.Reasons.{reachAt, lastAt, positionsOfHead}
@@ -28,7 +28,7 @@ rows c =
     c .read-reach .ensures ∙ (λ j. reachRead (now (c .before .before .args .bytes)) (g .place j) (g .cells-are j))
 
 read-reach-requires : tie.Need-read-reach-requires
-read-reach-requires c κs = omega (arith, c .before .pre .cells-are, head-sizes _ (c .before .pre .head) .cells-most)
+read-reach-requires c κs = omega (arith, c .before .pre .cells-are, site-head-sizes _ (c .before .pre .head) .cells-most)
 
 enum-told : tie.Need-enum-told
 enum-told c = search needs
@@ -60,10 +60,10 @@ module _ (c : tie.After-enum-told) where
   opening = reach-open S (given .head) (given .found) _ (rows (c .before .before .before)) (c .enum-told .given .1)
 
 two-bytes-requires : tie.Need-two-bytes-requires
-two-bytes-requires c κs = omega (arith, head-read _ (given c .head) .long)
+two-bytes-requires c κs = omega (arith, site-head-read _ (given c .head) .long)
 
 two-bytes-requires-2 : tie.Need-two-bytes-requires-2
-two-bytes-requires-2 c κs = omega (arith, head-read _ (given (c .before) .head) .long)
+two-bytes-requires-2 c κs = omega (arith, site-head-read _ (given (c .before) .head) .long)
 
 add-end : tie.Need-add-end
 add-end c = omega (arith, opening (c .before .before) .four, given (c .before .before) .place)
@@ -88,7 +88,7 @@ module _ (c : tie.After-two-bytes3) where
   positions-are = λ j. c .before .before .two-bytes .ensures j * c .before .two-bytes2 .ensures j
 
   many : positionsOfHead T ≤ mostPositions
-  many = few-positions (head-sizes T (given (c .before .before .before) .head))
+  many = few-positions (site-head-sizes T (given (c .before .before .before) .head))
 
 add-end-2 : tie.Need-add-end-2
 add-end-2 c = omega (arith, end-is c, opening (c .before .before .before) .«end»)
@@ -130,13 +130,16 @@ returns-2 c =
     let e = t .enum-told4 .given .1 in
     c .refused2 .ensures ∙ ap refusedSite e ∙ refuse _ _ _ (told (t .before .before .before) ∙ e)
 
+rule-of-requires : tie.Need-rule-of-requires
+rule-of-requires c κs = given (c .before .before .before .before .before .before .before) .head
+
 zeros-requires : tie.Need-zeros-requires
 zeros-requires c κs = search needs
 
 returns-3 : tie.Need-returns-3
 unfolding siteOfFile
 returns-3 c =
-    let t = c .before in
+    let t = c .before .before in
     let q = t .before .before .before in
     let k = q .before .before .before .before in
     let g = given k in
@@ -144,7 +147,8 @@ returns-3 c =
     (λ j. record {
       site = siteOf (g .cells-are j) (q .before .before .before .two-bytes .ensures j) (q .before .before .two-bytes2 .ensures j) (g .loads-are j)
           (rows-are _ (g .head) (g .found) _ (rows (k .before .before .before)) (k .enum-told .given .1) j)
-          (blocks-given _ _ _ (q .read-blocks .result) (last q) e j);
+          (blocks-given _ _ _ (q .read-blocks .result) (last q) e j)
+          (c .before .rule-of .ensures j);
       answer = e j;
     })
     ∙ accept (S k) (told q ∙ e)
@@ -172,5 +176,6 @@ read-rest-spec =
     enum-told-4
     refused-requires-2
     returns-2
+    rule-of-requires
     zeros-requires
     returns-3)

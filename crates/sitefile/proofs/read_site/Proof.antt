@@ -8,11 +8,13 @@ use lib.ListN.{length-take}
 use denote.Ref.{now}
 use Rattle.records.specs.Opener.{openAt, openAnswer}
 use Rattle.records.specs.Reasons.{firstReason}
-use Rattle.records.specs.Head.{headSize, cellsOfHead, headAnswer}
+use Rattle.records.specs.Bytes.{le16}
+use Rattle.records.specs.Head.{cellsOfHead}
 use Rattle.records.specs.declared.Length.the-variants.{Exact}
 use Rattle.records.specs.declared.ReadAnswer.the-variants.{Done}
 use Rattle.records.proofs.Laws.{Opening, opened, opened-done, not-opened, within, exact, body-is, ends}
-use Rattle.records.proofs.Head.{head-read, head-sizes}
+use Rattle.sitefile.specs.Head.{siteHeadAnswer}
+use Rattle.sitefile.proofs.Head.{site-head-read, site-head-sizes}
 use Rattle.sitefile.specs.Reasons.{loadsAt, loadsReasons}
 use Rattle.sitefile.specs.Read.{loadsOfBody, refusedSite}
 use Rattle.sitefile.proofs.Reasons.{refuse}
@@ -20,8 +22,8 @@ use Rattle.sitefile.proofs.ReadLaws.{head-stop, loads-stop}
 use Rattle.sitefile.proofs.read_site.Statement.{statement}
 use Rattle.sitefile.proofs.read_site.Tie as tie
 
-head-answer-requires : tie.Need-head-answer-requires
-head-answer-requires c κs = search needs
+site-head-requires : tie.Need-site-head-requires
+site-head-requires c κs = search needs
 
 enum-told : tie.Need-enum-told
 enum-told c = search needs
@@ -35,35 +37,42 @@ refused-requires c κs = search needs
 returns : tie.Need-returns
 returns c =
     let e = c .before .enum-told2 .given .1 in
-    let h = c .before .before .before .head-answer .ensures in
+    let h = c .before .before .before .site-head .ensures in
     c .refused .ensures ∙ ap refusedSite e ∙ refuse _ _ _ (head-stop _ _ _ (sym h ∙ e))
 
 -- a good head
-done : (c : tie.After-enum-told) → headAnswer (now (c .before .before .before .before .args .bytes)) ≡ Done
-done c = sym (c .before .before .head-answer .ensures) ∙ c .enum-told .given .1
+done : (c : tie.After-enum-told) → siteHeadAnswer (now (c .before .before .before .before .args .bytes)) ≡ Done
+done c = sym (c .before .before .site-head .ensures) ∙ c .enum-told .given .1
 
 few : (c : tie.After-two-bytes) → c .two-bytes .result ≤ 32
-few c = rw (c .two-bytes .ensures) (head-sizes _ (done (c .before)) .cells-most)
+few c = rw (c .two-bytes .ensures) (site-head-sizes _ (done (c .before)) .cells-most)
 
 -- what the opener found where the loads are due
 loads-open :
     (c : tie.After-open) →
-    let s = now (c .before .before .before .before .before .before .args .bytes) in
+    let s = now (c .before .before .before .before .before .before .before .args .bytes) in
     c .open .result ≡ openAt s (loadsAt s) 2 (Exact (2 + 2 * cellsOfHead s))
 loads-open c =
-    let h = c .before .before in
-    let s = now (h .before .before .before .before .args .bytes) in
-    let at : headSize ≡ loadsAt s = omega (arith, head-read s (done h) .eight) in
-    c .open .ensures ∙ (λ j. openAt s (at j) 2 (Exact (2 + 2 * c .before .two-bytes .ensures j)))
+    let s = now (c .before .before .before .before .before .before .before .args .bytes) in
+    c .open .ensures ∙ (λ j. openAt s (2 + c .before .two-bytes2 .ensures j) 2 (Exact (2 + 2 * c .before .before .two-bytes .ensures j)))
 
 two-bytes-requires : tie.Need-two-bytes-requires
-two-bytes-requires c κs = omega (arith, head-read _ (done c) .long)
+two-bytes-requires c κs = omega (arith, site-head-read _ (done c) .long)
 
-mul-t9 : tie.Need-mul-t9
-mul-t9 c = omega (arith, few c)
+two-bytes-requires-2 : tie.Need-two-bytes-requires-2
+two-bytes-requires-2 c κs = omega (arith, site-head-read _ (done (c .before)) .long)
 
-add-t10 : tie.Need-add-t10
-add-t10 c = omega (arith, few c)
+cast-at : tie.Need-cast-at
+cast-at c = search needs
+
+add-at : tie.Need-add-at
+add-at c = search needs
+
+mul-length : tie.Need-mul-length
+mul-length c = omega (arith, few (c .before))
+
+add-length : tie.Need-add-length
+add-length c = omega (arith, few (c .before))
 
 open-requires : tie.Need-open-requires
 open-requires c κs = search needs
@@ -87,11 +96,11 @@ returns-2 c =
     let e = t .enum-told3 .given .1 in
     c .refused2 .ensures
     ∙ ap refusedSite (c .before .opened-answer .ensures ∙ ap openAnswer e)
-    ∙ refuse _ _ _ (loads-stop _ (done (o .before .before)) _ _ (not-opened _ _ 2 _ _ _ (sym (loads-open o) ∙ e)))
+    ∙ refuse _ _ _ (loads-stop _ (done (o .before .before .before)) _ _ (not-opened _ _ 2 _ _ _ (sym (loads-open o) ∙ e)))
 
 module _ (c : tie.After-known-told) where
   abbrev S : List ℕ
-  S = now (c .before .before .before .before .before .before .before .before .before .args .bytes)
+  S = now (c .before .before .before .before .before .before .before .before .before .before .args .bytes)
 
   opening : Opening S (loadsAt S) 2 (Exact (2 + 2 * cellsOfHead S)) (c .before .o .given .0 .0) (c .before .o .given .0 .1 .0)
   opening = opened _ _ _ _ _ _ (sym (loads-open (c .before .before .before)) ∙ c .before .o .given .1)
@@ -115,13 +124,13 @@ loads-of-requires : tie.Need-loads-of-requires
 loads-of-requires c κs =
     let k = c .before in
     let o = opening k in
-    let w = k .before .before .before .before in
+    let w = k .before .before .before .before .before in
     simp length-take (omega (arith, o .size, exact _ _ (o .fits), few w, w .two-bytes .ensures))
 
 read-rest-requires : tie.Need-read-rest-requires
 read-rest-requires c κs =
     let k = c .before .before in
-    let w = k .before .before .before .before in
+    let w = k .before .before .before .before .before in
     record {
       head = done (w .before);
       found = loads-found k;
@@ -137,14 +146,17 @@ pub read-site-spec : {M : Type 1} → statement M
 read-site-spec =
     tie.close
     (tie.spec
-    head-answer-requires
+    site-head-requires
     enum-told
     enum-told-2
     refused-requires
     returns
     two-bytes-requires
-    mul-t9
-    add-t10
+    two-bytes-requires-2
+    cast-at
+    add-at
+    mul-length
+    add-length
     open-requires
     enum-known-o
     enum-told-3

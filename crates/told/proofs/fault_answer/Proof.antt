@@ -8,6 +8,6 @@ pub fault-answer-spec : {M : Type 1} → statement M
 fault-answer-spec =
     tie.close
     (tie.spec (λ c. search) (λ c κs. tt) (λ c. search) (λ c κs. tt) (λ c. search) (λ c κs. tt) (λ c. search) (λ c κs. tt)
-    (λ c. search) (λ c κs. tt)
+    (λ c. search) (λ c κs. tt) (λ c. search) (λ c κs. tt)
     (λ c. search (tells faultGiven)) (λ c. search (tells faultGiven)) (λ c. search (tells faultGiven)) (λ c. search (tells faultGiven))
-    (λ c. search (tells faultGiven)))
+    (λ c. search (tells faultGiven)) (λ c. search (tells faultGiven)))

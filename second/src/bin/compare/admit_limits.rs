@@ -34,7 +34,7 @@ fn admit(run: &mut Run, site: Site, flows: &[Flow]) {
 
 /// Each cell reaches the next few. The loads, which are set aside, are as high as they go.
 fn wide_tunnel(cells: u16, width: usize) -> Site {
-    let mut site = Site { cells, slots: 128, channels: 16, ..Site::default() };
+    let mut site = Site::sized(cells.into(), 128, 16);
     for i in 0..cells as usize {
         site.loads[i] = 65_535;
         (i + 1..cells as usize).filter(|j| j - i <= width).for_each(|j| site.reach[i] |= 1 << j);

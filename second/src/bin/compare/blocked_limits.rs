@@ -77,7 +77,8 @@ fn fitting(site: &Site) -> Site {
     fitting
 }
 
-fn every_call(run: &mut Run, site: &Site) {
+/// Every call that takes a site, and its file and its sheet.
+pub fn every_call(run: &mut Run, site: &Site) {
     for call in [Call::Fault, Call::LoadTest, Call::Chain, Call::Class, Call::Least, Call::Heaviest] {
         run.compare(&Case::of(call, *site));
     }
@@ -90,13 +91,13 @@ fn every_call(run: &mut Run, site: &Site) {
         run.compare(&Case::of(Call::Admit, *site).flows(&small_flows(count), count as u64));
     }
     tables(run, site);
-    let bits = site.positions().div_ceil(8);
-    for len in [0, 17, 18, 82, 144, 144 + bits, 4 + bits + 18 + 4 * site.count() - 2, 4096] {
+    let (bits, pairs) = (site.positions().div_ceil(8), 4 + 4 * site.count());
+    for len in [0, 17, 18, 82, 144, 144 + bits, pairs + bits + 16, pairs + bits + 18, 4096] {
         run.compare(&Case::of(Call::WriteSite, *site).output(&vec![7; len], len as u64));
     }
     let sheet = lines(site).concat();
     run.compare(&Case::of(Call::WriteSheet, *site).output(&vec![7; sheet.len()], 3));
-    run.read_sheet(sheet.as_bytes(), site.slots, site.channels, &site.blocked, 4);
+    run.read_sheet(sheet.as_bytes(), site, 4);
 }
 
 /// Plans in both forms, and the checks of its plan, of a plan that knows of nothing blocked, of a table of 1 throughout and
@@ -138,7 +139,8 @@ fn orders(run: &mut Run) {
     }
 }
 
-fn every_order(run: &mut Run, site: &Site) {
+/// Every call, with lent parts that are too short and long enough, and with numbers that an edit refuses.
+pub fn every_order(run: &mut Run, site: &Site) {
     for call in [Call::Fault, Call::LoadTest, Call::Chain, Call::Class, Call::Least, Call::Heaviest] {
         run.compare(&Case::of(call, *site));
     }

@@ -44,7 +44,7 @@ fn shares(run: &mut Run, slots: u16, burst: u16, period: u16) {
 
 /// A tunnel in which each cell reaches the next, one way, and all the load that has room.
 pub fn tunnel(cells: u16, slots: u16, channels: u16) -> Site {
-    let mut site = Site { cells, slots, channels, ..Site::default() };
+    let mut site = Site::sized(cells.into(), slots.into(), channels.into());
     let room = slots as usize * channels as usize;
     for i in 0..32.min(cells as usize) {
         site.loads[i] = if i % 2 == 0 { room / 3 } else { room - room / 3 } as u16;
@@ -55,16 +55,17 @@ pub fn tunnel(cells: u16, slots: u16, channels: u16) -> Site {
     site
 }
 
-/// A site of three cells with each fault of a record: a load, a reach and a blocked position too many, a size out of range
-/// in three ways.
-pub fn wrong_sites(three_cells: Site) -> [Site; 6] {
+/// A site of three cells with each fault of a record: a load, a reach and a blocked position too many, a rule that is none, a
+/// size out of range in three ways.
+pub fn wrong_sites(three_cells: Site) -> [Site; 7] {
     let mut load = three_cells;
     load.loads[3] = 1;
     let mut reach = three_cells;
     reach.reach[2] |= 1 << 2;
     let n = three_cells.positions();
     let past = Site { blocked: set_of(n..n + 1), ..three_cells };
-    [load, reach, past, Site { slots: 129, ..three_cells }, Site { cells: 0, ..three_cells }, Site::default()]
+    let rule = Site { rule: 3, ..three_cells };
+    [load, reach, past, rule, Site { slots: 129, ..three_cells }, Site { cells: 0, ..three_cells }, Site::default()]
 }
 
 /// All cells clash and have the greatest load, so that sums of loads go far above 65,535.

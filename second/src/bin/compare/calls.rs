@@ -25,7 +25,7 @@ extern "C" {
     fn dugg_write_site(site: Site, out: *mut u8, len: usize) -> Answer;
     fn dugg_read_plan(bytes: *const u8, len: usize, table: *mut u8, table_len: usize) -> PlanRead;
     fn dugg_write_plan(site: Site, table: *const u8, table_len: usize, out: *mut u8, len: usize) -> Answer;
-    fn dugg_read_sheet(bytes: *const u8, len: usize, slots: u16, channels: u16, blocked: Blocked) -> Edited;
+    fn dugg_read_sheet(bytes: *const u8, len: usize, slots: u16, channels: u16, blocked: Blocked, rule: u16) -> Edited;
     fn dugg_write_sheet(site: Site, out: *mut u8, len: usize) -> Answer;
     fn dugg_admit(site: Site, flows: *const Flow, count: usize) -> Answer;
     fn dugg_plan_words(site: Site, words: *mut u32, count: usize) -> Answer;
@@ -56,7 +56,7 @@ pub struct Calls {
     pub write_site: unsafe extern "C" fn(Site, *mut u8, usize) -> Answer,
     pub read_plan: unsafe extern "C" fn(*const u8, usize, *mut u8, usize) -> PlanRead,
     pub write_plan: unsafe extern "C" fn(Site, *const u8, usize, *mut u8, usize) -> Answer,
-    pub read_sheet: unsafe extern "C" fn(*const u8, usize, u16, u16, Blocked) -> Edited,
+    pub read_sheet: unsafe extern "C" fn(*const u8, usize, u16, u16, Blocked, u16) -> Edited,
     pub write_sheet: unsafe extern "C" fn(Site, *mut u8, usize) -> Answer,
     pub admit: unsafe extern "C" fn(Site, *const Flow, usize) -> Answer,
     pub plan_words: unsafe extern "C" fn(Site, *mut u32, usize) -> Answer,

@@ -39,8 +39,8 @@ pub enum Call {
     Carry,
 }
 
-/// A call and what it is given. What a call does not take is left zero or empty. The sheet reader takes of the site its
-/// blocked positions.
+/// A call and what it is given. What a call does not take is left zero or empty. The sheet reader takes of the site what
+/// comes beside a sheet: slots, channels, blocked positions and the rule.
 #[derive(Clone)]
 pub struct Case {
     pub call: Call,
@@ -142,7 +142,10 @@ impl Case {
                 Call::WriteSite => alone((calls.write_site)(site, out, olen)),
                 Call::ReadPlan => sizes((calls.read_plan)(inp, ilen, out, olen)),
                 Call::WritePlan => alone((calls.write_plan)(site, inp, ilen, out, olen)),
-                Call::ReadSheet => pair((calls.read_sheet)(inp, ilen, x, y, Blocked { bits: site.blocked })),
+                Call::ReadSheet => {
+                    let (slots, channels, blocked) = (site.slots, site.channels, Blocked { bits: site.blocked });
+                    pair((calls.read_sheet)(inp, ilen, slots, channels, blocked, site.rule))
+                }
                 Call::WriteSheet => alone((calls.write_sheet)(site, out, olen)),
                 Call::Admit => alone((calls.admit)(site, flows.pointer(), flows.len())),
                 Call::PlanWords => alone((calls.plan_words)(site, write, count)),
@@ -204,6 +207,7 @@ impl Case {
         println!("  loads {:?}", self.site.loads);
         println!("  reach {:08x?}", self.site.reach);
         println!("  blocked {:016x?}", self.site.blocked);
+        println!("  rule {}", self.site.rule);
         println!("numbers {:?}", self.numbers);
         println!("lent to read, {} bytes: {}", self.input.len(), hex(self.input.part()));
         println!("lent to write, {} bytes: {}", self.output.len(), hex(self.output.part()));
@@ -220,6 +224,7 @@ impl Seen {
         println!("  loads {:?}", self.site.loads);
         println!("  reach {:08x?}", self.site.reach);
         println!("  blocked {:016x?}", self.site.blocked);
+        println!("  rule {}", self.site.rule);
         println!("  to read, with guards: {}", hex(self.input.whole()));
         println!("  to write, with guards: {}", hex(self.output.whole()));
         println!("  words, with guards: {:08x?}", self.words.whole());
@@ -231,9 +236,9 @@ fn pair(edited: Edited) -> (Site, Answer) {
     (edited.site, edited.answer)
 }
 
+/// The sizes of a plan read, as a site that has them alone.
 fn sizes(read: PlanRead) -> (Site, Answer) {
-    let (cells, slots, channels) = (read.cells, read.slots, read.channels);
-    (Site { cells, slots, channels, ..Site::default() }, read.answer)
+    (Site::sized(read.cells.into(), read.slots.into(), read.channels.into()), read.answer)
 }
 
 fn hex(bytes: &[u8]) -> String {

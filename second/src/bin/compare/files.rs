@@ -18,11 +18,23 @@ fn words(numbers: &[u16]) -> Vec<u8> {
 }
 
 fn head(random: &mut Random, site: &Site) -> Vec<u8> {
+    record(1, &words(&sizes(random, site)))
+}
+
+/// The three sizes of a head, one of them now and then another.
+fn sizes(random: &mut Random, site: &Site) -> [u16; 3] {
     let mut sizes = [site.cells, site.slots, site.channels];
     if random.once_in(16) {
         sizes[random.below(3)] = random.pick(&[0, 1, 16, 17, 32, 33, 128, 129, 256, 65_535]);
     }
-    record(1, &words(&sizes))
+    sizes
+}
+
+/// Kind 5, with rule 2 or, one time in six, another.
+fn ruled_head(random: &mut Random, site: &Site) -> Vec<u8> {
+    let [cells, slots, channels] = sizes(random, site);
+    let rule = if random.once_in(6) { random.pick(&[0, 1, 1, 3, 256, 258, 512, 514, 65_535]) } else { 2 };
+    record(5, &words(&[cells, slots, channels, rule]))
 }
 
 /// A site file, valid as often as not.
@@ -41,8 +53,8 @@ pub fn site_file(random: &mut Random) -> Vec<u8> {
             damage_pairs(random, &mut pairs, site.count());
         }
     }
-    let mut records =
-        vec![head(random, &site), record(2, &words(&site.loads[..site.count()])), record(3, &pairs.concat())];
+    let head = if site.rule == 2 { ruled_head(random, &site) } else { head(random, &site) };
+    let mut records = vec![head, record(2, &words(&site.loads[..site.count()])), record(3, &pairs.concat())];
     records.extend(blocked_records(random, &site));
     if random.once_in(6) {
         damage_record(random, &mut records);
@@ -90,7 +102,8 @@ pub fn plan_file(random: &mut Random) -> (Vec<u8>, usize) {
     if bits & 7 != 0 && !random.once_in(8) {
         body[bits / 8] &= (1 << (bits % 8)) - 1;
     }
-    let mut records = [head(random, &site), record(4, &body)];
+    let head = if random.once_in(20) { ruled_head(random, &site) } else { head(random, &site) };
+    let mut records = [head, record(4, &body)];
     if random.once_in(6) {
         damage_record(random, &mut records);
     }

@@ -18,6 +18,7 @@ mod mend_limits;
 mod mends;
 mod numberings;
 mod random;
+mod rule_limits;
 mod run;
 mod samples;
 mod sheet_limits;
@@ -64,6 +65,7 @@ fn fixed(dir: &Path) -> ExitCode {
     mend_limits::compare(&mut run);
     heaviest_limits::compare(&mut run);
     blocked_limits::compare(&mut run);
+    rule_limits::compare(&mut run);
     println!("boundaries: {} cases", run.cases);
     let before = run.cases;
     spares::compare(&mut run);
@@ -80,6 +82,9 @@ fn fixed(dir: &Path) -> ExitCode {
     let before = run.cases;
     blocked_limits::every_small_table(&mut run);
     println!("small tables, whatever is blocked: {} cases", run.cases - before);
+    let before = run.cases;
+    rule_limits::every_small_reach(&mut run);
+    println!("four cells, whoever reaches whom, under both rules: {} cases", run.cases - before);
     let before = run.cases;
     match samples::compare(&mut run, dir) {
         Ok(files) if files > 0 => println!("{files} sample files, cut and changed: {} cases", run.cases - before),

@@ -65,8 +65,8 @@ pub fn compare(run: &mut Run, random: &mut Random) {
             run.read_plan(&file, near(random, due), mark);
         }
         Call::ReadSheet => {
-            let (bytes, slots, channels, blocked) = sheet(random);
-            run.read_sheet(&bytes, slots, channels, &blocked, mark);
+            let (bytes, beside) = sheet(random);
+            run.read_sheet(&bytes, &beside, mark);
         }
         Call::Share => {
             let flow = [near_number(random, 128), flow_number(random), flow_number(random)];
@@ -123,7 +123,8 @@ fn with_site(random: &mut Random, call: Call) -> Case {
         Call::WriteSite => {
             let pairs: u32 = site.reach.iter().map(|row| row.count_ones()).sum();
             let bits = if site.has_blocked() { 4 + site.positions().min(2048).div_ceil(8) } else { 0 };
-            let len = near(random, 18 + 2 * site.count().min(33) + 2 * pairs as usize + bits);
+            let head = if site.rule == 2 { 12 } else { 10 };
+            let len = near(random, head + 8 + 2 * site.count().min(33) + 2 * pairs as usize + bits);
             case.output(&random.bytes(len), mark)
         }
         Call::WriteSheet => {

@@ -2,6 +2,7 @@
 //! a site file and as a plan file, and written back where it is accepted. The sample sheets likewise, read as sheets.
 
 use crate::run::Run;
+use second::site::Site;
 use std::fs;
 use std::io;
 use std::path::Path;
@@ -20,9 +21,9 @@ pub fn compare(run: &mut Run, dir: &Path) -> io::Result<usize> {
         if path.extension().is_some_and(|end| end == "csv") {
             one_file(&file, |bytes, mark| {
                 // Six positions: some of them are blocked.
-                let mut blocked = [0; 32];
-                blocked[0] = mark % 64;
-                run.read_sheet(bytes, 3, 2, &blocked, mark)
+                let mut beside = Site { rule: 1 + mark as u16 / 64 % 2, ..Site::sized(1, 3, 2) };
+                beside.blocked[0] = mark % 64;
+                run.read_sheet(bytes, &beside, mark)
             });
         } else {
             one_file(&file, |bytes, mark| both_ways(run, bytes, mark));

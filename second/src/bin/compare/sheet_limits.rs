@@ -31,10 +31,12 @@ pub fn compare(run: &mut Run) {
     }
 }
 
-/// Reads a sheet with nothing blocked, with position 0, and with the last position of any site.
+/// Reads a sheet with nothing blocked, with position 0, and with the last position of any site; under rule 1, under rule 2 and
+/// under none.
 fn read(run: &mut Run, bytes: &[u8], slots: u16, channels: u16, mark: u64) {
-    for positions in [&[][..], &[0], &[2047]] {
-        run.read_sheet(bytes, slots, channels, &set_of(positions.iter().copied()), mark);
+    for (positions, rule) in [(&[][..], 1), (&[0], 2), (&[2047], 1), (&[2047], 3)] {
+        let blocked = set_of(positions.iter().copied());
+        run.read_sheet(bytes, &Site { slots, channels, blocked, rule, ..Site::default() }, mark);
     }
 }
 

@@ -3,8 +3,8 @@
 use crate::files::damage_bytes;
 use crate::make::near_number;
 use crate::random::Random;
-use crate::sites::{block_past, sound_site};
-use second::site::{Positions, Site};
+use crate::sites::{block_past, no_rule, sound_site};
+use second::site::Site;
 
 /// What no field of a sheet may be, or only some may.
 const FIELDS: [&str; 24] = [
@@ -50,8 +50,8 @@ pub fn lines(site: &Site) -> Vec<String> {
     lines.iter().map(|line| format!("{line}\r\n")).collect()
 }
 
-/// A sheet, valid as often as not, and the slots, channels and blocked positions beside it.
-pub fn sheet(random: &mut Random) -> (Vec<u8>, u16, u16, Positions) {
+/// A sheet, valid as often as not, and a site with the slots, channels, blocked positions and rule beside it.
+pub fn sheet(random: &mut Random) -> (Vec<u8>, Site) {
     let mut site = sound_site(random);
     if random.once_in(8) {
         let cell = random.below(site.count());
@@ -77,7 +77,10 @@ pub fn sheet(random: &mut Random) -> (Vec<u8>, u16, u16, Positions) {
     if random.once_in(10) {
         block_past(random, &mut site);
     }
-    (bytes, slots, channels, site.blocked)
+    if random.once_in(12) {
+        site.rule = no_rule(random);
+    }
+    (bytes, Site { slots, channels, ..site })
 }
 
 /// Changes, adds or drops a field.

@@ -17,7 +17,7 @@ pub fn sound_site(random: &mut Random) -> Site {
 
 /// A site of these sizes whose record has no fault.
 pub fn sized_site(random: &mut Random, cells: usize, slots: usize, channels: usize) -> Site {
-    let mut site = Site::sized(cells, slots, channels);
+    let mut site = Site { rule: random.pick(&[1, 1, 2]), ..Site::sized(cells, slots, channels) };
     set_reach(random, &mut site);
     set_blocked(random, &mut site);
     set_loads(random, &mut site);
@@ -114,7 +114,7 @@ fn set_loads(random: &mut Random, site: &mut Site) {
 pub fn damage(random: &mut Random, site: &mut Site) {
     for _ in 0..random.between(1, 3) {
         let (any, cell) = (random.below(32), random.below(site.count().clamp(1, 32)));
-        match random.below(12) {
+        match random.below(13) {
             0 => site.cells = random.pick(&[0, 33, 65_535, random_size(any)]),
             1 => site.slots = random.pick(&[0, 129, 65_535, random_size(any)]),
             2 => site.channels = random.pick(&[0, 17, 65_535, random_size(any)]),
@@ -124,9 +124,15 @@ pub fn damage(random: &mut Random, site: &mut Site) {
             7 => site.reach[cell] |= 1u32.checked_shl(site.cells as u32).unwrap_or(0),
             8 => site.reach[any] |= 1 << 31,
             9 | 10 => block_past(random, site),
+            11 => site.rule = no_rule(random),
             _ => site.cells = site.cells.saturating_sub(1).max(1),
         }
     }
+}
+
+/// A number that is no rule.
+pub fn no_rule(random: &mut Random) -> u16 {
+    random.pick(&[0, 3, 4, 255, 256, 257, 258, 512, 32_769, 65_535])
 }
 
 fn random_size(any: usize) -> u16 {

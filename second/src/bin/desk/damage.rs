@@ -3,11 +3,12 @@
 use crate::random::Random;
 use second::site::Site;
 
-/// The offset of the second record: the head has ten bytes.
+/// The offset of the second record of a plan file: the head has ten bytes.
 const SECOND: usize = 10;
 
 pub fn site_file(random: &mut Random, seed: u64, file: &mut Vec<u8>, site: &Site) {
-    let reach = SECOND + 4 + 2 * site.count();
+    let second = if site.rule == 2 { SECOND + 2 } else { SECOND };
+    let reach = second + 4 + 2 * site.count();
     let end = reach + 2 + u16::from_le_bytes([file[reach], file[reach + 1]]) as usize;
     match seed % 8 {
         1 => {
@@ -20,8 +21,9 @@ pub fn site_file(random: &mut Random, seed: u64, file: &mut Vec<u8>, site: &Site
             add_pair(file, reach, end + 2, [2, 1]);
         }
         5 => blocked(random, file, end, site.positions()),
-        _ if end < file.len() => records(random, seed, file, &[0, SECOND, reach, end]),
-        _ => records(random, seed, file, &[0, SECOND, reach]),
+        0 if site.rule == 2 && seed / 8 % 2 == 0 => file[10] = random.pick(&[0, 1, 3, 255]),
+        _ if end < file.len() => records(random, seed, file, &[0, second, reach, end]),
+        _ => records(random, seed, file, &[0, second, reach]),
     }
 }
 

@@ -11,6 +11,7 @@ mod random;
 mod sites;
 
 use second::desk::{self, Done, Input, Told};
+use second::site::RULE_1;
 use std::fs;
 use std::io::{self, Write};
 use std::process::ExitCode;
@@ -57,13 +58,11 @@ fn said(words: &[&str]) -> io::Result<Said> {
         ["mend", _, _] => desk::mend(file(0), file(1)),
         ["why", _] => desk::why(file(0)),
         ["sheet", _] => desk::sheet(file(0)),
-        ["site", _, "--slots", slots, "--channels", channels] => {
-            desk::site(file(0), number(slots), number(channels), &[0; 32])
-        }
-        ["site", _, "--slots", slots, "--channels", channels, "--blocked", list] => {
+        ["site", _, "--slots", slots, "--channels", channels, ref more @ ..] => {
             let (slots, channels) = (number(slots), number(channels));
-            match desk::blocked(list.as_bytes(), slots, channels) {
-                Ok(blocked) => desk::site(file(0), slots, channels, &blocked),
+            let Some((list, rule)) = beside(more) else { return Ok(wrong()) };
+            match list.map_or(Ok([0; 32]), |list| desk::blocked(list.as_bytes(), slots, channels)) {
+                Ok(blocked) => desk::site(file(0), slots, channels, &blocked, rule),
                 Err(line) => return Ok(Said::Wrong(line)),
             }
         }
@@ -76,6 +75,18 @@ fn said(words: &[&str]) -> io::Result<Said> {
         ["carry", _, _] => desk::carry(file(0), file(1)),
         _ => return Ok(wrong()),
     }))
+}
+
+/// What else is given beside a sheet: the list of blocked positions if there is one, and the rule, which is 1 where none is
+/// given.
+fn beside<'a>(words: &[&'a str]) -> Option<(Option<&'a str>, u16)> {
+    match *words {
+        [] => Some((None, RULE_1)),
+        ["--blocked", list] => Some((Some(list), RULE_1)),
+        ["--rule", rule] => Some((None, number(rule))),
+        ["--blocked", list, "--rule", rule] => Some((Some(list), number(rule))),
+        _ => None,
+    }
 }
 
 /// A number on the command line; one above 65,535 is out of range wherever it stands, as 0 is.

@@ -95,8 +95,8 @@ fn flow_sheet(random: &mut Random, seed: u64, site: &Site) -> Vec<u8> {
     sheet.into_bytes()
 }
 
-/// The site's slots, channels and blocked positions as they are given beside its sheet; one in five of the numbers is out
-/// of range, and one list in eight is damaged.
+/// The site's slots, channels, blocked positions and rule as they are given beside its sheet; one in five of the numbers is out
+/// of range, and one list in eight is damaged. Rule 1 is given or left out.
 fn beside(random: &mut Random, site: &Site) -> Vec<u8> {
     let mut near = |number: u16, beyond: &str| match random.below(25) {
         0..=2 => beyond.to_string(),
@@ -111,7 +111,12 @@ fn beside(random: &mut Random, site: &Site) -> Vec<u8> {
         list.insert(at, random.pick(&['0', '1', '9', '.', ',', '-', '*', ';']));
     }
     let option = if list.is_empty() { "" } else { " --blocked " };
-    format!("{sizes}{option}{list}\n").into_bytes()
+    let rule = match site.rule {
+        _ if random.once_in(8) => random.pick(&[" --rule 0", " --rule 3", " --rule 65535", " --rule 65538"]),
+        2 => " --rule 2",
+        _ => random.pick(&["", "", " --rule 1"]),
+    };
+    format!("{sizes}{option}{list}{rule}\n").into_bytes()
 }
 
 /// Slots, burst and period, and mostly the repeats; one flow in four is a large one.
