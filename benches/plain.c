@@ -276,9 +276,12 @@ dugg_answer NAME(share_repeated)(uint16_t slots, uint16_t burst, uint16_t period
     return share_of(slots, burst, period, repeats);
 }
 
+/* The repeats of a caller that gives none. */
+enum { NO_REPEATS_GIVEN = 2 };
+
 dugg_answer NAME(share)(uint16_t slots, uint16_t burst, uint16_t period)
 {
-    return share_of(slots, burst, period, 1);
+    return share_of(slots, burst, period, NO_REPEATS_GIVEN);
 }
 
 /* ---- house files ---- */

@@ -39,8 +39,8 @@
 #include <stddef.h>
 #include <stdint.h>
 
-/* The version: one more where a record or a call has another shape than before. */
-#define DUGG_VERSION 3
+/* The version: one more where a record or a call has another shape than before, or a call another answer. */
+#define DUGG_VERSION 4
 
 #ifdef __cplusplus
 extern "C" {
@@ -173,8 +173,9 @@ dugg_renumbered dugg_renumber(dugg_site site);
  * past cells * slots * channels are not written. Refusals: 23, then 4 for either table; they write nothing. */
 dugg_answer dugg_carry(dugg_site site, const uint8_t *new_table, size_t new_len, uint8_t *old_table, size_t old_len);
 
-/* What a flow needs, from its burst in fragments and its period in slots, each fragment sent once. Done: its share in
- * fragments per superframe, its queue bound in fragments, its delay bound in slots. */
+/* What a flow needs, from its burst in fragments and its period in slots, each fragment sent twice: since version 4 a caller
+ * that gives no repeats gets 2, and before it was 1. Done: its share in fragments per superframe, its queue bound in
+ * fragments, its delay bound in slots. A caller that wants each fragment sent once asks dugg_share_repeated for 1. */
 dugg_answer dugg_share(uint16_t slots, uint16_t burst, uint16_t period);
 
 /* The same with each fragment sent "repeats" times, 1 to 4. The share is that many times the share of one sending; the

@@ -15,7 +15,7 @@ use crate::judge::first_split;
 use crate::mender;
 use crate::numbering;
 use crate::planner;
-use crate::share::{share as share_once, share_of, Fragments, Repeats, Share, Slots};
+use crate::share::{share as share_by_default, share_of, Fragments, Repeats, Share, Slots, NO_REPEATS_GIVEN};
 use crate::sheet::{read_sheet, write_sheet};
 use crate::site::{Positions, Site};
 pub use input::Input;
@@ -154,11 +154,12 @@ pub fn site(sheet: Input, slots: u16, channels: u16, blocked: &Positions, rule: 
     result(written(|file| write_site(&site, file)))
 }
 
-/// What a flow needs, in a superframe of so many slots. Numbers above 65,535 are given as 0, as `site` has it.
+/// What a flow needs, in a superframe of so many slots. Numbers above 65,535 are given as 0, as `site` has it. Where no
+/// repeats are given, the first line says what was taken.
 pub fn share(slots: u16, burst: u16, period: u16, repeats: Option<u16>) -> Told {
     let (t, c, p) = (Slots(slots.into()), Fragments(burst.into()), Slots(period.into()));
     let answer = match repeats {
-        None => share_once(t, c, p),
+        None => share_by_default(t, c, p),
         Some(repeats) => share_of(t, c, p, Repeats(repeats.into())),
     };
     let Share { share, queue, delay } = answer.map_err(|no| match no.number {
@@ -166,10 +167,14 @@ pub fn share(slots: u16, burst: u16, period: u16, repeats: Option<u16>) -> Told 
         15 => wrong_flow(burst.into(), period.into()),
         number => refused(number, Place::Nowhere),
     })?;
+    let taken = match repeats {
+        None => format!("repeats {}, since none were given\n", NO_REPEATS_GIVEN.0),
+        Some(_) => String::new(),
+    };
     let share = format!("share {} in a superframe\n", counted(share.0, "fragment"));
     let queue = format!("queue at most {}\n", counted(queue.0, "fragment"));
     let delay = format!("delay at most {}\n", counted(delay.0, "slot"));
-    result(share + &queue + &delay)
+    result(taken + &share + &queue + &delay)
 }
 
 pub fn admit(site_file: Input, flow_sheet: Input) -> Told {
@@ -280,16 +285,19 @@ mod tests {
     fn shares_of_one_and_two() {
         let said = |text: &str| result(text);
         let one = "share 1 fragment in a superframe\nqueue at most 2 fragments\ndelay at most 2 slots\n";
-        assert_eq!(share(1, 1, 1, None), said(one));
+        assert_eq!(share(1, 1, 1, Some(1)), said(one));
         let two = "share 2 fragments in a superframe\nqueue at most 2 fragments\ndelay at most 2 slots\n";
         assert_eq!(share(1, 1, 1, Some(2)), said(two));
+        assert_eq!(share(1, 1, 1, None), said(&format!("repeats 2, since none were given\n{two}")));
         for (numbers, number) in [
             ((0, 0, 0), "refused 1: the slots "),
             ((1, 0, 0), "refused 15: the burst "),
             ((1, 1, 0), "refused 15: the period "),
             ((2, 65_535, 1), "refused 16: "),
         ] {
-            assert!(share(numbers.0, numbers.1, numbers.2, None).unwrap_err().starts_with(number));
+            for repeats in [None, Some(1)] {
+                assert!(share(numbers.0, numbers.1, numbers.2, repeats).unwrap_err().starts_with(number));
+            }
         }
         assert!(share(1, 1, 1, Some(0)).unwrap_err().starts_with("refused 15: the repeats "));
     }

@@ -28,8 +28,8 @@ const FLOW: RangeInclusive<u64> = 1..=65_535;
 /// "k from 1 to 4"
 const REPEATS: RangeInclusive<u64> = 1..=4;
 
-/// "A caller that gives no k gets 1."
-const NO_REPEATS_GIVEN: Repeats = Repeats(1);
+/// "A caller that gives no k gets 2."
+pub const NO_REPEATS_GIVEN: Repeats = Repeats(2);
 
 /// The share for a caller that gives no repeats.
 pub fn share(superframe: Slots, burst: Fragments, period: Slots) -> Outcome<Share> {
@@ -64,8 +64,8 @@ mod tests {
         share.map(|s| (s.share.0, s.queue.0, s.delay.0))
     }
 
-    fn of(t: u64, c: u64, p: u64) -> Outcome<(u64, u64, u64)> {
-        sent(t, c, p, 1)
+    fn none_given(t: u64, c: u64, p: u64) -> Outcome<(u64, u64, u64)> {
+        values(share(Slots(t), Fragments(c), Slots(p)))
     }
 
     fn sent(t: u64, c: u64, p: u64, k: u64) -> Outcome<(u64, u64, u64)> {
@@ -74,8 +74,14 @@ mod tests {
 
     #[test]
     fn worked_shares() {
-        assert_eq!(of(3, 3, 4), Ok((3, 6, 6)));
-        assert_eq!(of(3, 3, 5), Ok((2, 5, 8)));
+        assert_eq!(sent(3, 3, 4, 1), Ok((3, 6, 6)));
+        assert_eq!(sent(3, 3, 5, 1), Ok((2, 5, 8)));
+    }
+
+    #[test]
+    fn worked_shares_with_no_repeats_given() {
+        assert_eq!(none_given(3, 3, 4), Ok((6, 6, 6)));
+        assert_eq!(none_given(3, 3, 5), Ok((4, 5, 8)));
     }
 
     #[test]
@@ -85,8 +91,13 @@ mod tests {
     }
 
     #[test]
-    fn no_repeats_given_is_once() {
-        assert_eq!(values(share(Slots(3), Fragments(3), Slots(4))), of(3, 3, 4));
+    fn no_repeats_given_is_twice() {
+        for (t, c, p) in [(3, 3, 4), (3, 3, 5), (0, 1, 1), (129, 1, 1), (1, 0, 1), (1, 1, 0), (1, 65_535, 1)] {
+            assert_eq!(none_given(t, c, p), sent(t, c, p, 2));
+        }
+        // Sent once the largest share has room.
+        assert_eq!((none_given(1, 32_768, 1), sent(1, 32_768, 1, 1).is_ok()), (refuse(16, &[]), true));
+        assert_eq!(none_given(1, 32_767, 1), Ok((65_534, 65_534, 2)));
     }
 
     #[test]
@@ -109,14 +120,14 @@ mod tests {
 
     #[test]
     fn refusals_in_their_order() {
-        assert_eq!(of(0, 0, 0), refuse(1, &[]));
-        assert_eq!(of(129, 1, 1), refuse(1, &[]));
-        assert_eq!(of(1, 0, 1), refuse(15, &[]));
-        assert_eq!(of(1, 1, 0), refuse(15, &[]));
-        assert_eq!(of(1, 65_536, 65_536), refuse(15, &[]));
-        assert_eq!(of(1, 1, 65_536), refuse(15, &[]));
-        assert_eq!(of(2, 32_768, 1), refuse(16, &[]));
-        assert_eq!(of(1, 65_535, 1), Ok((65_535, 131_070, 2)));
+        assert_eq!(sent(0, 0, 0, 1), refuse(1, &[]));
+        assert_eq!(sent(129, 1, 1, 1), refuse(1, &[]));
+        assert_eq!(sent(1, 0, 1, 1), refuse(15, &[]));
+        assert_eq!(sent(1, 1, 0, 1), refuse(15, &[]));
+        assert_eq!(sent(1, 65_536, 65_536, 1), refuse(15, &[]));
+        assert_eq!(sent(1, 1, 65_536, 1), refuse(15, &[]));
+        assert_eq!(sent(2, 32_768, 1, 1), refuse(16, &[]));
+        assert_eq!(sent(1, 65_535, 1, 1), Ok((65_535, 131_070, 2)));
     }
 
     #[test]

@@ -13,7 +13,7 @@ use Rattle.contracts.proofs.MenderOne.{mend-one, mendOnly-one}
 use Rattle.contracts.proofs.NumberingOne.{carry-one, renumber-one}
 use Rattle.contracts.proofs.PlanfileOne.{readPlan-one, writePlan-one}
 use Rattle.contracts.proofs.PlannerOne.{plan-one}
-use Rattle.contracts.proofs.SharesOne.{share-one, shareOf-one}
+use Rattle.contracts.proofs.SharesOne.{defaultRepeats-one, share-one, shareOf-one}
 use Rattle.contracts.proofs.SheetOne.{readSheet-one, writeSheet-one}
 use Rattle.contracts.proofs.SiteOne.{ruleOk-one, siteClash-one, siteClashRows-one, siteClearReach-one, siteFaultIn-one, siteSetLoad-one}
 use Rattle.contracts.proofs.SiteOne.{siteSetReach-one, siteZeros-one, sizeOk-one, within-one}
@@ -41,6 +41,7 @@ every-call = record {
   check = check-one;
   heaviest = heaviest-one;
   shareOf = shareOf-one;
+  defaultRepeats = defaultRepeats-one;
   share = share-one;
   mend = mend-one;
   mendOnly = mendOnly-one;

@@ -5,11 +5,11 @@ use mathlib.Core.List.{List}
 use Prim.Native.Nat.{_+_, ℕ}
 use Rattle.checker.specs.declared.CheckAnswer.{CheckAnswer}
 use Rattle.contracts.specs.SayVerdictsSays.{SayVerdictsPutBadList, SayVerdictsPutCheck, SayVerdictsPutFault, SayVerdictsPutMend, SayVerdictsPutOtherPlan}
-use Rattle.contracts.specs.SayVerdictsSays.{SayVerdictsPutPlan, SayVerdictsPutRead, SayVerdictsPutShare, SayVerdictsPutSheetRead}
+use Rattle.contracts.specs.SayVerdictsSays.{SayVerdictsPutPlan, SayVerdictsPutRead, SayVerdictsPutRepeats, SayVerdictsPutShare, SayVerdictsPutSheetRead}
 use Rattle.mender.specs.declared.MendAnswer.{MendAnswer}
 use Rattle.planner.specs.declared.PlanAnswer.{PlanAnswer}
 use Rattle.records.specs.declared.ReadAnswer.{ReadAnswer}
-use Rattle.say_verdicts.specs.Said.{badListLine, checkSaid, faultSaid, mendSaid, otherPlanLine, planSaid, readSaid, shareSaid, sheetSaid}
+use Rattle.say_verdicts.specs.Said.{badListLine, checkSaid, faultSaid, mendSaid, otherPlanLine, planSaid, readSaid, repeatsLine, shareSaid, sheetSaid}
 use Rattle.say_verdicts.specs.declared.File.{File}
 use Rattle.shares.specs.declared.ShareAnswer.{ShareAnswer}
 use Rattle.sheet.specs.declared.SheetAnswer.{SheetAnswer}
@@ -91,6 +91,17 @@ pub sayVerdictsPutBadList-one : (out : List ℕ) (at : ℕ) (character : ℕ)
 sayVerdictsPutBadList-one out at character = (
   at + length (badListLine character),
   sets out at (badListLine character),
+  record { answer = refl; out-after = refl },
+  λ q out″ says. (says .answer, says .out-after),
+)
+
+-- say_verdicts::put_repeats
+pub sayVerdictsPutRepeats-one : (out : List ℕ) (at : ℕ) (repeats : ℕ)
+    → (r : ℕ) × (out′ : List ℕ) × (SayVerdictsPutRepeats out at repeats r out′)
+    × ((q : ℕ) (out″ : List ℕ) → SayVerdictsPutRepeats out at repeats q out″ → (q ≡ r) × (out″ ≡ out′))
+sayVerdictsPutRepeats-one out at repeats = (
+  at + length (repeatsLine repeats),
+  sets out at (repeatsLine repeats),
   record { answer = refl; out-after = refl },
   λ q out″ says. (says .answer, says .out-after),
 )

@@ -1,7 +1,7 @@
 -- For any arguments one answer and one content of what is lent meet the contract, and no other, in crate `shares`: by its equalities alone.
 -- Made by tools/surface from the source. Assumes nothing.
 use mathlib.Core.Path.{_≡_, refl}
-use Rattle.contracts.specs.SharesSays.{Share, ShareOf}
+use Rattle.contracts.specs.SharesSays.{DefaultRepeats, Share, ShareOf}
 use Rattle.shares.specs.Share.{defaultRepeats, shareOf}
 use Rattle.shares.specs.declared.Fragments.{Fragments}
 use Rattle.shares.specs.declared.Repeats.{Repeats}
@@ -14,6 +14,15 @@ pub shareOf-one : (slots : Slots) (burst : Fragments) (period : Slots) (repeats 
     × ((q : ShareAnswer) → ShareOf slots burst period repeats q → (q ≡ r))
 shareOf-one slots burst period repeats = (
   shareOf (slots .0) (burst .0) (period .0) (repeats .0),
+  record { answer = refl },
+  λ q says. says .answer,
+)
+
+-- shares::default_repeats
+pub defaultRepeats-one : (r : Repeats) × (DefaultRepeats r)
+    × ((q : Repeats) → DefaultRepeats q → (q ≡ r))
+defaultRepeats-one = (
+  record { 0 = defaultRepeats },
   record { answer = refl },
   λ q says. says .answer,
 )

@@ -19,7 +19,7 @@ use Rattle.contracts.specs.MenderSays.{Mend, MendOnly}
 use Rattle.contracts.specs.NumberingSays.{Carry, Renumber}
 use Rattle.contracts.specs.PlanfileSays.{ReadPlan, WritePlan}
 use Rattle.contracts.specs.PlannerSays.{Plan}
-use Rattle.contracts.specs.SharesSays.{Share, ShareOf}
+use Rattle.contracts.specs.SharesSays.{DefaultRepeats, Share, ShareOf}
 use Rattle.contracts.specs.SheetSays.{ReadSheet, WriteSheet}
 use Rattle.contracts.specs.SiteSays.{RuleOk, SiteClash, SiteClashRows, SiteClearReach, SiteFaultIn, SiteSetLoad, SiteSetReach, SiteZeros, SizeOk, Within}
 use Rattle.contracts.specs.SitefileSays.{ReadSite, WriteSite}
@@ -128,6 +128,9 @@ pub record EveryCall : Type 0 where
   pub shareOf : (slots : Slots) (burst : Fragments) (period : Slots) (repeats : Repeats)
       → (r : ShareAnswer) × (ShareOf slots burst period repeats r)
       × ((q : ShareAnswer) → ShareOf slots burst period repeats q → (q ≡ r))
+  -- shares::default_repeats
+  pub defaultRepeats : (r : Repeats) × (DefaultRepeats r)
+      × ((q : Repeats) → DefaultRepeats q → (q ≡ r))
   -- shares::share
   pub share : (slots : Slots) (burst : Fragments) (period : Slots)
       → (r : ShareAnswer) × (Share slots burst period r)

@@ -7,7 +7,7 @@ use Rattle.checker.specs.declared.CheckAnswer.{CheckAnswer}
 use Rattle.mender.specs.declared.MendAnswer.{MendAnswer}
 use Rattle.planner.specs.declared.PlanAnswer.{PlanAnswer}
 use Rattle.records.specs.declared.ReadAnswer.{ReadAnswer}
-use Rattle.say_verdicts.specs.Said.{badListLine, checkSaid, faultSaid, mendSaid, otherPlanLine, planSaid, readSaid, shareSaid, sheetSaid}
+use Rattle.say_verdicts.specs.Said.{badListLine, checkSaid, faultSaid, mendSaid, otherPlanLine, planSaid, readSaid, repeatsLine, shareSaid, sheetSaid}
 use Rattle.say_verdicts.specs.declared.File.{File}
 use Rattle.shares.specs.declared.ShareAnswer.{ShareAnswer}
 use Rattle.sheet.specs.declared.SheetAnswer.{SheetAnswer}
@@ -50,6 +50,11 @@ pub record SayVerdictsPutOtherPlan (out : List ℕ) (at : ℕ) (cells : ℕ) (sl
 pub record SayVerdictsPutBadList (out : List ℕ) (at : ℕ) (character : ℕ) (r : ℕ) (out′ : List ℕ) : Type 0 where
   pub answer : r ≡ at + length (badListLine character)
   pub out-after : out′ ≡ sets out at (badListLine character)
+
+-- say_verdicts::put_repeats
+pub record SayVerdictsPutRepeats (out : List ℕ) (at : ℕ) (repeats : ℕ) (r : ℕ) (out′ : List ℕ) : Type 0 where
+  pub answer : r ≡ at + length (repeatsLine repeats)
+  pub out-after : out′ ≡ sets out at (repeatsLine repeats)
 
 -- say_verdicts::put_share
 pub record SayVerdictsPutShare (out : List ℕ) (at : ℕ) (burst : ℕ) (period : ℕ) (reply : ShareAnswer) (r : ℕ) (out′ : List ℕ) : Type 0 where

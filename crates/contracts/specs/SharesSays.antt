@@ -11,6 +11,10 @@ use Rattle.shares.specs.declared.Slots.{Slots}
 pub record ShareOf (slots : Slots) (burst : Fragments) (period : Slots) (repeats : Repeats) (r : ShareAnswer) : Type 0 where
   pub answer : r ≡ shareOf (slots .0) (burst .0) (period .0) (repeats .0)
 
+-- shares::default_repeats
+pub record DefaultRepeats (r : Repeats) : Type 0 where
+  pub answer : r ≡ record { 0 = defaultRepeats }
+
 -- shares::share
 pub record Share (slots : Slots) (burst : Fragments) (period : Slots) (r : ShareAnswer) : Type 0 where
   pub answer : r ≡ shareOf (slots .0) (burst .0) (period .0) defaultRepeats

@@ -504,27 +504,39 @@ fn site(input: &[u8], slots: u16, channels: u16, rule: u16, out: &mut [u8], text
     sheet_site(input, slots, channels, blocked, rule, out, text);
 }
 
+// Whether no repeats were given.
+fn none_given() -> bool {
+    os::arg_count() <= NUMBERS + 3
+}
+
 // The share of a flow; one that says nothing of repeats has the default.
 fn share_of(slots: u16, burst: u16, period: u16) -> ShareAnswer {
     let t = Slots(slots as u32);
     let c = Fragments(burst as u32);
     let p = Slots(period as u32);
-    if os::arg_count() <= NUMBERS + 3 {
+    if none_given() {
         return shares::share(t, c, p);
     }
     shares::share_of(t, c, p, Repeats(number(NUMBERS + 3) as u32))
 }
 
-// The share of a flow, in English.
+// The share of a flow, in English. Where no repeats were given, the first line says which were taken.
 fn share(slots: u16, burst: u16, period: u16, text: &mut [u8])
     requires { ⌜ 65536 ≤ length (now text) ⌝ }
 {
     let answer = share_of(slots, burst, period);
-    let end = say_verdicts::put_share(text, 0, burst as usize, period as usize, answer);
     let ShareAnswer::Done(_, _, _) = answer else {
+        let end = say_verdicts::put_share(text, 0, burst as usize, period as usize, answer);
         no(text, end);
         return;
     };
+    if none_given() {
+        let at = say_verdicts::put_repeats(text, 0, shares::default_repeats().0 as usize);
+        let end = say_verdicts::put_share(text, at, burst as usize, period as usize, answer);
+        yes(text, end);
+        return;
+    }
+    let end = say_verdicts::put_share(text, 0, burst as usize, period as usize, answer);
     yes(text, end);
 }
 

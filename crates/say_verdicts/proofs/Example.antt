@@ -18,7 +18,7 @@ use Rattle.planner.specs.Plan.{planAnswer}
 use Rattle.checker.specs.Check.{verdictOf, checkAnswer}
 use Rattle.mending.specs.Mend.{stand}
 use Rattle.mender.specs.Mend.{mendAnswer}
-use Rattle.shares.specs.Share.{roundedUp, defaultRepeats, shareOf}
+use Rattle.shares.specs.Share.{roundedUp, shareOf}
 use Rattle.records.specs.declared.ReadAnswer.the-variants as read
 use Rattle.sheet.specs.declared.SheetAnswer.the-variants as sheet
 use Rattle.text.specs.Decimal.{digitsOf, decimal}
@@ -132,7 +132,7 @@ mended = refl
 
 -- ---- share: once and twice; a superframe of 0 slots; of a 15 the first number that is out of range; a share that is too big
 shared :
-    shareSaid 3 4 (shareOf 3 3 4 defaultRepeats) ∷ shareSaid 3 4 (shareOf 3 3 4 2) ∷ shareSaid 1 1 (shareOf 1 1 1 1)
+    shareSaid 3 4 (shareOf 3 3 4 1) ∷ shareSaid 3 4 (shareOf 3 3 4 2) ∷ shareSaid 1 1 (shareOf 1 1 1 1)
     ∷ shareSaid 0 4 (shareOf 0 0 4 1) ∷ shareSaid 0 0 (shareOf 3 0 0 5) ∷ shareSaid 3 0 (shareOf 3 3 0 5) ∷ shareSaid 3 4 (shareOf 3 3 4 5)
     ∷ shareSaid 65535 1 (shareOf 2 65535 1 1) ∷ []
     ≡ bytes "share 3 fragments in a superframe\nqueue at most 6 fragments\ndelay at most 6 slots\n"

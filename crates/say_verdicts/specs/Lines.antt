@@ -24,6 +24,7 @@ verdictLines =
     ∷ "refused 22: cell @1 sends in slot @2, channel @3, which is blocked\n"
     ∷ "--blocked: at character @1 stands no slot.channel of this site\n"
     ∷ "refused 6: cells @1 and @2 clash (both reach a third cell), and both send in slot @3, channel @4\n"
+    ∷ "repeats @1, since none were given\n"
     ∷ []
 
 -- ---- the rows by name
@@ -87,3 +88,6 @@ badListRow = 17
 -- of two cells that clash by rule 2 alone
 abbrev pub clashThirdRow : ℕ
 clashThirdRow = 18
+
+abbrev pub repeatsRow : ℕ
+repeatsRow = 19

@@ -33,7 +33,7 @@ use Rattle.say_refusals.specs.declared.Sentence.the-variants.{Plain, Refusal}
 use Rattle.say_verdicts.specs.Lines.{verdictLines, validRow, clashForthRow, clashBackRow, clashBothRow, clashThirdRow, countRow, plannedRow, noRoomRow}
 use Rattle.say_verdicts.specs.Lines.{keptNoRoomRow}
 use Rattle.say_verdicts.specs.Lines.{unchangedRow, mendedRow, shareRow, blockedRow, badSlotsRow, badBurstRow, badPeriodRow, badRepeatsRow, otherPlanRow}
-use Rattle.say_verdicts.specs.Lines.{badListRow}
+use Rattle.say_verdicts.specs.Lines.{badListRow, repeatsRow}
 use Rattle.say_verdicts.specs.declared.File.{File}
 use Rattle.say_verdicts.specs.declared.File.the-variants.{SiteFile, PlanFile}
 
@@ -211,3 +211,7 @@ otherPlanLine cells slots channels = phrase verdictLines (Row otherPlanRow cells
 -- a list of blocked positions that is none: where its first item begins that is no item, counted from 1
 abbrev pub badListLine : (character : ℕ) → List ℕ
 badListLine character = phrase verdictLines (Row badListRow character 0 0 0)
+
+-- W12: "A caller that gives no k gets 2", and the desk says which were taken
+abbrev pub repeatsLine : (repeats : ℕ) → List ℕ
+repeatsLine repeats = phrase verdictLines (Row repeatsRow repeats 0 0 0)

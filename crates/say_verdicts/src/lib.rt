@@ -23,7 +23,8 @@ ghost use Rattle.say_verdicts.specs.Lines.{verdictLines};
 ghost use Rattle.say_verdicts.specs.Said.{faultSentence, byteOf, readSentence, sheetSentence, loadNamed, reachNamed, waySentence, clashSentence};
 ghost use Rattle.say_verdicts.specs.Said.{blockedSentence};
 ghost use Rattle.say_verdicts.specs.Said.{checkSentence, planSentence, badFlowRow, shareSentence, changesSentence, mendSentence};
-ghost use Rattle.say_verdicts.specs.Said.{faultSaid, readSaid, sheetSaid, checkSaid, planSaid, shareSaid, mendSaid, otherPlanLine, badListLine};
+ghost use Rattle.say_verdicts.specs.Said.{faultSaid, readSaid, sheetSaid, checkSaid, planSaid, shareSaid, mendSaid, otherPlanLine};
+ghost use Rattle.say_verdicts.specs.Said.{badListLine, repeatsLine};
 
 const VALID: usize = 0;
 
@@ -63,6 +64,8 @@ const BAD_LIST: usize = 17;
 
 const CLASH_THIRD: usize = 18;
 
+const REPEATS_TAKEN: usize = 19;
+
 // The files that an offset can be in.
 pub enum File {
     SiteFile,
@@ -95,7 +98,8 @@ fn put(out: &mut [u8], at: usize, what: Sentence) -> usize
           refused: the plan is for @1 cell@a, @2 slot@b and @3 channel@c, and the site is of another size\n|\
           refused 22: cell @1 sends in slot @2, channel @3, which is blocked\n|\
           --blocked: at character @1 stands no slot.channel of this site\n|\
-          refused 6: cells @1 and @2 clash (both reach a third cell), and both send in slot @3, channel @4\n|",
+          refused 6: cells @1 and @2 clash (both reach a third cell), and both send in slot @3, channel @4\n|\
+          repeats @1, since none were given\n|",
         what,
     )
 }
@@ -407,6 +411,18 @@ pub fn put_bad_list(out: &mut [u8], at: usize, character: usize) -> usize
         out,
         at,
         Sentence::Plain(Phrase::Row(BAD_LIST, character, 0, 0, 0)),
+    )
+}
+
+// The repeats that were taken for a flow that gave none.
+pub fn put_repeats(out: &mut [u8], at: usize, repeats: usize) -> usize
+    requires { ⌜ at + 2000 ≤ length (now out) ⌝ }
+    ensures { λ r. ⌜ Put (now (out .entry)) at (repeatsLine repeats) 2000 (now (out .exit)) r ⌝ }
+{
+    put(
+        out,
+        at,
+        Sentence::Plain(Phrase::Row(REPEATS_TAKEN, repeats, 0, 0, 0)),
     )
 }
 

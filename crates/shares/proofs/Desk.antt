@@ -12,10 +12,10 @@ pub worked : map (λ a. asList (shareGiven a)) (shareOf 3 3 4 1 ∷ shareOf 3 3 
 unfolding shareOf roundedUp upTo
 worked = refl
 
--- "A caller that gives no k gets 1": the worked shares of document 01, which gives no k, as the contract of `share` has them. The default stands here by its
--- name: another default makes other shares
+-- W12: "A caller that gives no k gets 2": what the worked shares of document 01 are without a k, as the contract of `share` has them. The default stands
+-- here by its name: another default makes other shares
 pub worked-no-k : map (λ a. asList (shareGiven a)) (shareOf 3 3 4 defaultRepeats ∷ shareOf 3 3 5 defaultRepeats ∷ [])
-    ≡ (0 ∷ 3 ∷ 6 ∷ 6 ∷ []) ∷ (0 ∷ 2 ∷ 5 ∷ 8 ∷ []) ∷ []
+    ≡ (0 ∷ 6 ∷ 6 ∷ 6 ∷ []) ∷ (0 ∷ 4 ∷ 5 ∷ 8 ∷ []) ∷ []
 unfolding shareOf roundedUp upTo
 worked-no-k = refl
 

@@ -19,9 +19,9 @@ shareOnce t c p = roundedUp (c * t) p
 abbrev pub mostRepeats : ℕ
 mostRepeats = 4
 
--- W4: "A caller that gives no k gets 1."
+-- W12: "A caller that gives no k gets 2."
 abbrev pub defaultRepeats : ℕ
-defaultRepeats = 1
+defaultRepeats = 2
 
 -- W4: "The share becomes k times the old one"
 abbrev pub shareNeeded : ℕ → ℕ → ℕ → ℕ → ℕ

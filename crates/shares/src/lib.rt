@@ -19,7 +19,7 @@ pub struct Repeats(pub u32);
 const MOST_REPEATS: usize = 4;
 
 // The repeats of a caller that gives none.
-const DEFAULT_REPEATS: u32 = 1;
+const DEFAULT_REPEATS: u32 = 2;
 
 // The share, the bound on the queue and the bound on the delay; or T is out of range, the burst, the period or the repeats are, the share is above 65,535.
 pub enum ShareAnswer {
@@ -112,6 +112,13 @@ pub fn share_of(slots: Slots, burst: Fragments, period: Slots, repeats: Repeats)
     let queue = add_fragments(burst, once);
     let delay = add_slots(slots, time_for(burst, once, slots));
     ShareAnswer::Done(s, queue, delay)
+}
+
+// The repeats that are taken for a caller that gives none.
+pub fn default_repeats() -> Repeats
+    ensures { λ r. ⌜ r ≡ record { 0 = defaultRepeats } ⌝ }
+{
+    Repeats(DEFAULT_REPEATS)
 }
 
 // The same for a caller that gives no repeats.
