@@ -40,7 +40,8 @@ use Rattle.site.specs.declared.Fault.the-variants.{Fine}
 use Rattle.words.specs.Words.{wordAt}
 use Rattle.words.specs.Clashes.{secondIn, firstIn}
 use Rattle.words.proofs.Clashes.{second-word, first-word}
-use Rattle.checker.specs.Marks.{barNet, clashNet, loadNet, clashing}
+use Rattle.rowcounts.specs.Counts.{loadNet}
+use Rattle.checker.specs.Marks.{barNet, clashNet, clashing}
 use Rattle.checker.specs.Check.{verdictOf, checkedBy, checkAnswer}
 use Rattle.checker.specs.declared.CheckAnswer.the-variants.{Valid, TableShort, Blocked, Clash, Count, Refused}
 

@@ -1,6 +1,5 @@
 -- The laws of crate `checker`, module by module.
 pub mod Marks
-pub mod Rows
 pub mod Lowest
 pub mod Barred
 pub mod Judged

@@ -1,5 +1,4 @@
--- What the checker's searches look for: a blocked position that a cell reserves, a position with a clash, and the marks that say so;
--- a cell with a wrong count.
+-- What the checker's searches look for: a blocked position that a cell reserves, a position with a clash, and the marks that say so.
 use mathlib.Core.Path.{_≡_}
 use mathlib.Core.Bool.{Bool, false, not}
 use mathlib.Core.List.{List, []}
@@ -23,10 +22,6 @@ barNet cells n blocked = netIn cells n [] (λ a c. false) (isOpen blocked)
 -- the problem as far as clashes go: no load is looked at
 abbrev pub clashNet : ℕ → ℕ → List ℕ → Net
 clashNet cells n clash = netIn cells n [] (bitIn clash) unblocked
-
--- the problem as far as counts go: no clash is looked at
-abbrev pub loadNet : ℕ → ℕ → List ℕ → Net
-loadNet cells n loads = netIn cells n loads (λ a c. false) unblocked
 
 -- some cell clashes at position k with a cell above it: the test of `lowestClash`
 abbrev pub clashing : Net → Reserved → ℕ → Bool

@@ -13,8 +13,10 @@ pub mod DemandsOne
 pub mod NumberrowsOne
 pub mod RowsOne
 pub mod JudgesOne
+pub mod PlanrowsOne
 pub mod PlannerOne
 pub mod StretchesOne
+pub mod RowcountsOne
 pub mod CheckerOne
 pub mod HeaviestOne
 pub mod SharesOne
@@ -31,6 +33,9 @@ pub mod PutlinesOne
 pub mod BlocklistOne
 pub mod PutblocksOne
 pub mod FlowsheetOne
+pub mod SiteheadOne
+pub mod ReachpairsOne
+pub mod BlockbitsOne
 pub mod SitefileOne
 pub mod PlanbitsOne
 pub mod PlanfileOne

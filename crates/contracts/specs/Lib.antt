@@ -13,8 +13,10 @@ pub mod DemandsSays
 pub mod NumberrowsSays
 pub mod RowsSays
 pub mod JudgesSays
+pub mod PlanrowsSays
 pub mod PlannerSays
 pub mod StretchesSays
+pub mod RowcountsSays
 pub mod CheckerSays
 pub mod HeaviestSays
 pub mod SharesSays
@@ -31,6 +33,9 @@ pub mod PutlinesSays
 pub mod BlocklistSays
 pub mod PutblocksSays
 pub mod FlowsheetSays
+pub mod SiteheadSays
+pub mod ReachpairsSays
+pub mod BlockbitsSays
 pub mod SitefileSays
 pub mod PlanbitsSays
 pub mod PlanfileSays

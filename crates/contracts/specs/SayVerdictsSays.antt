@@ -7,12 +7,12 @@ use Rattle.checker.specs.declared.CheckAnswer.{CheckAnswer}
 use Rattle.mender.specs.declared.MendAnswer.{MendAnswer}
 use Rattle.planner.specs.declared.PlanAnswer.{PlanAnswer}
 use Rattle.records.specs.declared.ReadAnswer.{ReadAnswer}
-use Rattle.say_verdicts.specs.Said.{badListLine, checkSaid, faultSaid, mendSaid, otherPlanLine, planSaid, readSaid, repeatsLine, shareSaid, sheetSaid}
-use Rattle.say_verdicts.specs.declared.File.{File}
 use Rattle.shares.specs.declared.ShareAnswer.{ShareAnswer}
 use Rattle.sheet.specs.declared.SheetAnswer.{SheetAnswer}
 use Rattle.site.specs.declared.Fault.{Fault}
 use Rattle.site.specs.declared.Site.{Site}
+use Rattle.verdicts.specs.Said.{badListLine, checkSaid, faultSaid, mendSaid, otherPlanLine, planSaid, readSaid, repeatsLine, shareSaid, sheetSaid}
+use Rattle.verdicts.specs.declared.File.{File}
 use lib.ListN.{length}
 use lib.Seq.{sets}
 

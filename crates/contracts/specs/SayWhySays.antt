@@ -4,8 +4,8 @@ use mathlib.Core.Path.{_≡_}
 use mathlib.Core.List.{List}
 use Prim.Native.Nat.{_+_, ℕ}
 use Rattle.planner.specs.Plan.{planTable}
-use Rattle.say_why.specs.Said.{whySaid}
 use Rattle.site.specs.declared.Site.{Site}
+use Rattle.why.specs.Said.{whySaid}
 use lib.ListN.{length}
 use lib.Seq.{sets}
 

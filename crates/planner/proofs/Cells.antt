@@ -17,7 +17,8 @@ use Rattle.theory.proofs.Row.{row-length, row-short}
 use Rattle.theory.proofs.Run.{run-begins}
 use Rattle.theory.proofs.Exact.{greedy-fair}
 use Rattle.planner.specs.Plan.{tableOf}
-use Rattle.planner.specs.Loop.{marksIn, rowPlanned, rowShort, PlannedTo}
+use Rattle.planrows.specs.Row.{marksIn, rowPlanned, rowShort}
+use Rattle.planner.specs.Loop.{PlannedTo}
 use Rattle.planner.proofs.Marked.{marked-take, marked-alike}
 use Rattle.site.specs.Reach.{netIn}
 

@@ -17,7 +17,7 @@ use Rattle.positions.proofs.Joins.{is-false}
 use Rattle.rows.specs.Bars.{barRow}
 use Rattle.rows.proofs.Bars.{bars-of}
 use Rattle.site.specs.Reach.{isOpen}
-use Rattle.planner.specs.Loop.{opens, Masks}
+use Rattle.planrows.specs.Row.{opens, Masks}
 
 -- nothing is blocked: every position is open, and no mask is asked for
 pub none-open : (words : List ℕ) (n : ℕ) → n ≤ 2048 → not (anyIn words mostPositions) ≡ true → (k : ℕ) → k < n → isOpen words k ≡ opens [] k

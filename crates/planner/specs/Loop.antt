@@ -1,45 +1,10 @@
--- What the planner's loops ask: the problem by its numbers, a row as it is planned, the mask that bars positions of it, and the rows that stand.
-use Prim.Native.Nat.{ℕ, zero, suc, _*_, _≤_, _<_}
+-- What the planner's loops ask: the rows that stand.
+use Prim.Native.Nat.{ℕ, _*_}
 use mathlib.Core.Path.{_≡_}
-use mathlib.Core.Bool.{Bool}
-use mathlib.Core.List.{List, []}
-use lib.Dec.{eqb}
-use lib.ListN.{length, getD, take, replicate}
-use Rattle.laws.specs.Choice.{pick}
-use Rattle.laws.specs.Part.{part, put}
-use Rattle.rows.specs.Bars.{barRow}
-use Rattle.theory.specs.Net.{Net, unblocked}
-use Rattle.theory.specs.Greedy.{rowAt, forbid, marked, fill, unmet, row, run, planned}
-use Rattle.site.specs.Reach.{netIn}
-
--- row i of t as the earlier clashing rows leave it, all idle at first: n positions, by who clashes
-abbrev pub marksIn : ℕ → (ℕ → ℕ → Bool) → List ℕ → ℕ → List ℕ
-marksIn n clash t i = marked (netIn 0 n [] clash unblocked) t i i
-
--- the same of a row r that need not be idle, by the cells below j
-unfoldable pub marksOn : ℕ → (ℕ → ℕ → Bool) → List ℕ → ℕ → List ℕ → ℕ → List ℕ
-marksOn n clash t i r zero = r
-marksOn n clash t i r (suc j) = pick (clash j i) (forbid (rowAt n t j) (marksOn n clash t i r j)) (marksOn n clash t i r j)
-
--- row i of t, as it stands there, with the marks of the earlier rows
-abbrev pub marksHere : ℕ → (ℕ → ℕ → Bool) → List ℕ → ℕ → List ℕ
-marksHere n clash t i = marksOn n clash t i (part (i * n) n t) i
-
--- t with row i planned: "Each takes its idle positions in rising position until its load is met"
-abbrev pub rowPlanned : ℕ → (ℕ → ℕ → Bool) → (ℕ → Bool) → ℕ → ℕ → List ℕ → List ℕ
-rowPlanned n clash usable i load t = put (i * n) n (fill usable 0 load (marksIn n clash t i)) t
-
--- how many of its fragments find no room there
-abbrev pub rowShort : ℕ → (ℕ → ℕ → Bool) → (ℕ → Bool) → ℕ → ℕ → List ℕ → ℕ
-rowShort n clash usable i load t = unmet usable 0 load (marksIn n clash t i)
-
--- the positions that a mask leaves usable: all of them, where it has no bytes
-abbrev pub opens : List ℕ → ℕ → Bool
-opens mask k = eqb (getD mask k 0) 0
-
--- a mask that has bytes has them for n positions: 0, or 4 where a position is barred
-abbrev pub Masks : ℕ → List ℕ → Type 0
-Masks n mask = 0 < length mask → (n ≤ length mask) × (take n mask ≡ barRow (opens mask) 0 (replicate n 0))
+use mathlib.Core.List.{List}
+use lib.ListN.{take}
+use Rattle.theory.specs.Net.{Net}
+use Rattle.theory.specs.Greedy.{row, run, planned}
 
 -- the greedy rows of the first i cells stand at the start of t
 abbrev pub PlannedTo : Net → ℕ → List ℕ → Type 0

@@ -59,13 +59,13 @@ use Rattle.mender.specs.Given.{mendGiven}
 use Rattle.records.specs.Given.{readGiven, writtenGiven}
 use Rattle.records.specs.Reasons.{firstReason}
 use Rattle.records.specs.declared.ReadAnswer.the-variants as read
+use Rattle.blockbits.specs.Blocks.{nothingIn}
+use Rattle.sitehead.specs.Head.{isRuled}
 use Rattle.sitefile.specs.Before.{threeKinds, threeReasons, threeSite}
-use Rattle.sitefile.specs.Blocks.{nothingIn}
-use Rattle.sitefile.specs.Head.{isRuled}
 use Rattle.sitefile.specs.Read.{readSite}
 use Rattle.sitefile.specs.Write.{siteWritten, siteOut}
-use Rattle.sitefile.specs.declared.SiteRead.{SiteRead}
 use Rattle.sitefile.proofs.Before.{same-bytes, same-read, same-refused}
+use Rattle.sitefile.specs.declared.SiteRead.{SiteRead}
 use Rattle.promises.specs.Numbers.{done, doneWith, refused}
 use Rattle.promises.specs.Demands.{Accepted, LongEnough, WordsEnough, openPositions}
 use Rattle.promises.proofs.Numbers.{accepted-number, plan-number, load-number}

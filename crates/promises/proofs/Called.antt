@@ -16,9 +16,10 @@ use Rattle.records.proofs.Given.{read-apart}
 use Rattle.records.specs.declared.ReadAnswer.the-variants as read
 use Rattle.site.specs.Record.{positions}
 use Rattle.site.specs.declared.Site.{Site}
-use Rattle.sitefile.specs.Blocks.{blockRecord}
+use Rattle.blockbits.specs.Blocks.{blockRecord}
 use Rattle.sitefile.specs.Read.{readSite}
-use Rattle.sitefile.specs.Write.{pairBytes, siteBytes}
+use Rattle.reachpairs.specs.Pairs.{pairBytes}
+use Rattle.sitefile.specs.Write.{siteBytes}
 use Rattle.sitefile.proofs.Trip.{read-then-written}
 use Rattle.planfile.specs.Write.{planBytes}
 use Rattle.lines.specs.Match.{starts}

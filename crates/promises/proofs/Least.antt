@@ -21,10 +21,10 @@ use Rattle.planner.specs.Given.{planGiven}
 use Rattle.judges.specs.Judges.{counted, loadAnswer, classAnswer, leastAnswer}
 use Rattle.judges.specs.Given.{loadGiven, classGiven, leastGiven}
 use Rattle.judges.proofs.Meaning.{least-means, enough-means}
-use Rattle.say_why.specs.Said.{fewest}
+use Rattle.why.specs.Said.{fewest}
 use Rattle.site.specs.Alike.{Alike}
-use Rattle.say_why.proofs.Numbers.{same-demand}
-use Rattle.say_why.proofs.Sizes.{fewest-exact}
+use Rattle.why.proofs.Numbers.{same-demand}
+use Rattle.why.proofs.Sizes.{fewest-exact}
 use Rattle.checker.specs.Check.{checkAnswer}
 use Rattle.checker.specs.Given.{checkGiven}
 use Rattle.promises.specs.Numbers.{done, doneWith}

@@ -42,9 +42,9 @@ use Rattle.say_refusals.specs.declared.Place.the-variants as place
 use Rattle.say_refusals.specs.Sentences.{sentence}
 use Rattle.say_refusals.specs.declared.Sentence.{Sentence}
 use Rattle.say_refusals.specs.declared.Sentence.the-variants.{Refusal}
-use Rattle.say_verdicts.specs.Lines.{verdictLines, unchangedRow, mendedRow, blockedRow}
-use Rattle.say_verdicts.specs.Said.{line, reachNamed, waySentence, blockedSentence, clashSentence, changesSentence, faultSaid, checkSaid, planSaid, mendSaid}
-use Rattle.say_verdicts.specs.Said.{validLine, plannedLine, unchangedLine, mendedLine}
+use Rattle.verdicts.specs.Lines.{verdictLines, unchangedRow, mendedRow, blockedRow}
+use Rattle.verdicts.specs.Said.{line, reachNamed, waySentence, blockedSentence, clashSentence, changesSentence, faultSaid, checkSaid, planSaid, mendSaid}
+use Rattle.verdicts.specs.Said.{validLine, plannedLine, unchangedLine, mendedLine}
 use Rattle.promises.specs.Numbers.{done}
 use Rattle.promises.specs.Demands.{Accepted, LongEnough}
 use Rattle.promises.proofs.Numbers.{check-number}

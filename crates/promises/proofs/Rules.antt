@@ -43,9 +43,13 @@ use Rattle.records.proofs.Given.{read-apart}
 use Rattle.records.proofs.Head.{head-read}
 use Rattle.records.proofs.Reasons.{first-append, both-done}
 use Rattle.sitefile.specs.Before.{fourKinds, fourReasons}
-use Rattle.sitefile.specs.Head.{isRuled}
-use Rattle.sitefile.specs.Reasons.{loadsAt, reachAt, lastAt, positionsOfHead, loadsReasons, reachReasons, lastReasons}
-use Rattle.sitefile.specs.Read.{loadsOfBody, reachOfBody, blockedOr, siteOfFile, siteAnswer, siteDone, readSite}
+use Rattle.sitehead.specs.Head.{isRuled}
+use Rattle.reachpairs.specs.Reasons.{reachReasons}
+use Rattle.blockbits.specs.Reasons.{lastReasons}
+use Rattle.sitefile.specs.Reasons.{loadsAt, reachAt, lastAt, positionsOfHead, loadsReasons}
+use Rattle.reachpairs.specs.Pairs.{reachOfBody}
+use Rattle.blockbits.specs.Reasons.{blockedOr}
+use Rattle.sitefile.specs.Read.{loadsOfBody, siteOfFile, siteAnswer, siteDone, readSite}
 use Rattle.sitefile.specs.Write.{siteBytes, siteWritten, siteOut}
 use Rattle.sitefile.specs.declared.SiteRead.{SiteRead}
 use Rattle.sitefile.proofs.Before.{rule-bytes, rule-reasons, rule-read, old-reader}

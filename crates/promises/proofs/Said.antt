@@ -19,7 +19,7 @@ use Rattle.checker.specs.Check.{checkAnswer}
 use Rattle.checker.specs.declared.CheckAnswer.{CheckAnswer}
 use Rattle.checker.specs.declared.CheckAnswer.the-variants.{Count, Refused}
 use Rattle.checker.proofs.Meaning.{count-means}
-use Rattle.say_verdicts.specs.Said.{loadNamed, countLine, checkSaid}
+use Rattle.verdicts.specs.Said.{loadNamed, countLine, checkSaid}
 
 -- a count is answered of a record without a fault
 accepted : (f : Fault) (o : CheckAnswer) (i n : ℕ) → pick (isFine f) o (Refused f) ≡ Count i n → f ≡ Fine

@@ -9,7 +9,9 @@ use Rattle.site.specs.Reach.{clashAnswer}
 use Rattle.site.specs.Given.{clashGiven}
 use Rattle.site.specs.declared.Site.{Site}
 use Rattle.sitefile.specs.Reasons.{loadsAt, reachAt, lastAt}
-use Rattle.sitefile.specs.Read.{loadsOfBody, reachOfBody, blockedOr}
+use Rattle.reachpairs.specs.Pairs.{reachOfBody}
+use Rattle.blockbits.specs.Reasons.{blockedOr}
+use Rattle.sitefile.specs.Read.{loadsOfBody}
 use Rattle.promises.specs.Numbers.{doneWith}
 
 -- a site with another rule, and nothing else changed

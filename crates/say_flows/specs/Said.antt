@@ -19,7 +19,7 @@ use Rattle.phrases.specs.declared.Phrase.{Phrase}
 use Rattle.phrases.specs.declared.Phrase.the-variants.{Row}
 use Rattle.say_refusals.specs.Said.{refusedLine}
 use Rattle.say_refusals.specs.declared.Place.the-variants as place
-use Rattle.say_verdicts.specs.Said.{faultSaid}
+use Rattle.verdicts.specs.Said.{faultSaid}
 use Rattle.say_flows.specs.Lines.{admitLines, nineteenLines, asideRow, takenRow, leftRow, worthRow, nineteenRow}
 
 -- ---- the flows

@@ -13,7 +13,7 @@ use Rattle.numbering.specs.declared.CarryAnswer.{CarryAnswer}
 use Rattle.numbering.specs.declared.CarryAnswer.the-variants as carry
 use Rattle.say_refusals.specs.Said.{refusedLine}
 use Rattle.say_refusals.specs.declared.Place.the-variants as place
-use Rattle.say_verdicts.specs.Said.{faultSaid}
+use Rattle.verdicts.specs.Said.{faultSaid}
 use Rattle.say_numbering.specs.Lines.{numberLines, numberedRow}
 
 -- a cell by its old number, and its new one; past the cells there is none, 0

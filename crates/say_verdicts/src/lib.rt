@@ -13,18 +13,19 @@ use sheet::SheetAnswer;
 use site::Fault;
 use site::Site;
 use site::within;
+use verdicts::File;
 use words::has;
 ghost use mathlib.Core.Path.{_≡_};
 ghost use Prim.Native.Nat.{_+_, _≤_};
 ghost use lib.ListN.{length};
 ghost use Rattle.phrases.specs.Put.{Put};
 ghost use Rattle.say_refusals.specs.Sentences.{sentence};
-ghost use Rattle.say_verdicts.specs.Lines.{verdictLines};
-ghost use Rattle.say_verdicts.specs.Said.{faultSentence, byteOf, readSentence, sheetSentence, loadNamed, reachNamed, waySentence, clashSentence};
-ghost use Rattle.say_verdicts.specs.Said.{blockedSentence};
-ghost use Rattle.say_verdicts.specs.Said.{checkSentence, planSentence, badFlowRow, shareSentence, changesSentence, mendSentence};
-ghost use Rattle.say_verdicts.specs.Said.{faultSaid, readSaid, sheetSaid, checkSaid, planSaid, shareSaid, mendSaid, otherPlanLine};
-ghost use Rattle.say_verdicts.specs.Said.{badListLine, repeatsLine};
+ghost use Rattle.verdicts.specs.Lines.{verdictLines};
+ghost use Rattle.verdicts.specs.Said.{faultSentence, byteOf, readSentence, sheetSentence, loadNamed, reachNamed, waySentence, clashSentence};
+ghost use Rattle.verdicts.specs.Said.{blockedSentence};
+ghost use Rattle.verdicts.specs.Said.{checkSentence, planSentence, badFlowRow, shareSentence, changesSentence, mendSentence};
+ghost use Rattle.verdicts.specs.Said.{faultSaid, readSaid, sheetSaid, checkSaid, planSaid, shareSaid, mendSaid, otherPlanLine};
+ghost use Rattle.verdicts.specs.Said.{badListLine, repeatsLine};
 
 const VALID: usize = 0;
 
@@ -65,12 +66,6 @@ const BAD_LIST: usize = 17;
 const CLASH_THIRD: usize = 18;
 
 const REPEATS_TAKEN: usize = 19;
-
-// The files that an offset can be in.
-pub enum File {
-    SiteFile,
-    PlanFile,
-}
 
 // Puts a sentence: a row of the table with its values, or a refusal, or nothing.
 fn put(out: &mut [u8], at: usize, what: Sentence) -> usize

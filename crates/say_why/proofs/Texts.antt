@@ -14,8 +14,8 @@ use Rattle.speech.specs.Speech.{bytes}
 use Rattle.phrases.specs.Phrases.{phrase, rowNamed, textOf, rowIn, partIn}
 use Rattle.phrases.specs.declared.Phrase.{Phrase}
 use Rattle.phrases.proofs.Table.{row-is}
-use Rattle.say_why.specs.Lines.{whyLines, cellRow}
-use Rattle.say_why.specs.Said.{cellPhrase, cellPhrases, texts}
+use Rattle.why.specs.Lines.{whyLines, cellRow}
+use Rattle.why.specs.Said.{cellPhrase, cellPhrases, texts}
 
 pub texts-both : (ps qs : List Phrase) → texts (ps ++ qs) ≡ texts ps ++ texts qs
 texts-both [] qs = refl

@@ -23,10 +23,10 @@ ghost use Rattle.planner.specs.Plan.{planTable};
 ghost use Rattle.heaviest.specs.declared.HeaviestAnswer.the-variants.{Done};
 ghost use Rattle.phrases.specs.Put.{Put};
 ghost use Rattle.phrases.specs.Phrases.{phrase, textOf, partIn};
-ghost use Rattle.say_why.specs.Lines.{whyLines, fullRow, gaveUpRow};
-ghost use Rattle.say_why.specs.Said.{openOf, chainPhrase, classPhrase, nestedPhrase, overPhrase, loadPhrase, planPhrase, leastNumber, willDo, hasRow};
-ghost use Rattle.say_why.specs.Said.{takesPhrase, setPhrase, cellPhrase, cellPhrases, fewest, sizeRow, sizePhrase, verdictsSaid, clashPhrases};
-ghost use Rattle.say_why.specs.Said.{sizesPhrases, texts, listLine, lastSaid, siteSaid, whySaid};
+ghost use Rattle.why.specs.Lines.{whyLines, fullRow, gaveUpRow};
+ghost use Rattle.why.specs.Said.{openOf, chainPhrase, classPhrase, nestedPhrase, overPhrase, loadPhrase, planPhrase, leastNumber, willDo, hasRow};
+ghost use Rattle.why.specs.Said.{takesPhrase, setPhrase, cellPhrase, cellPhrases, fewest, sizeRow, sizePhrase, verdictsSaid, clashPhrases};
+ghost use Rattle.why.specs.Said.{sizesPhrases, texts, listLine, lastSaid, siteSaid, whySaid};
 
 const CHAINED: usize = 0;
 

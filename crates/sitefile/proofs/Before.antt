@@ -21,16 +21,19 @@ use Rattle.records.proofs.Reasons.{andThen, first-append, both-done, done-none}
 use Rattle.site.specs.Record.{positions, siteOf}
 use Rattle.site.specs.declared.Site.{Site}
 use Rattle.records.proofs.Head.{head-read}
-use Rattle.sitefile.specs.Blocks.{nothingIn, blockRecord}
-use Rattle.sitefile.specs.Head.{isRuled, ruleStated, ruledReasons, siteHeadReasons, siteHead}
-use Rattle.sitefile.specs.Reasons.{loadsAt, reachAt, lastAt, positionsOfHead, loadsReasons, reachReasons, lastReasons, siteReasons}
-use Rattle.sitefile.specs.Read.{loadsOfBody, reachOfBody, blockedOr, siteOfFile, siteAnswer, siteDone, readSite}
-use Rattle.sitefile.specs.Loop.{noBlocks}
-use Rattle.sitefile.specs.Write.{pairBytes, siteBytes}
+use Rattle.sitehead.specs.Head.{isRuled, ruleStated, ruledReasons, siteHeadReasons, siteHead}
+use Rattle.reachpairs.specs.Reasons.{reachReasons}
+use Rattle.reachpairs.specs.Pairs.{reachOfBody, pairBytes}
+use Rattle.blockbits.specs.Blocks.{nothingIn, blockRecord}
+use Rattle.blockbits.specs.Reasons.{lastReasons, blockedOr}
+use Rattle.blockbits.specs.Loop.{noBlocks}
+use Rattle.sitefile.specs.Reasons.{loadsAt, reachAt, lastAt, positionsOfHead, loadsReasons, siteReasons}
+use Rattle.sitefile.specs.Read.{loadsOfBody, siteOfFile, siteAnswer, siteDone, readSite}
+use Rattle.sitefile.specs.Write.{siteBytes}
 use Rattle.sitefile.specs.Before.{fourKinds, fourReasons, threeKinds, threeReasons, threeSite}
-use Rattle.sitefile.proofs.Blocks.{block-none}
-use Rattle.sitefile.proofs.Head.{head-plain}
-use Rattle.sitefile.proofs.ReadLaws.{last-none, blocks-told, blocks-given}
+use Rattle.sitehead.proofs.Head.{head-plain}
+use Rattle.blockbits.proofs.Blocks.{block-none}
+use Rattle.blockbits.proofs.ReadLaws.{last-none, blocks-told, blocks-given}
 use Rattle.sitefile.proofs.Reasons.{site-parts, first-refused, accept}
 
 -- "byte for byte what it was"

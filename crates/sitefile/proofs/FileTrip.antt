@@ -4,7 +4,7 @@
 use Prim.Native.Nat.{ℕ, _+_, _-_, _*_, _%_, _≤_, _<_}
 use mathlib.Core.Path.{_≡_, refl, sym, ap, ap₂, _∙_}
 use mathlib.Core.Bool.{Bool, true, false}
-use mathlib.Core.List.{List, [], _∷_, _++_, append-nil}
+use mathlib.Core.List.{List, [], _++_, append-nil}
 use mathlib.Core.Logic.{_⊎_, ⊎-elim}
 use native.Mathlib.Nat.{zero-add}
 use native.Mathlib.Decide.{decLt}
@@ -31,23 +31,28 @@ use Rattle.records.proofs.RecordTrip.{record-body, rest-back, record-back, body
 use Rattle.site.specs.Record.{positions, siteOf}
 use Rattle.site.specs.declared.Site.{Site}
 use Rattle.site.proofs.Faults.{Sizes, sizes, few-positions, ruled}
-use Rattle.sitefile.specs.Head.{ruleOfHead, siteHeadAnswer, siteHead, headKind, headBody}
-use Rattle.sitefile.specs.Blocks.{blockedOfBody, blockBytes, nothingIn, blockRecord}
-use Rattle.sitefile.specs.Reasons.{loadsAt, reachAt, lastAt, positionsOfHead, loadsReasons, pairReasons, reachReasons, blockReasons, lastReasons}
-use Rattle.sitefile.specs.Read.{allZero, loadsOfBody, reachOfBody, blockedOr, siteOfFile, siteAnswer}
-use Rattle.sitefile.specs.Loop.{pairsReadOf, pairsRead, blocksRead}
-use Rattle.sitefile.specs.Write.{pairBytes, siteBytes}
-use Rattle.sitefile.specs.declared.PairsRead.{PairsRead}
-use Rattle.sitefile.specs.declared.BlocksRead.{BlocksRead}
-use Rattle.sitefile.proofs.Head.{SiteHeadGood, site-head-read, head-written}
-use Rattle.sitefile.proofs.WriteLaws.{pair-bytes-even}
-use Rattle.sitefile.proofs.Rows.{Rows}
-use Rattle.sitefile.proofs.PairTrip.{Named, rowsRead, pairs-read, pairs-written}
-use Rattle.sitefile.proofs.PairReasons.{pairs-way}
-use Rattle.sitefile.proofs.Blocks.{SetHeld, zeros-at, nothing-empty, empty-held, empty-is, body-held, bytes-length, bytes-set, none-left, set-bytes}
-use Rattle.sitefile.proofs.Blocks.{block-none, block-some}
-use Rattle.sitefile.proofs.Reasons.{reach-parts, site-parts}
-use Rattle.sitefile.proofs.ReadLaws.{last-none, blocks-told, blocks-given, blocks-done, body-long}
+use Rattle.sitehead.specs.Head.{ruleOfHead, siteHeadAnswer, siteHead, headKind, headBody}
+use Rattle.reachpairs.specs.Reasons.{pairReasons, reachReasons}
+use Rattle.reachpairs.specs.Pairs.{allZero, reachOfBody, pairBytes}
+use Rattle.reachpairs.specs.Loop.{pairsReadOf, pairsRead}
+use Rattle.blockbits.specs.Blocks.{blockedOfBody, blockBytes, nothingIn, blockRecord}
+use Rattle.blockbits.specs.Reasons.{blockReasons, lastReasons, blockedOr}
+use Rattle.blockbits.specs.Loop.{blocksRead}
+use Rattle.sitefile.specs.Reasons.{loadsAt, reachAt, lastAt, positionsOfHead, loadsReasons}
+use Rattle.sitefile.specs.Read.{loadsOfBody, siteOfFile, siteAnswer}
+use Rattle.sitefile.specs.Write.{siteBytes}
+use Rattle.sitehead.proofs.Head.{SiteHeadGood, site-head-read, head-written}
+use Rattle.reachpairs.proofs.RowLaws.{pair-bytes-even}
+use Rattle.reachpairs.proofs.Rows.{Rows}
+use Rattle.reachpairs.proofs.PairTrip.{Named, rowsRead, pairs-read, pairs-written}
+use Rattle.reachpairs.proofs.PairReasons.{pairs-way}
+use Rattle.reachpairs.proofs.ReadLaws.{reach-parts}
+use Rattle.blockbits.proofs.Blocks.{SetHeld, zeros-at, nothing-empty, empty-held, empty-is, body-held, bytes-length, bytes-set, none-left, set-bytes}
+use Rattle.blockbits.proofs.Blocks.{block-none, block-some}
+use Rattle.blockbits.proofs.ReadLaws.{last-none, blocks-told, blocks-given, blocks-done, body-long}
+use Rattle.sitefile.proofs.Reasons.{site-parts}
+use Rattle.reachpairs.specs.declared.PairsRead.{PairsRead}
+use Rattle.blockbits.specs.declared.BlocksRead.{BlocksRead}
 
 -- a site whose record is in order
 pub record GoodSite (s : Site) : Type 0 where

@@ -14,12 +14,12 @@ use Rattle.site.specs.declared.Site.{Site}
 use Rattle.site.specs.declared.Fault.the-variants.{Fine}
 use Rattle.site.proofs.Accepted.{fine-sound, sound-fine, row-ok, ok-row, row-none}
 use Rattle.site.specs.Held.{Held}
-use Rattle.sitefile.proofs.PairLaws.{PairOk, pair-ok, pair-is}
+use Rattle.reachpairs.proofs.PairLaws.{PairOk, pair-ok, pair-is}
+use Rattle.reachpairs.proofs.Rows.{digitIn}
+use Rattle.reachpairs.proofs.PairTrip.{Named}
+use Rattle.sitefile.proofs.FileTrip.{GoodSite}
 use Rattle.laws.proofs.Bits.{some-left, no-bits}
 use Rattle.site.proofs.Faults.{sizes, sizes-is, ruled, ruled-is}
-use Rattle.sitefile.proofs.Rows.{digitIn}
-use Rattle.sitefile.proofs.PairTrip.{Named}
-use Rattle.sitefile.proofs.FileTrip.{GoodSite}
 
 -- a row with no fault has bits of other cells of the site only
 row-names : (n x k b : ℕ) → rowBad n x k ≡ false → x / 2 ^ b % 2 ≡ 1 → (k < n) × (b < n) × (k ≡ b → ⊥)

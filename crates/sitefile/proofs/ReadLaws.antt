@@ -1,147 +1,29 @@
 -- The reader's answers, by what its tests say: the records' answers one after the other, and then what follows the last. Assumes nothing.
-use Prim.Native.Nat.{ℕ, _+_, _-_, _≤_, _<_}
-use mathlib.Core.Path.{_≡_, refl, sym, ap, _∙_}
-use mathlib.Core.Bool.{Bool, true, false}
-use mathlib.Core.List.{List, [], _∷_}
-use native.Mathlib.Omega.{arith}
-use borrow.Author.Tests.{lt-ltb, le-ltb}
-use lib.Dec.{ltb}
-use lib.ListN.{length, drop, length-drop}
-use lib.Seq.{length-take-le}
-use Rattle.laws.specs.Choice.{pick}
-use Rattle.positions.specs.Blocked.{emptySet}
-use Rattle.records.specs.Bits.{bytesFor, leftOver}
+use Prim.Native.Nat.{ℕ, _+_, _-_}
+use mathlib.Core.Path.{_≡_, sym, ap, _∙_}
+use mathlib.Core.List.{List}
 use Rattle.records.specs.Bytes.{le16}
-use Rattle.records.specs.Layout.{bodyAt, recordEnd}
-use Rattle.records.specs.Reasons.{Reason, reason, firstReason, recordReasons, endReason}
+use Rattle.records.specs.Layout.{bodyAt}
+use Rattle.records.specs.Reasons.{firstReason}
 use Rattle.records.specs.Head.{cellsOfHead}
-use Rattle.records.specs.declared.Length.the-variants.{Exact, Pairs}
+use Rattle.records.specs.declared.Length.the-variants.{Pairs}
 use Rattle.records.specs.declared.ReadAnswer.{ReadAnswer}
 use Rattle.records.specs.declared.ReadAnswer.the-variants.{Done, Refused}
-use Rattle.records.proofs.Laws.{Opening, record-open, exact, within}
-use Rattle.records.proofs.Reasons.{andThen, first-append, both-done}
-use Rattle.sitefile.specs.Head.{siteHeadAnswer}
-use Rattle.sitefile.specs.Blocks.{blockedOfBody, nothingIn}
-use Rattle.sitefile.specs.Reasons.{loadsAt, reachAt, lastAt, positionsOfHead, loadsReasons, pairReasons, reachReasons, blockReasons, lastReasons}
-use Rattle.sitefile.specs.Read.{reachOfBody, blockedOr, siteAnswer}
-use Rattle.sitefile.specs.Loop.{noRows, pairsReadOf, pairsRead, reachRead, noBlocks, blocksReadOf, blocksRead}
-use Rattle.sitefile.specs.declared.PairsRead.{PairsRead}
-use Rattle.sitefile.specs.declared.BlocksRead.{BlocksRead}
-use Rattle.sitefile.proofs.Reasons.{reach-parts, site-parts}
-
-pairs-answer : (rows : List ℕ) (a : ReadAnswer) → pairsReadOf rows a .answer ≡ a
-unfolding pairsReadOf
-pairs-answer rows Done = refl
-pairs-answer rows (Refused n at) = refl
-
-pairs-rows : (rows : List ℕ) (a : ReadAnswer) → a ≡ Done → pairsReadOf rows a .reach ≡ rows
-unfolding pairsReadOf
-pairs-rows rows a e = rw e refl
-
-blocks-answer : (set : List ℕ) (a : ReadAnswer) → blocksReadOf set a .answer ≡ a
-unfolding blocksReadOf
-blocks-answer set Done = refl
-blocks-answer set (Refused n at) = refl
-
-blocks-set : (set : List ℕ) (a : ReadAnswer) → a ≡ Done → blocksReadOf set a .blocked ≡ set
-unfolding blocksReadOf
-blocks-set set a e = rw e refl
-
--- kind 3
-module _ (s : List ℕ) (at cells : ℕ) where
-  abbrev R : List ℕ
-  R = reachOfBody (bodyAt s at)
-
-  abbrev A : ReadAnswer
-  A = firstReason (pairReasons cells at 0 0 (bodyAt s at))
-
-  reach-is : (a b : ReadAnswer) → firstReason (recordReasons s at 3 Pairs) ≡ a → andThen a A ≡ b → pairsReadOf R b ≡ reachRead s at cells
-  unfolding reachRead
-  reach-is a b e f = ap (pairsReadOf R) (sym (reach-parts s at cells ∙ ap (λ (x : ReadAnswer). andThen x A) e ∙ f))
-
-  pub reach-stop : (n k : ℕ) → firstReason (recordReasons s at 3 Pairs) ≡ Refused n k → noRows (Refused n k) ≡ reachRead s at cells
-  unfolding pairsReadOf
-  reach-stop n k e = reach-is (Refused n k) (Refused n k) e refl
-
-  pub reach-pairs : firstReason (recordReasons s at 3 Pairs) ≡ Done → pairsRead cells at (bodyAt s at) ≡ reachRead s at cells
-  unfolding pairsRead
-  reach-pairs opens = reach-is Done A opens refl
-
--- kind 6, where it is due, and what may follow it
-module _ (s : List ℕ) (at n : ℕ) where
-  abbrev X : List ℕ
-  X = blockedOfBody (bodyAt s at)
-
-  abbrev contents : List Reason
-  contents = reason (leftOver (bodyAt s at) n) 14 at ∷ reason (nothingIn X) 21 at ∷ endReason s (recordEnd s at) ∷ []
-
-  by-due : (t : Bool) → ltb at (length s) ≡ t → blocksReadOf (pick t X emptySet) (firstReason (pick t (blockReasons s at n) [])) ≡ blocksRead s at n
-  unfolding blocksRead lastReasons blockedOr
-  by-due t e = sym (ap (λ (u : Bool). blocksReadOf (pick u X emptySet) (firstReason (pick u (blockReasons s at n) []))) e)
-
-  -- the file ends here
-  pub last-none : length s ≤ at → noBlocks Done ≡ blocksRead s at n
-  unfolding blocksReadOf firstReason
-  last-none h = by-due false (le-ltb at (length s) h)
-
-  -- what is read by itself tells the answer, and the set where it is done
-  pub blocks-told : (q : BlocksRead) → q ≡ blocksRead s at n → firstReason (lastReasons s at n) ≡ q .answer
-  unfolding blocksRead
-  blocks-told q e = sym (ap (λ (x : BlocksRead). x .answer) e ∙ blocks-answer (blockedOr s at) (firstReason (lastReasons s at n)))
-
-  pub blocks-given : (q : BlocksRead) → q ≡ blocksRead s at n → q .answer ≡ Done → q .blocked ≡ blockedOr s at
-  unfolding blocksRead
-  blocks-given q e d =
-      ap (λ (x : BlocksRead). x .blocked) e ∙ blocks-set (blockedOr s at) (firstReason (lastReasons s at n)) (blocks-told q e ∙ d)
-
-  -- its contents, by the three tests
-  contents-are :
-      (l z m : Bool) → leftOver (bodyAt s at) n ≡ l → nothingIn X ≡ z → ltb (recordEnd s at) (length s) ≡ m →
-      firstReason contents ≡ pick l (Refused 14 at) (pick z (Refused 21 at) (pick m (Refused 12 (recordEnd s at)) Done))
-  unfolding firstReason
-  contents-are l z m e f g = λ i. pick (e i) (Refused 14 at) (pick (f i) (Refused 21 at) (pick (g i) (Refused 12 (recordEnd s at)) Done))
-
-  module _ (due : at < length s) where
-    blocks-are : (a : ReadAnswer) → firstReason (blockReasons s at n) ≡ a → blocksReadOf X a ≡ blocksRead s at n
-    blocks-are a e = ap (blocksReadOf X) (sym e) ∙ by-due true (lt-ltb at (length s) due)
-
-    parts : firstReason (blockReasons s at n) ≡ andThen (firstReason (recordReasons s at 6 (Exact (2 + bytesFor n)))) (firstReason contents)
-    parts = first-append (recordReasons s at 6 (Exact (2 + bytesFor n))) contents
-
-    pub blocks-stop : (k a : ℕ) → firstReason (recordReasons s at 6 (Exact (2 + bytesFor n))) ≡ Refused k a → noBlocks (Refused k a) ≡ blocksRead s at n
-    unfolding blocksReadOf
-    blocks-stop k a e = blocks-are (Refused k a) (parts ∙ ap (λ (x : ReadAnswer). andThen x (firstReason contents)) e)
-
-    module _ (opens : firstReason (recordReasons s at 6 (Exact (2 + bytesFor n))) ≡ Done) where
-      past-open : (a : ReadAnswer) → firstReason contents ≡ a → blocksReadOf X a ≡ blocksRead s at n
-      past-open a e = blocks-are a (parts ∙ ap (λ (x : ReadAnswer). andThen x (firstReason contents)) opens ∙ e)
-
-      pub blocks-left : leftOver (bodyAt s at) n ≡ true → noBlocks (Refused 14 at) ≡ blocksRead s at n
-      unfolding blocksReadOf
-      blocks-left e = past-open (Refused 14 at) (contents-are true (nothingIn X) (ltb (recordEnd s at) (length s)) e refl refl)
-
-      module _ (none : leftOver (bodyAt s at) n ≡ false) where
-        pub blocks-nothing : nothingIn X ≡ true → noBlocks (Refused 21 at) ≡ blocksRead s at n
-        unfolding blocksReadOf
-        blocks-nothing e = past-open (Refused 21 at) (contents-are false true (ltb (recordEnd s at) (length s)) none e refl)
-
-        module _ (some : nothingIn X ≡ false) where
-          pub blocks-more : recordEnd s at < length s → noBlocks (Refused 12 (recordEnd s at)) ≡ blocksRead s at n
-          unfolding blocksReadOf
-          blocks-more h =
-              past-open (Refused 12 (recordEnd s at)) (contents-are false false true none some (lt-ltb (recordEnd s at) (length s) h))
-
-          pub blocks-done : length s ≤ recordEnd s at → record { blocked = X; answer = Done } ≡ blocksRead s at n
-          unfolding blocksReadOf
-          blocks-done h = past-open Done (contents-are false false false none some (le-ltb (recordEnd s at) (length s) h))
-
--- an open record of kind 6 has the bytes of n positions
-pub body-long :
-    (s : List ℕ) (at n start len : ℕ) → Opening s at 6 (Exact (2 + bytesFor n)) start len → length (bodyAt s at) ≡ bytesFor n
-body-long s at n start len o =
-    let w = exact (2 + bytesFor n) (le16 s at) (o .fits) in
-    length-take-le (le16 s at - 2) (drop (at + 4) s) (rw (length-drop (at + 4) s) (omega (arith, within s at 6 _ start len o, o .starts, o .size)))
-    ∙ omega arith
+use Rattle.records.proofs.Laws.{Opening, record-open}
+use Rattle.records.proofs.Reasons.{andThen, both-done}
+use Rattle.sitehead.specs.Head.{siteHeadAnswer}
+use Rattle.reachpairs.specs.Reasons.{reachReasons}
+use Rattle.reachpairs.specs.Pairs.{reachOfBody}
+use Rattle.reachpairs.specs.Loop.{reachRead}
+use Rattle.blockbits.specs.Reasons.{lastReasons}
+use Rattle.blockbits.specs.Loop.{blocksRead}
+use Rattle.sitefile.specs.Reasons.{loadsAt, reachAt, lastAt, positionsOfHead, loadsReasons}
+use Rattle.sitefile.specs.Read.{siteAnswer}
+use Rattle.reachpairs.proofs.ReadLaws.{reach-parts, pairs-answer, pairs-rows}
+use Rattle.blockbits.proofs.ReadLaws.{blocks-told}
+use Rattle.sitefile.proofs.Reasons.{site-parts}
+use Rattle.reachpairs.specs.declared.PairsRead.{PairsRead}
+use Rattle.blockbits.specs.declared.BlocksRead.{BlocksRead}
 
 -- the whole file
 module _ (s : List ℕ) where

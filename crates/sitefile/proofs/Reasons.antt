@@ -2,31 +2,27 @@
 use Prim.Native.Nat.{ℕ, _≤_}
 use mathlib.Core.Path.{_≡_, refl, sym, ap, ap₂, _∙_}
 use mathlib.Core.List.{List, [], _∷_, _++_, map, map-append}
-use mathlib.Core.Bool.{Bool, true, false}
 use native.Mathlib.Omega.{arith}
 use lib.Dec.{ltb}
 use lib.ListN.{length}
 use Rattle.laws.specs.Choice.{pick}
 use Rattle.records.specs.Layout.{bodyAt, recordEnd}
-use Rattle.records.specs.Reasons.{Reason, firstReason, recordReasons, First}
-use Rattle.records.specs.Head.{cellsOfHead, headReasons}
-use Rattle.records.specs.declared.Length.the-variants.{Pairs}
+use Rattle.records.specs.Reasons.{Reason, firstReason, First}
+use Rattle.records.specs.Head.{cellsOfHead}
 use Rattle.records.specs.declared.ReadAnswer.{ReadAnswer}
 use Rattle.records.specs.declared.ReadAnswer.the-variants.{Done, Refused}
 use Rattle.records.proofs.Reasons.{andThen, first-append, refused-first, Some, some-append, some-first}
 use Rattle.site.specs.declared.Site.{Site}
-use Rattle.sitefile.specs.Reasons.{loadsAt, reachAt, lastAt, positionsOfHead, loadsReasons, pairReasons, reachReasons, blockReasons}
-use Rattle.sitefile.specs.Reasons.{lastReasons, siteReasons}
-use Rattle.sitefile.specs.Head.{isRuled, ruledReasons, siteHeadReasons, siteHeadAnswer}
+use Rattle.sitehead.specs.Head.{isRuled, siteHeadReasons, siteHeadAnswer}
+use Rattle.reachpairs.specs.Reasons.{pairReasons, reachReasons}
+use Rattle.blockbits.specs.Reasons.{lastReasons}
+use Rattle.sitefile.specs.Reasons.{loadsAt, reachAt, lastAt, positionsOfHead, loadsReasons, siteReasons}
 use Rattle.sitefile.specs.Read.{siteOfFile, siteAnswer, siteDone, refusedSite, siteReadOf, readSite}
+use Rattle.sitehead.proofs.Reasons.{head-numbers, head-offsets, some-head}
+use Rattle.reachpairs.proofs.Reasons.{some-pairs}
+use Rattle.blockbits.proofs.Reasons.{last-numbers, last-offsets, some-last}
 
 module _ (s : List ℕ) where
-  pub reach-parts :
-      (at cells : ℕ) →
-      firstReason (reachReasons s at cells)
-      ≡ andThen (firstReason (recordReasons s at 3 Pairs)) (firstReason (pairReasons cells at 0 0 (bodyAt s at)))
-  reach-parts at cells = first-append (recordReasons s at 3 Pairs) (pairReasons cells at 0 0 (bodyAt s at))
-
   pub site-parts :
       siteAnswer s
       ≡ andThen (siteHeadAnswer s) (andThen (firstReason (loadsReasons s (loadsAt s) (cellsOfHead s)))
@@ -58,54 +54,12 @@ pub first-refused : (s : List ℕ) → readSite s .answer ≡ siteAnswer s
 unfolding readSite
 first-refused s = answer-of (siteOfFile s) (siteAnswer s)
 
--- the order, as numbers and offsets: head, its contents (kind 5: 1, then 24), loads, reach, its pairs, then kind 6 where it is due, with 14, 21 and 12
-last-numbers :
-    (s : List ℕ) (at n : ℕ) → map (λ (r : Reason). r .number) (lastReasons s at n) ≡ pick (ltb at (length s)) (8 ∷ 9 ∷ 10 ∷ 8 ∷ 14 ∷ 21 ∷ 12 ∷ []) []
-unfolding lastReasons
-last-numbers s at n = go (ltb at (length s))
-  where
-    go : (t : Bool) → map (λ (r : Reason). r .number) (pick t (blockReasons s at n) []) ≡ pick t (8 ∷ 9 ∷ 10 ∷ 8 ∷ 14 ∷ 21 ∷ 12 ∷ []) []
-    go true = refl
-    go false = refl
-
-last-offsets :
-    (s : List ℕ) (at n : ℕ) →
-    map (λ (r : Reason). r .offset) (lastReasons s at n) ≡ pick (ltb at (length s)) (at ∷ at ∷ at ∷ at ∷ at ∷ at ∷ recordEnd s at ∷ []) []
-unfolding lastReasons
-last-offsets s at n = go (ltb at (length s))
-  where
-    go : (t : Bool) → map (λ (r : Reason). r .offset) (pick t (blockReasons s at n) []) ≡ pick t (at ∷ at ∷ at ∷ at ∷ at ∷ at ∷ recordEnd s at ∷ []) []
-    go true = refl
-    go false = refl
-
--- the head: W11, 24 after 1, of kind 5 alone
-head-numbers :
-    (s : List ℕ) → map (λ (r : Reason). r .number) (siteHeadReasons s) ≡ pick (isRuled s) (8 ∷ 9 ∷ 10 ∷ 8 ∷ 1 ∷ 24 ∷ []) (8 ∷ 9 ∷ 10 ∷ 8 ∷ 1 ∷ [])
-unfolding siteHeadReasons
-head-numbers s = go (isRuled s)
-  where
-    go :
-        (t : Bool) →
-        map (λ (r : Reason). r .number) (pick t (ruledReasons s) (headReasons s)) ≡ pick t (8 ∷ 9 ∷ 10 ∷ 8 ∷ 1 ∷ 24 ∷ []) (8 ∷ 9 ∷ 10 ∷ 8 ∷ 1 ∷ [])
-    go true = refl
-    go false = refl
-
-head-offsets :
-    (s : List ℕ) → map (λ (r : Reason). r .offset) (siteHeadReasons s) ≡ pick (isRuled s) (0 ∷ 0 ∷ 0 ∷ 0 ∷ 0 ∷ 0 ∷ []) (0 ∷ 0 ∷ 0 ∷ 0 ∷ 0 ∷ [])
-unfolding siteHeadReasons
-head-offsets s = go (isRuled s)
-  where
-    go :
-        (t : Bool) →
-        map (λ (r : Reason). r .offset) (pick t (ruledReasons s) (headReasons s)) ≡ pick t (0 ∷ 0 ∷ 0 ∷ 0 ∷ 0 ∷ 0 ∷ []) (0 ∷ 0 ∷ 0 ∷ 0 ∷ 0 ∷ [])
-    go true = refl
-    go false = refl
-
 -- the records after the head
 abbrev rest : List ℕ → List Reason
 rest s =
     loadsReasons s (loadsAt s) (cellsOfHead s) ++ (reachReasons s (reachAt s) (cellsOfHead s) ++ lastReasons s (lastAt s) (positionsOfHead s))
 
+-- the order, as numbers and offsets: head, its contents (kind 5: 1, then 24), loads, reach, its pairs, then kind 6 where it is due, with 14, 21 and 12
 pub numbers :
     (s : List ℕ) →
     map (λ (r : Reason). r .number) (siteReasons s)
@@ -135,42 +89,12 @@ offsets s =
     (map-append (λ (r : Reason). r .offset) pairs (lastReasons s (lastAt s) (positionsOfHead s))
     ∙ ap (λ (l : List ℕ). map (λ (r : Reason). r .offset) pairs ++ l) (last-offsets s (lastAt s) (positionsOfHead s)))
 
--- and of each pair
-pub pair-numbers :
-    (cells at from to f t : ℕ) (r : List ℕ) →
-    (map (λ (x : Reason). x .number) (pairReasons cells at from to (f ∷ t ∷ r)) ≡ 3 ∷ 11 ∷ map (λ (x : Reason). x .number) (pairReasons cells at f t r))
-    × (map (λ (x : Reason). x .offset) (pairReasons cells at from to (f ∷ t ∷ r)) ≡ at ∷ at ∷ map (λ (x : Reason). x .offset) (pairReasons cells at f t r))
-unfolding pairReasons
-pair-numbers cells at from to f t r = (refl, refl)
-
 -- so the reason given stands in the list, it applies, and none before it does
 pub site-refused : (s : List ℕ) (n at : ℕ) → readSite s .answer ≡ Refused n at → First (siteReasons s) n at
 unfolding siteAnswer
 site-refused s n at e = refused-first (siteReasons s) n at (sym (first-refused s) ∙ e)
 
 -- no refusal has the number 0
-some-pairs : (cells at from to : ℕ) (body : List ℕ) → Some (pairReasons cells at from to body)
-unfolding pairReasons
-some-pairs cells at from to [] = tt
-some-pairs cells at from to (f ∷ []) = tt
-some-pairs cells at from to (f ∷ t ∷ r) = (omega arith, (omega arith, some-pairs cells at f t r))
-
-some-last : (s : List ℕ) (at n : ℕ) → Some (lastReasons s at n)
-unfolding lastReasons
-some-last s at n = go (ltb at (length s))
-  where
-    go : (t : Bool) → Some (pick t (blockReasons s at n) [])
-    go true = (omega arith, (omega arith, (omega arith, (omega arith, (omega arith, (omega arith, (omega arith, tt)))))))
-    go false = tt
-
-some-head : (s : List ℕ) → Some (siteHeadReasons s)
-unfolding siteHeadReasons
-some-head s = go (isRuled s)
-  where
-    go : (t : Bool) → Some (pick t (ruledReasons s) (headReasons s))
-    go true = (omega arith, (omega arith, (omega arith, (omega arith, (omega arith, (omega arith, tt))))))
-    go false = (omega arith, (omega arith, (omega arith, (omega arith, (omega arith, tt)))))
-
 some-site : (s : List ℕ) → Some (siteReasons s)
 unfolding siteReasons
 some-site s =

@@ -12,10 +12,10 @@ use Rattle.site.specs.declared.Fault.the-variants.{Fine}
 use Rattle.site.specs.Held.{Held}
 use Rattle.sitefile.specs.Read.{siteOfFile, siteAnswer, siteDone, readSite}
 use Rattle.sitefile.specs.Write.{siteBytes, siteWritten, siteOut}
-use Rattle.sitefile.specs.declared.SiteRead.{SiteRead}
 use Rattle.sitefile.proofs.FileTrip.{written-accepted, written-stated, read-written, read-good}
 use Rattle.sitefile.proofs.Good.{fine-good, good-fine}
 use Rattle.sitefile.proofs.Reasons.{first-refused, accept}
+use Rattle.sitefile.specs.declared.SiteRead.{SiteRead}
 
 -- written and read back: the same site
 pub written-then-read : (s : Site) → Held s → faultOf s ≡ Fine → readSite (siteBytes s) ≡ siteDone s

@@ -1,6 +1,6 @@
 -- The writer's definitions: a turn of the loads' loop, the file's length, and its parts stored one after the other.
 -- Assumes nothing.
-use Prim.Native.Nat.{ℕ, suc, _+_, _*_, _%_, _≤_, _<_}
+use Prim.Native.Nat.{ℕ, suc, _+_, _*_, _≤_, _<_}
 use mathlib.Core.Path.{_≡_, refl, sym, ap, ap₂, _∙_}
 use mathlib.Core.List.{List, [], _∷_, _++_}
 use native.Mathlib.Nat.{zero-add}
@@ -14,12 +14,12 @@ use Rattle.records.specs.Layout.{recordOf}
 use Rattle.records.proofs.Write.{record-put}
 use Rattle.records.proofs.Bytes.{two-bytes-length}
 use Rattle.site.specs.Record.{positions}
-use Rattle.sitefile.specs.Head.{siteHead, headLength}
-use Rattle.sitefile.specs.Blocks.{blockRecord}
-use Rattle.sitefile.specs.Write.{pairBytes, siteBytes}
+use Rattle.sitehead.specs.Head.{siteHead, headLength}
+use Rattle.reachpairs.specs.Pairs.{pairBytes}
+use Rattle.blockbits.specs.Blocks.{blockRecord}
+use Rattle.sitefile.specs.Write.{siteBytes}
+use Rattle.sitehead.proofs.Head.{head-long}
 use Rattle.site.specs.declared.Site.{Site}
-use Rattle.sitefile.proofs.Head.{head-long}
-use Rattle.sitefile.proofs.RowLaws.{pairs-even, pairs-most}
 
 -- a turn of the loads' loop, and its end
 pub put-step :
@@ -32,14 +32,6 @@ put-step out at i n loads h m =
 
 pub put-end : (out : List ℕ) (at i n : ℕ) (loads : List ℕ) → n ≤ i → sets out (at + 2 * i) (twoBytesEach (drop i (take n loads))) ≡ out
 put-end out at i n loads h = rw (drop-of-length-le (take n loads) {i = i} (simp length-take (omega arith)))
-
-pub pair-bytes-even : (rows : List ℕ) → length (pairBytes rows) % 2 ≡ 0
-unfolding pairBytes
-pair-bytes-even rows = pairs-even rows 0 1024
-
-pub pair-bytes-most : (rows : List ℕ) → length (pairBytes rows) ≤ 2048
-unfolding pairBytes
-pair-bytes-most rows = pairs-most rows 0 1024
 
 module _ (s : Site) (cells : s .cells ≤ 32) (size : length (s .loads) ≡ 32) where
   loads-length : length (twoBytesEach (take (s .cells) (s .loads))) ≡ 2 * s .cells

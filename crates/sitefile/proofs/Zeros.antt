@@ -5,8 +5,8 @@ use mathlib.Core.List.{List}
 use Rattle.records.specs.declared.ReadAnswer.the-variants.{Refused}
 use Rattle.site.specs.Record.{zeroSite}
 use Rattle.sitefile.specs.Read.{refusedSite, readSite}
-use Rattle.sitefile.specs.declared.SiteRead.{SiteRead}
 use Rattle.sitefile.proofs.Reasons.{first-refused, refuse}
+use Rattle.sitefile.specs.declared.SiteRead.{SiteRead}
 
 pub refused-zeros : (s : List ℕ) (n at : ℕ) → readSite s .answer ≡ Refused n at → readSite s .site ≡ zeroSite
 unfolding refusedSite

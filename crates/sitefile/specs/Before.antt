@@ -9,10 +9,12 @@ use Rattle.records.specs.Reasons.{Reason, endReason}
 use Rattle.records.specs.Head.{headRecord, cellsOfHead, slotsOfHead, channelsOfHead, headReasons}
 use Rattle.site.specs.Record.{positions, siteOf}
 use Rattle.site.specs.declared.Site.{Site}
-use Rattle.sitefile.specs.Blocks.{blockRecord}
-use Rattle.sitefile.specs.Reasons.{loadsAt, reachAt, lastAt, positionsOfHead, loadsReasons, reachReasons, lastReasons}
-use Rattle.sitefile.specs.Read.{loadsOfBody, reachOfBody}
-use Rattle.sitefile.specs.Write.{pairBytes}
+use Rattle.reachpairs.specs.Reasons.{reachReasons}
+use Rattle.reachpairs.specs.Pairs.{reachOfBody, pairBytes}
+use Rattle.blockbits.specs.Blocks.{blockRecord}
+use Rattle.blockbits.specs.Reasons.{lastReasons}
+use Rattle.sitefile.specs.Reasons.{loadsAt, reachAt, lastAt, positionsOfHead, loadsReasons}
+use Rattle.sitefile.specs.Read.{loadsOfBody}
 
 -- "A site file is kinds 1, 2, 3"
 abbrev pub threeKinds : Site → List ℕ

@@ -1,7 +1,4 @@
 -- The definitions of crate `sitefile`, module by module.
-pub mod Pairs
-pub mod Blocks
-pub mod Head
 pub mod Reasons
 pub mod Read
 pub mod Loop

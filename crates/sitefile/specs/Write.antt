@@ -10,13 +10,9 @@ use Rattle.records.specs.declared.Written.{Written}
 use Rattle.records.specs.declared.Written.the-variants.{Refused}
 use Rattle.site.specs.Record.{positions, faultOf, isFine}
 use Rattle.site.specs.declared.Site.{Site}
-use Rattle.sitefile.specs.Head.{siteHead}
-use Rattle.sitefile.specs.Pairs.{pairsFrom}
-use Rattle.sitefile.specs.Blocks.{blockRecord}
-
--- the bytes of all the pairs, from row after row: 32 places in each of 32 rows
-unfoldable pub pairBytes : List ℕ → List ℕ
-pairBytes reach = pairsFrom reach 0 1024
+use Rattle.sitehead.specs.Head.{siteHead}
+use Rattle.reachpairs.specs.Pairs.{pairBytes}
+use Rattle.blockbits.specs.Blocks.{blockRecord}
 
 -- "A site file is kinds 1, 2, 3": the head, "I loads, two bytes each", the pairs. W8: kind 6 after kind 3, absent when nothing is blocked.
 -- W11: kind 5 in place of kind 1 for rule 2

@@ -52,8 +52,8 @@ lowest-wrong-requires c κs = search needs
 add-t14 : tie.Need-add-t14
 add-t14 c = omega arith
 
-row-count-requires : tie.Need-row-count-requires
-row-count-requires c κs = omega (arith, row-before (c .before .before .before .before .before .args .n) (c .if2 .taken))
+cell-count-requires : tie.Need-cell-count-requires
+cell-count-requires c κs = omega (arith, row-before (c .before .before .before .before .before .args .n) (c .if2 .taken))
 
 returns-2 : tie.Need-returns-2
 returns-2 c =
@@ -61,7 +61,7 @@ returns-2 c =
     let k = w .before .before in
     let a = k .before .before .args in
     is-count (a .cells) (a .n) (a .loads) (a .clash .now) (a .table .now) (k .lowest-clash .ensures) (w .before .if1 .left) (w .lowest-wrong .ensures)
-    (c .before .if2 .taken) (c .row-count .ensures)
+    (c .before .if2 .taken) (c .cell-count .ensures)
 
 returns-3 : tie.Need-returns-3
 returns-3 c =
@@ -84,6 +84,6 @@ judge-open-spec =
     returns
     lowest-wrong-requires
     add-t14
-    row-count-requires
+    cell-count-requires
     returns-2
     returns-3)

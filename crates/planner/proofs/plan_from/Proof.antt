@@ -10,7 +10,7 @@ use Rattle.laws.specs.Bits.{bitIn}
 use Rattle.laws.specs.Part.{listOf}
 use Rattle.positions.specs.Blocked.{barOf}
 use Rattle.site.specs.Reach.{isOpen}
-use Rattle.planner.specs.Loop.{opens}
+use Rattle.planrows.specs.Row.{opens}
 use Rattle.planner.proofs.Alike.{planned-alike, answer-alike, leaves-alike}
 use Rattle.planner.proofs.MaskLaws.{none-open, no-mask, mask-opens, mask-bars}
 use Rattle.planner.proofs.plan_from.Statement.{statement}

@@ -11,7 +11,8 @@ use lib.Seq.{length-take-le, length-front}
 use Rattle.laws.specs.Bits.{bitIn}
 use Rattle.laws.proofs.Grid.{row-before}
 use Rattle.planner.specs.Plan.{answerOf}
-use Rattle.planner.specs.Loop.{opens, PlannedTo}
+use Rattle.planrows.specs.Row.{opens}
+use Rattle.planner.specs.Loop.{PlannedTo}
 use Rattle.planner.proofs.Cells.{more-long, more-drop, more-planned, more-short, end-done, end-short, rows-kept}
 use Rattle.planner.proofs.plan_rows.Statement.{statement}
 use Rattle.planner.proofs.plan_rows.Tie as tie

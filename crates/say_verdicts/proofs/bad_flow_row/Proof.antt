@@ -2,7 +2,7 @@
 use mathlib.Core.Path.{sym, _∙_}
 use borrow.Author.Needs.{needs}
 use borrow.Author.Tests.{not-true, not-false}
-use Rattle.say_verdicts.specs.Said.{badFlowRow}
+use Rattle.verdicts.specs.Said.{badFlowRow}
 use Rattle.say_verdicts.proofs.bad_flow_row.Statement.{statement}
 use Rattle.say_verdicts.proofs.bad_flow_row.Tie as tie
 

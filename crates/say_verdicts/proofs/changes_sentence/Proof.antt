@@ -1,6 +1,6 @@
 -- `say_verdicts::changes_sentence` meets its contract: no change, or some. Assumes nothing.
 use borrow.Author.Tests.{eq-eqb, ne-eqb}
-use Rattle.say_verdicts.specs.Said.{changesSentence}
+use Rattle.verdicts.specs.Said.{changesSentence}
 use Rattle.say_verdicts.proofs.changes_sentence.Statement.{statement}
 use Rattle.say_verdicts.proofs.changes_sentence.Tie as tie
 

@@ -4,7 +4,7 @@ use native.Mathlib.Nat.{div-le-self, mod-le}
 use native.Mathlib.Omega.{arith}
 use borrow.Author.Needs.{needs}
 use borrow.Author.Tests.{lt-ltb, le-ltb}
-use Rattle.say_verdicts.specs.Said.{clashSentence}
+use Rattle.verdicts.specs.Said.{clashSentence}
 use Rattle.say_verdicts.proofs.clash_sentence.Statement.{statement}
 use Rattle.say_verdicts.proofs.clash_sentence.Tie as tie
 

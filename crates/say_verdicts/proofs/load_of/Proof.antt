@@ -2,7 +2,7 @@
 use Prim.Native.Nat.{_≤_, _<_}
 use native.Mathlib.Omega.{arith}
 use borrow.Author.Tests.{lt-ltb, le-ltb}
-use Rattle.say_verdicts.specs.Said.{loadNamed}
+use Rattle.verdicts.specs.Said.{loadNamed}
 use borrow.Author.Needs.{needs}
 use Rattle.say_verdicts.proofs.load_of.Statement.{statement}
 use Rattle.say_verdicts.proofs.load_of.Tie as tie

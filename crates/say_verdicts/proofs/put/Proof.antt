@@ -3,7 +3,7 @@ use mathlib.Core.Path.{refl}
 use native.Mathlib.Omega.{arith}
 use borrow.Author.Needs.{needs}
 use Rattle.say_refusals.proofs.Sentences.{sentence-room, sentence-put}
-use Rattle.say_verdicts.specs.Lines.{verdictLines}
+use Rattle.verdicts.specs.Lines.{verdictLines}
 use Rattle.say_verdicts.proofs.put.Statement.{statement}
 use Rattle.say_verdicts.proofs.put.Tie as tie
 

@@ -7,7 +7,7 @@ use borrow.Author.Tests.{not-true, not-false}
 use Rattle.site.specs.Record.{upTo}
 use Rattle.site.specs.Reach.{reaches}
 use Rattle.site.proofs.Faults.{up-to}
-use Rattle.say_verdicts.specs.Said.{reachNamed}
+use Rattle.verdicts.specs.Said.{reachNamed}
 use borrow.Author.Needs.{needs}
 use Rattle.say_verdicts.proofs.reaches.Statement.{statement}
 use Rattle.say_verdicts.proofs.reaches.Tie as tie

@@ -1,7 +1,7 @@
 -- `say_why::cell_phrase` meets its contract: a case for each way out. Assumes nothing.
 use mathlib.Core.Path.{sym, _∙_}
 use borrow.Author.Needs.{needs}
-use Rattle.say_why.specs.Said.{cellPhrase}
+use Rattle.why.specs.Said.{cellPhrase}
 use Rattle.say_why.proofs.cell_phrase.Statement.{statement}
 use Rattle.say_why.proofs.cell_phrase.Tie as tie
 

@@ -4,4 +4,12 @@ use Rattle.say_why.proofs.chain_phrase.Statement.{statement}
 use Rattle.say_why.proofs.chain_phrase.Tie as tie
 
 pub chain-phrase-spec : {M : Type 1} → statement M
-chain-phrase-spec = tie.close (tie.spec (λ c. search needs) (λ c. search needs) (λ c. search needs) (λ c. cc) (λ c. cc) (λ c. cc))
+chain-phrase-spec =
+    tie.close
+    (tie.spec
+    (λ c. search needs)
+    (λ c. search needs)
+    (λ c. search needs)
+    (λ c. rw (c .enum-told .given .1))
+    (λ c. rw (c .before .reply .given .1))
+    (λ c. rw (c .enum-told2 .given .1)))

@@ -4,7 +4,7 @@ use native.Mathlib.Nat.{div-add-mod', mul-le-mul-left}
 use native.Mathlib.Omega.{arith}
 use borrow.Author.Needs.{needs}
 use borrow.Author.Tests.{lt-ltb, le-ltb, eq-eqb, ne-eqb}
-use Rattle.say_why.specs.Said.{fewest}
+use Rattle.why.specs.Said.{fewest}
 use Rattle.say_why.proofs.fewest.Statement.{statement}
 use Rattle.say_why.proofs.fewest.Tie as tie
 

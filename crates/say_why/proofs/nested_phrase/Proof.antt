@@ -5,4 +5,12 @@ use Rattle.say_why.proofs.nested_phrase.Tie as tie
 
 pub nested-phrase-spec : {M : Type 1} → statement M
 nested-phrase-spec =
-    tie.close (tie.spec (λ c. search needs) (λ c. search needs) (λ c κs. search needs) (λ c. search needs) (λ c. cc) (λ c. cc) (λ c. cc))
+    tie.close
+    (tie.spec
+    (λ c. search needs)
+    (λ c. search needs)
+    (λ c κs. search needs)
+    (λ c. search needs)
+    (λ c. rw (c .enum-told .given .1))
+    (λ c. rw (c .before .enum-told2 .given .1) (c .class-phrase .ensures))
+    (λ c. rw (c .enum-told3 .given .1)))

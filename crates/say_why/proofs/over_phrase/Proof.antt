@@ -4,4 +4,12 @@ use Rattle.say_why.proofs.over_phrase.Statement.{statement}
 use Rattle.say_why.proofs.over_phrase.Tie as tie
 
 pub over-phrase-spec : {M : Type 1} → statement M
-over-phrase-spec = tie.close (tie.spec (λ c. search needs) (λ c. search needs) (λ c. search needs) (λ c. cc) (λ c. cc) (λ c. cc))
+over-phrase-spec =
+    tie.close
+    (tie.spec
+    (λ c. search needs)
+    (λ c. search needs)
+    (λ c. search needs)
+    (λ c. rw (c .enum-told .given .1))
+    (λ c. rw (c .enum-told2 .given .1))
+    (λ c. rw (c .enum-told3 .given .1)))

@@ -7,7 +7,7 @@ use borrow.Author.Needs.{needs}
 use Rattle.site.proofs.Faults.{fine-sized, few-positions}
 use Rattle.judges.specs.Judges.{chainAnswer, classAnswer, loadAnswer, leastAnswer}
 use Rattle.phrases.proofs.Put.{put-both, put-wide, put-long}
-use Rattle.say_why.specs.Said.{openOf, leastNumber, willDo, someBlocked, verdictPhrases, clashPhrases, sizesPhrases, listLine}
+use Rattle.why.specs.Said.{openOf, leastNumber, willDo, someBlocked, verdictPhrases, clashPhrases, sizesPhrases, listLine}
 use Rattle.say_why.proofs.Texts.{said-parts}
 use Rattle.say_why.proofs.put_all.Statement.{statement}
 use Rattle.say_why.proofs.put_all.Tie as tie

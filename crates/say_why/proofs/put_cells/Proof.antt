@@ -5,7 +5,7 @@ use native.Mathlib.Omega.{arith}
 use borrow.Author.Needs.{needs}
 use Rattle.phrases.specs.Put.{Put}
 use Rattle.phrases.proofs.Put.{put-both, put-wide, put-none, put-long}
-use Rattle.say_why.specs.Said.{cellPhrases, texts}
+use Rattle.why.specs.Said.{cellPhrases, texts}
 use Rattle.say_why.proofs.Texts.{cells-more}
 use Rattle.say_why.proofs.put_cells.Statement.{statement}
 use Rattle.say_why.proofs.put_cells.Tie as tie

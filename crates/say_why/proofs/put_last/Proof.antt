@@ -5,7 +5,7 @@ use borrow.Author.Needs.{needs}
 use borrow.Author.Tests.{lt-ltb, le-ltb}
 use Rattle.site.specs.Record.{positions}
 use Rattle.phrases.proofs.Put.{put-wide}
-use Rattle.say_why.specs.Said.{openOf}
+use Rattle.why.specs.Said.{openOf}
 use Rattle.say_why.proofs.put_last.Statement.{statement}
 use Rattle.say_why.proofs.put_last.Tie as tie
 

@@ -3,7 +3,7 @@ use mathlib.Core.Path.{refl}
 use native.Mathlib.Omega.{arith}
 use borrow.Author.Needs.{needs}
 use Rattle.phrases.proofs.Table.{phrase-put}
-use Rattle.say_why.specs.Lines.{whyLines}
+use Rattle.why.specs.Lines.{whyLines}
 use Rattle.say_why.proofs.put_line.Statement.{statement}
 use Rattle.say_why.proofs.put_line.Tie as tie
 

@@ -10,7 +10,7 @@ use Rattle.speech.specs.Speech.{bytes}
 use Rattle.phrases.specs.Put.{Put}
 use Rattle.phrases.proofs.Put.{put-both, put-of, put-wide, put-long}
 use Rattle.putblocks.proofs.Back.{text-room}
-use Rattle.say_why.specs.Said.{blockedList}
+use Rattle.why.specs.Said.{blockedList}
 use Rattle.say_why.proofs.put_list.Statement.{statement}
 use Rattle.say_why.proofs.put_list.Tie as tie
 

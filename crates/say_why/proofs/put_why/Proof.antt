@@ -5,7 +5,7 @@ use native.Mathlib.Omega.{arith}
 use borrow.Author.Needs.{needs}
 use Rattle.heaviest.proofs.Meaning.{done-is-fine}
 use Rattle.phrases.proofs.Put.{put-none}
-use Rattle.say_why.specs.Said.{whyPhrases, whySaid}
+use Rattle.why.specs.Said.{whyPhrases, whySaid}
 use Rattle.say_why.proofs.put_why.Statement.{statement}
 use Rattle.say_why.proofs.put_why.Tie as tie
 

@@ -1,7 +1,7 @@
 -- `say_why::set_phrase` meets its contract: a case for each way out. Assumes nothing.
 use native.Mathlib.Omega.{arith}
 use borrow.Author.Tests.{lt-ltb, le-ltb}
-use Rattle.say_why.specs.Said.{setPhrase}
+use Rattle.why.specs.Said.{setPhrase}
 use Rattle.say_why.proofs.set_phrase.Statement.{statement}
 use Rattle.say_why.proofs.set_phrase.Tie as tie
 

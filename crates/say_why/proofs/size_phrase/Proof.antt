@@ -1,7 +1,7 @@
 -- `say_why::size_phrase` meets its contract: the fewest for the one number, and for the other. Assumes nothing.
 use mathlib.Core.Path.{ap₂, _∙_}
 use borrow.Author.Needs.{needs}
-use Rattle.say_why.specs.Said.{sizeRow, sizePhrase}
+use Rattle.why.specs.Said.{sizeRow, sizePhrase}
 use Rattle.say_why.proofs.size_phrase.Statement.{statement}
 use Rattle.say_why.proofs.size_phrase.Tie as tie
 

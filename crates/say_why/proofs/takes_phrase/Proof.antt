@@ -1,7 +1,7 @@
 -- `say_why::takes_phrase` meets its contract: a case for each way out. Assumes nothing.
 use borrow.Author.Needs.{needs}
 use borrow.Author.Tests.{eq-eqb, ne-eqb}
-use Rattle.say_why.specs.Said.{takesPhrase}
+use Rattle.why.specs.Said.{takesPhrase}
 use Rattle.say_why.proofs.takes_phrase.Statement.{statement}
 use Rattle.say_why.proofs.takes_phrase.Tie as tie
 

@@ -12,7 +12,7 @@ will-do-spec =
     (λ c. search needs)
     (λ c. search needs)
     (λ c. search needs)
-    (λ c. cc)
+    (λ c. rw (c .before .enum-told .given .1) (c .smaller .ensures))
     (λ c. search needs)
     (λ c. search needs)
     (λ c. search needs))

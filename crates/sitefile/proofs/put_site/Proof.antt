@@ -5,10 +5,10 @@ use mathlib.Core.Path.{_≡_, sym, _∙_}
 use native.Mathlib.Omega.{arith}
 use lib.ListN.{length}
 use denote.Ref.{now}
-use Rattle.sitefile.specs.Head.{headLength}
 use Rattle.sitefile.specs.Write.{siteBytes}
+use Rattle.reachpairs.proofs.RowLaws.{pair-bytes-most}
+use Rattle.sitefile.proofs.WriteLaws.{site-length, site-put}
 use Rattle.records.proofs.Write.{written-done, written-short, laid-done, laid-short}
-use Rattle.sitefile.proofs.WriteLaws.{pair-bytes-most, site-length, site-put}
 use Rattle.sitefile.proofs.put_site.Statement.{statement}
 use Rattle.sitefile.proofs.put_site.Tie as tie
 

@@ -9,14 +9,17 @@ use Rattle.records.specs.Bytes.{le16}
 use Rattle.records.specs.Head.{cellsOfHead}
 use Rattle.records.specs.declared.Length.the-variants.{Pairs}
 use Rattle.records.proofs.Laws.{Opening}
-use Rattle.sitefile.proofs.Head.{site-head-read, site-head-sizes}
-use Rattle.site.specs.Record.{siteOf}
-use Rattle.site.proofs.Faults.{few-positions}
+use Rattle.reachpairs.specs.Loop.{reachRead}
+use Rattle.blockbits.specs.Loop.{blocksRead}
 use Rattle.sitefile.specs.Reasons.{reachAt, lastAt, positionsOfHead}
 use Rattle.sitefile.specs.Read.{refusedSite, siteOfFile, siteAnswer}
-use Rattle.sitefile.specs.Loop.{reachRead, blocksRead, LoadsRead}
+use Rattle.sitefile.specs.Loop.{LoadsRead}
+use Rattle.sitehead.proofs.Head.{site-head-read, site-head-sizes}
+use Rattle.blockbits.proofs.ReadLaws.{blocks-given}
 use Rattle.sitefile.proofs.Reasons.{refuse, accept}
-use Rattle.sitefile.proofs.ReadLaws.{rows-stop, rows-are, reach-open, site-is, blocks-given}
+use Rattle.sitefile.proofs.ReadLaws.{rows-stop, rows-are, reach-open, site-is}
+use Rattle.site.specs.Record.{siteOf}
+use Rattle.site.proofs.Faults.{few-positions}
 use borrow.Author.Needs.{needs}
 use Rattle.sitefile.proofs.read_rest.Statement.{statement}
 use Rattle.sitefile.proofs.read_rest.Tie as tie

@@ -8,17 +8,16 @@ use lib.ListN.{length-take}
 use denote.Ref.{now}
 use Rattle.records.specs.Opener.{openAt, openAnswer}
 use Rattle.records.specs.Reasons.{firstReason}
-use Rattle.records.specs.Bytes.{le16}
 use Rattle.records.specs.Head.{cellsOfHead}
 use Rattle.records.specs.declared.Length.the-variants.{Exact}
 use Rattle.records.specs.declared.ReadAnswer.the-variants.{Done}
 use Rattle.records.proofs.Laws.{Opening, opened, opened-done, not-opened, within, exact, body-is, ends}
-use Rattle.sitefile.specs.Head.{siteHeadAnswer}
-use Rattle.sitefile.proofs.Head.{site-head-read, site-head-sizes}
+use Rattle.sitehead.specs.Head.{siteHeadAnswer}
 use Rattle.sitefile.specs.Reasons.{loadsAt, loadsReasons}
 use Rattle.sitefile.specs.Read.{loadsOfBody, refusedSite}
+use Rattle.sitehead.proofs.Head.{site-head-read, site-head-sizes}
 use Rattle.sitefile.proofs.Reasons.{refuse}
-use Rattle.sitefile.proofs.ReadLaws.{head-stop, loads-stop}
+use Rattle.sitefile.proofs.ReadLaws.{loads-stop, head-stop}
 use Rattle.sitefile.proofs.read_site.Statement.{statement}
 use Rattle.sitefile.proofs.read_site.Tie as tie
 

@@ -1,0 +1,22 @@
+-- The equalities that the contracts of crate `reachpairs` state: r is the answer, and x′ what a lent x holds afterwards.
+-- Made by tools/surface from the source.
+use mathlib.Core.Path.{_≡_}
+use mathlib.Core.List.{List}
+use Prim.Native.Nat.{ℕ}
+use Rattle.reachpairs.specs.Loop.{reachRead}
+use Rattle.reachpairs.specs.Pairs.{pairBytes}
+use Rattle.reachpairs.specs.declared.PairsRead.{PairsRead}
+use lib.ListN.{length}
+use lib.Seq.{sets}
+
+-- reachpairs::read_reach
+pub record ReachpairsReadReach (s : List ℕ) (at : ℕ) (cells : ℕ) (r : PairsRead) : Type 0 where
+  pub answer : r ≡ reachRead s at cells
+
+-- reachpairs::pairs_len
+pub record ReachpairsPairsLen (reach : List ℕ) (r : ℕ) : Type 0 where
+  pub answer : r ≡ length (pairBytes reach)
+
+-- reachpairs::put_pairs
+pub record ReachpairsPutPairs (out : List ℕ) (at : ℕ) (reach : List ℕ) (end : ℕ) (out′ : List ℕ) : Type 0 where
+  pub out-after : out′ ≡ sets out at (pairBytes reach)

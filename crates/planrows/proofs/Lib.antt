@@ -1,0 +1,2 @@
+-- The laws of crate `planrows`, module by module.
+pub mod Marked

@@ -1,0 +1,2 @@
+-- The definitions of crate `planrows`, module by module.
+pub mod Row

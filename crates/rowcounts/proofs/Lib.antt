@@ -1,0 +1,2 @@
+-- The laws of crate `rowcounts`, module by module.
+pub mod Rows

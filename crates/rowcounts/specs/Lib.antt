@@ -1,0 +1,2 @@
+-- The definitions of crate `rowcounts`, module by module.
+pub mod Counts

@@ -1,4 +1,0 @@
--- The definitions of crate `say_why`, module by module.
-pub mod Lines
-pub mod Said
-pub mod Means

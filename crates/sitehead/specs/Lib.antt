@@ -1,0 +1,2 @@
+-- The definitions of crate `sitehead`, module by module.
+pub mod Head

@@ -1,0 +1,4 @@
+-- The laws of crate `verdicts`, module by module.
+pub mod Clash
+pub mod Example
+pub mod Share
