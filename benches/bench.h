@@ -40,6 +40,7 @@ typedef struct {
     dugg_renumbered (*renumber)(dugg_site);
     dugg_answer (*carry)(dugg_site, const uint8_t *, size_t, uint8_t *, size_t);
     dugg_answer (*clash)(dugg_site, uint16_t, uint16_t);
+    dugg_answer (*search)(dugg_site, uint64_t, uint8_t *, size_t);
 } maker;
 
 extern const maker makers[MAKERS];
@@ -95,6 +96,8 @@ int heaviest_agree(void);
 void heaviest_table(void);
 int number_agree(void);
 void number_table(void);
+int search_agree(void);
+void search_table(void);
 int blocked_agree(void);
 void blocked_table(void);
 int rules_agree(void);

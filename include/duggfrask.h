@@ -1,6 +1,6 @@
 /* Duggfrask, the C interface: plans channel time-slots for the cells of a wireless fieldbus, and checks finished plans.
  *
- * Every call answers a number and up to three values. Number 0 is "done"; 1 to 24 are the
+ * Every call answers a number and up to three values. Number 0 is "done"; 1 to 25 are the
  * refusals of docs/RULES.md. Values that are not named below are 0. No call keeps anything between calls.
  *
  *    1  cells, slots or channels out of range
@@ -28,6 +28,7 @@
  *   22  a cell transmits at a blocked position (values: position, cell)
  *   23  no numbering of the cells puts the site in the class
  *   24  the rule is not 1 or 2, or in a site file that gives it not 2
+ *    25  the search: more than 64 open positions, or more than 24 fragments
  * 
  * A refused file read has one value: where in the file the refused record begins (12: the first byte too many;
  * 4: 0). A sheet has no records: its 17 gives the line, its 3 the lowest row, its 20 the lowest position.
@@ -127,6 +128,13 @@ dugg_answer dugg_heaviest(dugg_site site);
  * The table needs cells * slots * channels bytes (refusal 4); bytes past those are not written. Refusal 5 gives the
  * first cell without room and how many fragments are short, and leaves those bytes 0. */
 dugg_answer dugg_plan(dugg_site site, uint8_t *table, size_t len);
+
+/* Searches for a plan of the site, with at most `limit` tries. One try is one open position looked at for one fragment. Done:
+ * value[0] is 0 for a plan, 1 where none exists, 2 where the limit is met, and value[1] the tries made. A plan is 1s and
+ * 0s in the first cells * slots * channels bytes of the table; on 1 and 2 they are 0. The table needs that many bytes
+ * (refusal 4). Refusal 25, more than 64 open positions or 24 fragments in all, writes nothing. A larger limit never alters
+ * a plan, a "none exists" or its tries. */
+dugg_answer dugg_search(dugg_site site, uint64_t limit, uint8_t *table, size_t len);
 
 /* Is the finished table valid for the site? A byte that is 1 means transmit, any other is silence. Refusal 22 comes first
  * and gives the lowest blocked position where a cell transmits, and the lowest such cell; refusal 6 the lowest position

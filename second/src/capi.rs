@@ -4,7 +4,7 @@ use crate::admit::Flow;
 use crate::answer::{done, Answer, Outcome};
 use crate::share::{Fragments, Repeats, Share, Slots};
 use crate::site::{Positions, Site};
-use crate::{admit, checker, files, heaviest, judge, mender, numbering, planner, share, sheet, words};
+use crate::{admit, checker, files, heaviest, judge, mender, numbering, planner, search, share, sheet, words};
 
 #[repr(C)]
 #[derive(Clone, Copy, Debug, PartialEq, Eq)]
@@ -134,6 +134,17 @@ pub extern "C" fn second_heaviest(site: Site) -> Answer {
 #[no_mangle]
 pub unsafe extern "C" fn second_plan(site: Site, table: *mut u8, len: usize) -> Answer {
     answer(planner::plan(&site, lent_out(table, len)), |()| [])
+}
+
+/// # Safety
+/// `table` has `len` bytes.
+#[no_mangle]
+pub unsafe extern "C" fn second_search(site: Site, limit: u64, table: *mut u8, len: usize) -> Answer {
+    answer(search::search(&site, limit, lent_out(table, len)), |(end, tries)| match end {
+        search::End::Plan => [0, tries],
+        search::End::NoneExists => [1, tries],
+        search::End::LimitMet => [2, tries],
+    })
 }
 
 /// # Safety

@@ -15,6 +15,7 @@ use crate::judge::first_split;
 use crate::mender;
 use crate::numbering;
 use crate::planner;
+use crate::search::{self, End};
 use crate::share::{share as share_by_default, share_of, Fragments, Repeats, Share, Slots, NO_REPEATS_GIVEN};
 use crate::sheet::{read_sheet, write_sheet};
 use crate::site::{Positions, Site};
@@ -22,7 +23,7 @@ pub use input::Input;
 use input::Kind;
 use wording::{
     bad_list, change_line, counted, no_room, no_room_beside, not_nested, refused, sends_wrongly, sizes, wrong_flow,
-    wrong_slots, Place,
+    tries, wrong_slots, Place,
 };
 
 /// Of each input no more than this is looked at.
@@ -69,6 +70,27 @@ pub fn plan(site_file: Input) -> Told {
     planner::plan(&site, &mut table).map_err(|no| no_room(&no))?;
     let words = format!("planned: {}\n", sizes(&site, ", "));
     Ok(Done { result: written(|file| write_plan(&site, &table, file)), words })
+}
+
+/// The tries that a search makes at most where no number is given.
+pub const TRIES_WITHOUT_A_NUMBER: u64 = 10_000_000;
+
+pub fn search(site_file: Input, limit: u64) -> Told {
+    let site = site_in(site_file)?;
+    let mut table = vec![0; site.table_len()];
+    let (end, made) =
+        search::search(&site, limit, &mut table).map_err(|no| refused(no.number, Place::Nowhere))?;
+    match end {
+        End::Plan => {
+            let words = format!("planned after {}\n", tries(made));
+            Ok(Done { result: written(|file| write_plan(&site, &table, file)), words })
+        }
+        End::NoneExists => {
+            let show = if made == 1 { "shows" } else { "show" };
+            Err(format!("full: no plan exists, and {} {show} it\n", tries(made)))
+        }
+        End::LimitMet => Err(format!("not known: stopped at {}\n", tries(made))),
+    }
 }
 
 /// The site and the table of a plan for it: the site file is read first, then the plan file, then the sizes compared.

@@ -15,6 +15,7 @@ pub mod mender;
 pub mod numbering;
 pub mod old_reader;
 pub mod planner;
+pub mod search;
 pub mod share;
 pub mod sheet;
 pub mod site;

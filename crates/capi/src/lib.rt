@@ -20,6 +20,8 @@ ghost use Rattle.heaviest.specs.Sets.{heaviestOf};
 ghost use Rattle.heaviest.specs.Given.{heaviestGiven};
 ghost use Rattle.planner.specs.Plan.{planAnswer, planTable};
 ghost use Rattle.planner.specs.Given.{planGiven};
+ghost use Rattle.search.specs.Search.{searchAnswer, searchTable};
+ghost use Rattle.search.specs.Given.{searchGiven};
 ghost use Rattle.checker.specs.Check.{checkAnswer};
 ghost use Rattle.checker.specs.Given.{checkGiven};
 ghost use Rattle.wordtable.specs.Plan.{planWordsAnswer, planWords};
@@ -123,6 +125,14 @@ pub extern "C" fn dugg_plan(site: Site, table: &mut [u8]) -> Answer
     ensures { λ _. ⌜ now (table .exit) ≡ planTable site (now (table .entry)) ⌝ }
 {
     told::plan_answer(planner::plan(site, table))
+}
+
+#[no_mangle]
+pub extern "C" fn dugg_search(site: Site, limit: u64, table: &mut [u8]) -> Answer
+    ensures { λ r. ⌜ r ≡ told (searchGiven (searchAnswer site limit (now (table .entry)))) ⌝ }
+    ensures { λ _. ⌜ now (table .exit) ≡ searchTable site limit (now (table .entry)) ⌝ }
+{
+    told::search_answer(search::search(site, limit, table))
 }
 
 #[no_mangle]

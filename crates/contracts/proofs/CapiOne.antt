@@ -9,8 +9,8 @@ use Rattle.checker.specs.Check.{checkAnswer}
 use Rattle.checker.specs.Given.{checkGiven}
 use Rattle.contracts.specs.CapiSays.{DuggAdmit, DuggCarry, DuggChain, DuggCheck, DuggCheckWords, DuggClash, DuggClass, DuggClearReach, DuggFault}
 use Rattle.contracts.specs.CapiSays.{DuggHeaviest, DuggLeast, DuggLoadTest, DuggMend, DuggPlan, DuggPlanWords, DuggReadPlan, DuggReadSheet, DuggReadSite}
-use Rattle.contracts.specs.CapiSays.{DuggRenumber, DuggSetLoad, DuggSetReach, DuggShare, DuggShareRepeated, DuggToBytes, DuggToWords, DuggWritePlan}
-use Rattle.contracts.specs.CapiSays.{DuggWriteSheet, DuggWriteSite}
+use Rattle.contracts.specs.CapiSays.{DuggRenumber, DuggSearch, DuggSetLoad, DuggSetReach, DuggShare, DuggShareRepeated, DuggToBytes, DuggToWords}
+use Rattle.contracts.specs.CapiSays.{DuggWritePlan, DuggWriteSheet, DuggWriteSite}
 use Rattle.flowlist.specs.declared.Flow.{Flow}
 use Rattle.heaviest.specs.Given.{heaviestGiven}
 use Rattle.heaviest.specs.Sets.{heaviestOf}
@@ -27,6 +27,8 @@ use Rattle.planfile.specs.Write.{planOut, planWritten}
 use Rattle.planner.specs.Given.{planGiven}
 use Rattle.planner.specs.Plan.{planAnswer, planTable}
 use Rattle.records.specs.Given.{writtenGiven}
+use Rattle.search.specs.Given.{searchGiven}
+use Rattle.search.specs.Search.{searchAnswer, searchTable}
 use Rattle.shares.specs.Given.{shareGiven}
 use Rattle.shares.specs.Share.{defaultRepeats, shareOf}
 use Rattle.sheet.specs.Read.{readSheet}
@@ -157,6 +159,17 @@ pub duggPlan-one : (site : Site) (table : List ℕ)
 duggPlan-one site table = (
   told (planGiven (planAnswer site table)),
   planTable site table,
+  record { answer = refl; table-after = refl },
+  λ q table″ says. (says .answer, says .table-after),
+)
+
+-- capi::dugg_search
+pub duggSearch-one : (site : Site) (limit : ℕ) (table : List ℕ)
+    → (r : Answer) × (table′ : List ℕ) × (DuggSearch site limit table r table′)
+    × ((q : Answer) (table″ : List ℕ) → DuggSearch site limit table q table″ → (q ≡ r) × (table″ ≡ table′))
+duggSearch-one site limit table = (
+  told (searchGiven (searchAnswer site limit table)),
+  searchTable site limit table,
   record { answer = refl; table-after = refl },
   λ q table″ says. (says .answer, says .table-after),
 )

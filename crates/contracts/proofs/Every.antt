@@ -2,9 +2,9 @@
 use Rattle.contracts.proofs.AdmissionOne.{admit-one, decide-one, shareIn-one}
 use Rattle.contracts.proofs.CapiOne.{duggAdmit-one, duggCarry-one, duggChain-one, duggCheck-one, duggCheckWords-one, duggClash-one, duggClass-one}
 use Rattle.contracts.proofs.CapiOne.{duggClearReach-one, duggFault-one, duggHeaviest-one, duggLeast-one, duggLoadTest-one, duggMend-one, duggPlan-one}
-use Rattle.contracts.proofs.CapiOne.{duggPlanWords-one, duggReadPlan-one, duggReadSheet-one, duggReadSite-one, duggRenumber-one, duggSetLoad-one}
-use Rattle.contracts.proofs.CapiOne.{duggSetReach-one, duggShare-one, duggShareRepeated-one, duggToBytes-one, duggToWords-one, duggWritePlan-one}
-use Rattle.contracts.proofs.CapiOne.{duggWriteSheet-one, duggWriteSite-one}
+use Rattle.contracts.proofs.CapiOne.{duggPlanWords-one, duggReadPlan-one, duggReadSheet-one, duggReadSite-one, duggRenumber-one, duggSearch-one}
+use Rattle.contracts.proofs.CapiOne.{duggSetLoad-one, duggSetReach-one, duggShare-one, duggShareRepeated-one, duggToBytes-one, duggToWords-one}
+use Rattle.contracts.proofs.CapiOne.{duggWritePlan-one, duggWriteSheet-one, duggWriteSite-one}
 use Rattle.contracts.proofs.CheckerOne.{check-one}
 use Rattle.contracts.proofs.FlowsheetOne.{readFlows-one}
 use Rattle.contracts.proofs.HeaviestOne.{heaviest-one}
@@ -13,6 +13,7 @@ use Rattle.contracts.proofs.MenderOne.{mend-one, mendOnly-one}
 use Rattle.contracts.proofs.NumberingOne.{carry-one, renumber-one}
 use Rattle.contracts.proofs.PlanfileOne.{readPlan-one, writePlan-one}
 use Rattle.contracts.proofs.PlannerOne.{plan-one}
+use Rattle.contracts.proofs.SearchOne.{search-one}
 use Rattle.contracts.proofs.SharesOne.{defaultRepeats-one, share-one, shareOf-one}
 use Rattle.contracts.proofs.SheetOne.{readSheet-one, writeSheet-one}
 use Rattle.contracts.proofs.SiteOne.{ruleOk-one, siteClash-one, siteClashRows-one, siteClearReach-one, siteFaultIn-one, siteSetLoad-one}
@@ -39,6 +40,7 @@ every-call = record {
   least = least-one;
   plan = plan-one;
   check = check-one;
+  search = search-one;
   heaviest = heaviest-one;
   shareOf = shareOf-one;
   defaultRepeats = defaultRepeats-one;
@@ -72,6 +74,7 @@ every-call = record {
   duggLeast = duggLeast-one;
   duggHeaviest = duggHeaviest-one;
   duggPlan = duggPlan-one;
+  duggSearch = duggSearch-one;
   duggCheck = duggCheck-one;
   duggPlanWords = duggPlanWords-one;
   duggCheckWords = duggCheckWords-one;

@@ -18,6 +18,7 @@ pub mod PlannerOne
 pub mod StretchesOne
 pub mod RowcountsOne
 pub mod CheckerOne
+pub mod SearchOne
 pub mod HeaviestOne
 pub mod SharesOne
 pub mod StandingOne
@@ -50,6 +51,7 @@ pub mod ListingOne
 pub mod SayVerdictsOne
 pub mod SayFlowsheetOne
 pub mod SayNumberingOne
+pub mod SaySearchOne
 pub mod SayRuleOne
 pub mod SayFlowsOne
 pub mod SayWhyOne

@@ -8,7 +8,7 @@ use Rattle.checker.specs.Given.{checkGiven}
 use Rattle.checker.specs.declared.CheckAnswer.{CheckAnswer}
 use Rattle.contracts.specs.ToldSays.{ToldAdmitAnswer, ToldCarryAnswer, ToldChainAnswer, ToldCheckAnswer, ToldClashAnswer, ToldClassAnswer}
 use Rattle.contracts.specs.ToldSays.{ToldFaultAnswer, ToldFormAnswer, ToldGive, ToldHeaviestAnswer, ToldLeastAnswer, ToldLoadAnswer, ToldMendAnswer}
-use Rattle.contracts.specs.ToldSays.{ToldPlanAnswer, ToldRenumberAnswer, ToldRenumberedSite, ToldShareAnswer}
+use Rattle.contracts.specs.ToldSays.{ToldPlanAnswer, ToldRenumberAnswer, ToldRenumberedSite, ToldSearchAnswer, ToldShareAnswer}
 use Rattle.heaviest.specs.Given.{heaviestGiven}
 use Rattle.heaviest.specs.declared.HeaviestAnswer.{HeaviestAnswer}
 use Rattle.judges.specs.Given.{chainGiven, classGiven, leastGiven, loadGiven}
@@ -24,6 +24,8 @@ use Rattle.numbering.specs.declared.RenumberAnswer.{RenumberAnswer}
 use Rattle.numbering.specs.declared.Renumbered.{Renumbered}
 use Rattle.planner.specs.Given.{planGiven}
 use Rattle.planner.specs.declared.PlanAnswer.{PlanAnswer}
+use Rattle.search.specs.Given.{searchGiven}
+use Rattle.search.specs.declared.SearchAnswer.{SearchAnswer}
 use Rattle.shares.specs.Given.{shareGiven}
 use Rattle.shares.specs.declared.ShareAnswer.{ShareAnswer}
 use Rattle.site.specs.Given.{clashGiven, faultGiven}
@@ -121,6 +123,16 @@ pub toldPlanAnswer-one : (said : PlanAnswer)
     × ((q : Answer) → ToldPlanAnswer said q → (q ≡ r))
 toldPlanAnswer-one said = (
   told (planGiven said),
+  record { answer = refl },
+  λ q says. says .answer,
+)
+
+-- told::search_answer
+pub toldSearchAnswer-one : (said : SearchAnswer)
+    → (r : Answer) × (ToldSearchAnswer said r)
+    × ((q : Answer) → ToldSearchAnswer said q → (q ≡ r))
+toldSearchAnswer-one said = (
+  told (searchGiven said),
   record { answer = refl },
   λ q says. says .answer,
 )

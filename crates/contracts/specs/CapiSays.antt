@@ -23,6 +23,8 @@ use Rattle.planfile.specs.Write.{planOut, planWritten}
 use Rattle.planner.specs.Given.{planGiven}
 use Rattle.planner.specs.Plan.{planAnswer, planTable}
 use Rattle.records.specs.Given.{writtenGiven}
+use Rattle.search.specs.Given.{searchGiven}
+use Rattle.search.specs.Search.{searchAnswer, searchTable}
 use Rattle.shares.specs.Given.{shareGiven}
 use Rattle.shares.specs.Share.{defaultRepeats, shareOf}
 use Rattle.sheet.specs.Read.{readSheet}
@@ -90,6 +92,11 @@ pub record DuggHeaviest (site : Site) (r : Answer) : Type 0 where
 pub record DuggPlan (site : Site) (table : List ℕ) (r : Answer) (table′ : List ℕ) : Type 0 where
   pub answer : r ≡ told (planGiven (planAnswer site table))
   pub table-after : table′ ≡ planTable site table
+
+-- capi::dugg_search
+pub record DuggSearch (site : Site) (limit : ℕ) (table : List ℕ) (r : Answer) (table′ : List ℕ) : Type 0 where
+  pub answer : r ≡ told (searchGiven (searchAnswer site limit table))
+  pub table-after : table′ ≡ searchTable site limit table
 
 -- capi::dugg_check
 pub record DuggCheck (site : Site) (table : List ℕ) (r : Answer) : Type 0 where

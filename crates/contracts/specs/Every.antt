@@ -9,8 +9,8 @@ use Rattle.checker.specs.declared.CheckAnswer.{CheckAnswer}
 use Rattle.contracts.specs.AdmissionSays.{Admit, Decide, ShareIn}
 use Rattle.contracts.specs.CapiSays.{DuggAdmit, DuggCarry, DuggChain, DuggCheck, DuggCheckWords, DuggClash, DuggClass, DuggClearReach, DuggFault}
 use Rattle.contracts.specs.CapiSays.{DuggHeaviest, DuggLeast, DuggLoadTest, DuggMend, DuggPlan, DuggPlanWords, DuggReadPlan, DuggReadSheet, DuggReadSite}
-use Rattle.contracts.specs.CapiSays.{DuggRenumber, DuggSetLoad, DuggSetReach, DuggShare, DuggShareRepeated, DuggToBytes, DuggToWords, DuggWritePlan}
-use Rattle.contracts.specs.CapiSays.{DuggWriteSheet, DuggWriteSite}
+use Rattle.contracts.specs.CapiSays.{DuggRenumber, DuggSearch, DuggSetLoad, DuggSetReach, DuggShare, DuggShareRepeated, DuggToBytes, DuggToWords}
+use Rattle.contracts.specs.CapiSays.{DuggWritePlan, DuggWriteSheet, DuggWriteSite}
 use Rattle.contracts.specs.CheckerSays.{Check}
 use Rattle.contracts.specs.FlowsheetSays.{ReadFlows}
 use Rattle.contracts.specs.HeaviestSays.{Heaviest}
@@ -19,6 +19,7 @@ use Rattle.contracts.specs.MenderSays.{Mend, MendOnly}
 use Rattle.contracts.specs.NumberingSays.{Carry, Renumber}
 use Rattle.contracts.specs.PlanfileSays.{ReadPlan, WritePlan}
 use Rattle.contracts.specs.PlannerSays.{Plan}
+use Rattle.contracts.specs.SearchSays.{Search}
 use Rattle.contracts.specs.SharesSays.{DefaultRepeats, Share, ShareOf}
 use Rattle.contracts.specs.SheetSays.{ReadSheet, WriteSheet}
 use Rattle.contracts.specs.SiteSays.{RuleOk, SiteClash, SiteClashRows, SiteClearReach, SiteFaultIn, SiteSetLoad, SiteSetReach, SiteZeros, SizeOk, Within}
@@ -39,6 +40,7 @@ use Rattle.planfile.specs.declared.PlanRead.{PlanRead}
 use Rattle.planfile.specs.declared.PlanWritten.{PlanWritten}
 use Rattle.planner.specs.declared.PlanAnswer.{PlanAnswer}
 use Rattle.records.specs.declared.Written.{Written}
+use Rattle.search.specs.declared.SearchAnswer.{SearchAnswer}
 use Rattle.shares.specs.declared.Fragments.{Fragments}
 use Rattle.shares.specs.declared.Repeats.{Repeats}
 use Rattle.shares.specs.declared.ShareAnswer.{ShareAnswer}
@@ -120,6 +122,10 @@ pub record EveryCall : Type 0 where
   pub check : (site : Site) (table : List ℕ)
       → (r : CheckAnswer) × (Check site table r)
       × ((q : CheckAnswer) → Check site table q → (q ≡ r))
+  -- search::search
+  pub search : (site : Site) (limit : ℕ) (table : List ℕ)
+      → (r : SearchAnswer) × (table′ : List ℕ) × (Search site limit table r table′)
+      × ((q : SearchAnswer) (table″ : List ℕ) → Search site limit table q table″ → (q ≡ r) × (table″ ≡ table′))
   -- heaviest::heaviest
   pub heaviest : (site : Site)
       → (r : HeaviestAnswer) × (Heaviest site r)
@@ -252,6 +258,10 @@ pub record EveryCall : Type 0 where
   pub duggPlan : (site : Site) (table : List ℕ)
       → (r : Answer) × (table′ : List ℕ) × (DuggPlan site table r table′)
       × ((q : Answer) (table″ : List ℕ) → DuggPlan site table q table″ → (q ≡ r) × (table″ ≡ table′))
+  -- capi::dugg_search
+  pub duggSearch : (site : Site) (limit : ℕ) (table : List ℕ)
+      → (r : Answer) × (table′ : List ℕ) × (DuggSearch site limit table r table′)
+      × ((q : Answer) (table″ : List ℕ) → DuggSearch site limit table q table″ → (q ≡ r) × (table″ ≡ table′))
   -- capi::dugg_check
   pub duggCheck : (site : Site) (table : List ℕ)
       → (r : Answer) × (DuggCheck site table r)

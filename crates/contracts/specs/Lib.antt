@@ -18,6 +18,7 @@ pub mod PlannerSays
 pub mod StretchesSays
 pub mod RowcountsSays
 pub mod CheckerSays
+pub mod SearchSays
 pub mod HeaviestSays
 pub mod SharesSays
 pub mod StandingSays
@@ -50,6 +51,7 @@ pub mod ListingSays
 pub mod SayVerdictsSays
 pub mod SayFlowsheetSays
 pub mod SayNumberingSays
+pub mod SaySearchSays
 pub mod SayRuleSays
 pub mod SayFlowsSays
 pub mod SayWhySays

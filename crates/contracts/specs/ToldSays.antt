@@ -21,6 +21,8 @@ use Rattle.numbering.specs.declared.RenumberAnswer.{RenumberAnswer}
 use Rattle.numbering.specs.declared.Renumbered.{Renumbered}
 use Rattle.planner.specs.Given.{planGiven}
 use Rattle.planner.specs.declared.PlanAnswer.{PlanAnswer}
+use Rattle.search.specs.Given.{searchGiven}
+use Rattle.search.specs.declared.SearchAnswer.{SearchAnswer}
 use Rattle.shares.specs.Given.{shareGiven}
 use Rattle.shares.specs.declared.ShareAnswer.{ShareAnswer}
 use Rattle.site.specs.Given.{clashGiven, faultGiven}
@@ -67,6 +69,10 @@ pub record ToldHeaviestAnswer (said : HeaviestAnswer) (r : Answer) : Type 0 wher
 -- told::plan_answer
 pub record ToldPlanAnswer (said : PlanAnswer) (r : Answer) : Type 0 where
   pub answer : r ≡ told (planGiven said)
+
+-- told::search_answer
+pub record ToldSearchAnswer (said : SearchAnswer) (r : Answer) : Type 0 where
+  pub answer : r ≡ told (searchGiven said)
 
 -- told::check_answer
 pub record ToldCheckAnswer (said : CheckAnswer) (r : Answer) : Type 0 where

@@ -22,6 +22,7 @@ use records::ReadAnswer;
 use records::Written;
 use reply::no;
 use reply::yes;
+use search::SearchAnswer;
 use shares::Fragments;
 use shares::Repeats;
 use shares::ShareAnswer;
@@ -44,6 +45,9 @@ const FIRST_NAME: usize = 2;
 const SECOND_NAME: usize = 3;
 
 const NUMBERS: usize = 4;
+
+// After the tries of a search, whether to show how far it is.
+const SHOWN: usize = 5;
 
 // After the slots, the channels and the rule, the list of blocked positions.
 const LIST: usize = 7;
@@ -356,6 +360,41 @@ fn carry(
     reply::fine();
 }
 
+// A search, which is shown while it runs, or not.
+fn sought(site: Site, tries: u64, shown: bool, table: &mut [u8], text: &mut [u8]) -> SearchAnswer
+    requires { ⌜ 65536 ≤ length (now text) ⌝ }
+{
+    if shown {
+        return searching::search_shown(site, tries, table, text);
+    }
+    search::search(site, tries, table)
+}
+
+// Searches for a plan of a site: the plan file, and a line that says how the search ended.
+fn search(input: &[u8], tries: u64, shown: bool, table: &mut [u8], out: &mut [u8], text: &mut [u8])
+    requires { ⌜ 65536 ≤ length (now text) ⌝ }
+{
+    let read = sitefile::read_site(input);
+    let answer = read.answer;
+    let site = read.site;
+    let ReadAnswer::Done = answer else {
+        refuse(text, input, answer);
+        return;
+    };
+    let found = sought(site, tries, shown, table, text);
+    let end = say_search::put_search(text, 0, found);
+    let SearchAnswer::Plan(_) = found else {
+        no(text, end);
+        return;
+    };
+    if !put_plan(site, table, out) {
+        reply::unwritten();
+        return;
+    }
+    reply::message(text, end);
+    reply::fine();
+}
+
 // The rule of a site, and each clash that a third cell makes, by first cell; whether all of it was written.
 fn put_air(site: Site, text: &mut [u8]) -> bool
     requires { ⌜ 65536 ≤ length (now text) ⌝ }
@@ -373,7 +412,8 @@ fn put_air(site: Site, text: &mut [u8]) -> bool
     true
 }
 
-// The verdicts on a site, in English, what a numbering of a site that is not nested says, and its rule.
+// The verdicts on a site, in English, what a numbering of a site that is not nested says and a search where nothing else decides, and
+// its rule.
 fn why(input: &[u8], table: &mut [u8], text: &mut [u8])
     requires { ⌜ 65536 ≤ length (now table) ⌝ }
     requires { ⌜ 65536 ≤ length (now text) ⌝ }
@@ -387,6 +427,7 @@ fn why(input: &[u8], table: &mut [u8], text: &mut [u8])
     };
     let end = say_why::put_why(site, table, text);
     let end = say_numbering::put_anew(site, table, text, end);
+    let end = say_search::put_searched(text, end, site, table);
     if !reply::result(text, end) {
         reply::unwritten();
         return;
@@ -618,9 +659,52 @@ fn number(i: usize) -> u16 {
     value as u16
 }
 
+// One digit more of a number. Past the largest number it stays the largest.
+fn tenfold(value: u64, digit: u64) -> u64
+    requires { ⌜ digit ≤ 9 ⌝ }
+{
+    if 1844674407370955160 < value {
+        return 18446744073709551615;
+    }
+    let ten = value * 10;
+    if 18446744073709551615 - ten < digit {
+        return 18446744073709551615;
+    }
+    ten + digit
+}
+
+// A digit as a number; 10 where a byte is none.
+fn digit(byte: u8) -> u64
+    ensures { λ r. ⌜ r ≤ 10 ⌝ }
+{
+    if byte < 48 {
+        return 10;
+    }
+    if 57 < byte {
+        return 10;
+    }
+    byte as u64 - 48
+}
+
+// The tries of a search, argument 4. The script gives digits alone, and after them the word has zeros, which are none.
+fn tries() -> u64 {
+    let mut word = [0u8; WORD];
+    os::arg(NUMBERS, &mut word);
+    let mut value: u64 = 0;
+    for i in 0..WORD {
+        let next = digit(word[i]);
+        if 9 < next {
+            return value;
+        }
+        value = tenfold(value, next);
+    }
+    value
+}
+
 // What the script asks for.
 enum Command {
     Plan,
+    Search,
     Check,
     Mend,
     Why,
@@ -637,6 +721,9 @@ enum Command {
 fn asked() -> Command {
     if is(b"plan") {
         return Command::Plan;
+    }
+    if is(b"search") {
+        return Command::Search;
     }
     if is(b"check") {
         return Command::Check;
@@ -680,6 +767,14 @@ fn main() {
     let mut text = io::large_buffer();
     match asked() {
         Command::Plan => plan(&input[..n], &mut table, &mut out, &mut text),
+        Command::Search => search(
+            &input[..n],
+            tries(),
+            number(SHOWN) == 1,
+            &mut table,
+            &mut out,
+            &mut text,
+        ),
         Command::Check => check(&input[..n], &second[..m], &mut table, &mut text),
         Command::Mend => mend(
             &input[..n],

@@ -36,6 +36,11 @@ use Rattle.numbering.specs.declared.RenumberAnswer.the-variants as renumber
 use Rattle.numbering.specs.declared.CarryAnswer.{CarryAnswer}
 use Rattle.numbering.specs.declared.CarryAnswer.the-variants as carry
 use Rattle.numbering.proofs.Given.{renumber-proper, carry-proper}
+use Rattle.search.specs.Search.{searchAnswer}
+use Rattle.search.specs.Given.{searchGiven, searchProper}
+use Rattle.search.specs.declared.SearchAnswer.{SearchAnswer}
+use Rattle.search.specs.declared.SearchAnswer.the-variants as search
+use Rattle.search.proofs.Given.{search-proper}
 use Rattle.told.specs.Told.{numbered, told}
 use Rattle.told.specs.declared.Answer.{Answer}
 use Rattle.promises.specs.Numbers.{done, doneWith, refused}
@@ -181,3 +186,25 @@ module _ (s : Site) where
   pub carry-in-c : (from to : List ℕ) → told (carryGiven (carryAnswer s from to)) .number ≡ 0 ↔ carryGiven (carryAnswer s from to) ≡ done
   unfolding told
   carry-in-c from to = (carry-zero (carryAnswer s from to) (carry-proper s from to), ap (λ g. g .number))
+
+-- ---- W13: 0 carries the verdict and the tries
+
+search-told : (a : SearchAnswer) (v n : ℕ) → searchProper a ≡ true → told (searchGiven a) ≡ numbered 0 v n 0 → searchGiven a ≡ doneWith (v ∷ n ∷ [])
+unfolding told numberIn valueIn flagIn
+search-told (search.Plan m) v n p e = let z : 0 ≡ v = ap valueIn e in let y : m ≡ n = ap flagIn e in cc
+search-told (search.Full m) v n p e = let z : 1 ≡ v = ap valueIn e in let y : m ≡ n = ap flagIn e in cc
+search-told (search.Limit m) v n p e = let z : 2 ≡ v = ap valueIn e in let y : m ≡ n = ap flagIn e in cc
+search-told search.TooMany v n p e = let z : _≡_ {A = ℕ} 25 0 = ap numberIn e in absurd (omega arith)
+search-told search.TableShort v n p e = let z : _≡_ {A = ℕ} 4 0 = ap numberIn e in absurd (omega arith)
+search-told (search.Refused Fine) v n p e = absurd (false≢true p)
+search-told (search.Refused Size) v n p e = let z : _≡_ {A = ℕ} 1 0 = ap numberIn e in absurd (omega arith)
+search-told (search.Refused Rule) v n p e = let z : _≡_ {A = ℕ} 24 0 = ap numberIn e in absurd (omega arith)
+search-told (search.Refused (Load i)) v n p e = let z : _≡_ {A = ℕ} 2 0 = ap numberIn e in absurd (omega arith)
+search-told (search.Refused (Reach i)) v n p e = let z : _≡_ {A = ℕ} 3 0 = ap numberIn e in absurd (omega arith)
+search-told (search.Refused (Blocked i)) v n p e = let z : _≡_ {A = ℕ} 20 0 = ap numberIn e in absurd (omega arith)
+
+-- `dugg_search` gives 0, the verdict and the tries exactly where the search answers with them
+pub search-in-c : (s : Site) (limit : ℕ) (t : List ℕ) (v n : ℕ)
+    → told (searchGiven (searchAnswer s limit t)) ≡ numbered 0 v n 0 ↔ searchGiven (searchAnswer s limit t) ≡ doneWith (v ∷ n ∷ [])
+unfolding told
+search-in-c s limit t v n = (search-told (searchAnswer s limit t) v n (search-proper s limit t), ap told)

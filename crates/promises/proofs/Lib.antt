@@ -24,3 +24,4 @@ pub mod InC
 pub mod Untouched
 pub mod Top
 pub mod Numbered
+pub mod Searched

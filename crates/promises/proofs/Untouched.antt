@@ -16,6 +16,11 @@ use Rattle.renumbering.specs.Numbering.{Numbering, numbered, stuck}
 use Rattle.numbering.specs.Renumber.{numberingOf}
 use Rattle.numbering.specs.Carried.{eitherShort, carryAnswer, carryTable}
 use Rattle.numbering.specs.Given.{carryGiven}
+use Rattle.search.specs.Search.{searchAnswer, searchTable}
+use Rattle.search.specs.Given.{searchGiven}
+use Rattle.search.specs.declared.SearchAnswer.{SearchAnswer}
+use Rattle.search.specs.declared.SearchAnswer.the-variants as search
+use Rattle.search.proofs.Right.{withTries, not-written}
 use Rattle.numbering.proofs.Ways.{carry-refused, carry-none, carry-short}
 use Rattle.told.specs.Told.{told}
 use Rattle.toldfiles.specs.Files.{toldPlanRead}
@@ -60,6 +65,18 @@ module _ (s : Site) (from to : List ℕ) where
   pub carry-untouched : Refused (carryGiven (carryAnswer s from to) .number) → carryTable s from to ≡ to
   carry-untouched = kept-at (faultOf s) (numberingOf s) (eitherShort s from to) refl refl refl
 
+-- an answer with tries has the number 0
+no-tries : (a : SearchAnswer) → Refused (searchGiven a .number) → withTries a ≡ false
+no-tries (search.Plan n) z = absurd (z refl)
+no-tries (search.Full n) z = absurd (z refl)
+no-tries (search.Limit n) z = absurd (z refl)
+no-tries search.TooMany z = refl
+no-tries search.TableShort z = refl
+no-tries (search.Refused f) z = refl
+
+pub search-untouched : (s : Site) (limit : ℕ) (t : List ℕ) → Refused (searchGiven (searchAnswer s limit t) .number) → searchTable s limit t ≡ t
+search-untouched s limit t z = not-written s t limit (no-tries (searchAnswer s limit t) z)
+
 pub idle-if-no-room : IdleIfNoRoom
 unfolding told
 idle-if-no-room = record {
@@ -79,6 +96,7 @@ untouched = record {
       let u = refused-untouched site table changes (rw (says .answer) at z) in (says .table-after ∙ u .0, says .changes-after ∙ u .1);
   mend-only = λ site table table′ r says z. says .table-after ∙ refused-untouched site table _ (rw (says .answer) at z) .0;
   carry = λ site from to to′ r says z. says .to-after ∙ carry-untouched site from to (rw (says .answer) at z);
+  search = λ site limit table table′ r says z. says .table-after ∙ search-untouched site limit table (rw (says .answer) at z);
   write-site = λ site out out′ r says z. says .out-after ∙ site-write-leaves site out .if-refused (rw (says .answer) at z);
   read-plan = λ bytes table table′ r says z. says .table-after ∙ plan-read-leaves bytes table .if-refused (rw (says .answer) at z);
   write-plan = λ site table out out′ r says z. says .out-after ∙ plan-write-leaves site table out .if-refused (rw (says .answer) at z);
@@ -97,6 +115,7 @@ untouched-in-c = record {
   mend = λ site table changes table′ changes′ r says z.
       let u = refused-untouched site table changes (rw (says .answer) at z) in (says .table-after ∙ u .0, says .changes-after ∙ u .1);
   carry = λ site from to to′ r says z. says .to-after ∙ carry-untouched site from to (rw (says .answer) at z);
+  search = λ site limit table table′ r says z. says .table-after ∙ search-untouched site limit table (rw (says .answer) at z);
   write-site = λ site out out′ r says z. says .out-after ∙ site-write-leaves site out .if-refused (rw (says .answer) at z);
   read-plan = λ bytes table table′ r says z. says .table-after ∙ plan-read-leaves bytes table .if-refused (rw (says .answer) at z);
   write-plan = λ site table out out′ r says z. says .out-after ∙ plan-write-leaves site table out .if-refused (rw (says .answer) at z);

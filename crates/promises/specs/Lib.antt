@@ -8,3 +8,4 @@ pub mod Top
 pub mod Spare
 pub mod Rules
 pub mod Numbered
+pub mod Searched

@@ -1,6 +1,6 @@
 -- "Numbers given back", as the promises speak of them: document 01's number, and the values that come with it in its order.
 -- A call's answer is put into these by the definition of its crate: `faultGiven`, `loadGiven`, `chainGiven`, `leastGiven`, `heaviestGiven`, `planGiven`,
--- `checkGiven`, `formGiven`, `mendGiven`, `readGiven`, `writtenGiven`, `planWrittenGiven`, `sheetGiven`, `flowsGiven`, `admitGiven`.
+-- `checkGiven`, `formGiven`, `mendGiven`, `readGiven`, `writtenGiven`, `planWrittenGiven`, `sheetGiven`, `flowsGiven`, `admitGiven`, `searchGiven`.
 use mathlib.Core.List.{List, [], _∷_}
 use Prim.Native.Nat.{ℕ, _+_}
 use Rattle.theory.specs.Greedy.{Outcome, planned, noRoom}

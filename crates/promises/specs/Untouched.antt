@@ -14,6 +14,8 @@ use Rattle.mender.specs.Given.{mendGiven}
 use Rattle.mender.specs.declared.MendAnswer.{MendAnswer}
 use Rattle.numbering.specs.Given.{carryGiven}
 use Rattle.numbering.specs.declared.CarryAnswer.{CarryAnswer}
+use Rattle.search.specs.Given.{searchGiven}
+use Rattle.search.specs.declared.SearchAnswer.{SearchAnswer}
 use Rattle.records.specs.Given.{readGiven, writtenGiven}
 use Rattle.records.specs.declared.Written.{Written}
 use Rattle.planfile.specs.Given.{planWrittenGiven}
@@ -25,6 +27,7 @@ use Rattle.contracts.specs.PlannerSays.{Plan}
 use Rattle.contracts.specs.WordtableSays.{PlanWords, ToWords, ToBytes}
 use Rattle.contracts.specs.MenderSays.{Mend, MendOnly}
 use Rattle.contracts.specs.NumberingSays.{Carry}
+use Rattle.contracts.specs.SearchSays.{Search}
 use Rattle.contracts.specs.SitefileSays.{WriteSite}
 use Rattle.contracts.specs.PlanfileSays.{ReadPlan, WritePlan}
 use Rattle.contracts.specs.SheetSays.{WriteSheet}
@@ -35,6 +38,7 @@ use Rattle.contracts.specs.CapiSays.{
   DuggToBytes,
   DuggMend,
   DuggCarry,
+  DuggSearch,
   DuggWriteSite,
   DuggReadPlan,
   DuggWritePlan,
@@ -73,6 +77,8 @@ pub record Untouched : Type 0 where
       → Refused (mendGiven r .number) → (table′ ≡ table) × (changes′ ≡ changes)
   pub mend-only : (site : Site) (table table′ : List ℕ) (r : MendAnswer) → MendOnly site table r table′ → Refused (mendGiven r .number) → table′ ≡ table
   pub carry : (site : Site) (from to to′ : List ℕ) (r : CarryAnswer) → Carry site from to r to′ → Refused (carryGiven r .number) → to′ ≡ to
+  pub search : (site : Site) (limit : ℕ) (table table′ : List ℕ) (r : SearchAnswer) → Search site limit table r table′
+      → Refused (searchGiven r .number) → table′ ≡ table
   pub write-site : (site : Site) (out out′ : List ℕ) (r : Written) → WriteSite site out r out′ → Refused (writtenGiven r .number) → out′ ≡ out
   pub read-plan : (bytes table table′ : List ℕ) (r : PlanRead) → ReadPlan bytes table r table′ → Refused (readGiven (r .answer) .number) → table′ ≡ table
   pub write-plan : (site : Site) (table out out′ : List ℕ) (r : PlanWritten) → WritePlan site table out r out′
@@ -87,6 +93,7 @@ pub record UntouchedInC : Type 0 where
   pub mend : (site : Site) (table changes table′ changes′ : List ℕ) (r : Answer) → DuggMend site table changes r table′ changes′
       → Refused (r .number) → (table′ ≡ table) × (changes′ ≡ changes)
   pub carry : (site : Site) (from to to′ : List ℕ) (r : Answer) → DuggCarry site from to r to′ → Refused (r .number) → to′ ≡ to
+  pub search : (site : Site) (limit : ℕ) (table table′ : List ℕ) (r : Answer) → DuggSearch site limit table r table′ → Refused (r .number) → table′ ≡ table
   pub write-site : (site : Site) (out out′ : List ℕ) (r : Answer) → DuggWriteSite site out r out′ → Refused (r .number) → out′ ≡ out
   pub read-plan : (bytes table table′ : List ℕ) (r : PlanReadC) → DuggReadPlan bytes table r table′ → Refused (r .answer .number) → table′ ≡ table
   pub write-plan : (site : Site) (table out out′ : List ℕ) (r : Answer) → DuggWritePlan site table out r out′ → Refused (r .number) → out′ ≡ out

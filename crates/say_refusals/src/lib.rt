@@ -10,7 +10,7 @@ ghost use Rattle.say_refusals.specs.Said.{meaningPhrase, meaning, headPh
 ghost use Rattle.say_refusals.specs.Sentences.{sentenceIn, sentenceRoom};
 
 // The number of rows of meanings.
-const MEANINGS: usize = 25;
+const MEANINGS: usize = 26;
 
 const ALONE: usize = 0;
 
@@ -86,7 +86,8 @@ fn put_meaning(out: &mut [u8], at: usize, number: usize) -> usize
           the record of blocked positions blocks none\n|\
           the call was refused\n|\
           no numbering makes the site nested when all its cells count, the spare ones too\n|\
-          the rule is not 1 or 2, or not 2 where a site file says it\n|",
+          the rule is not 1 or 2, or not 2 where a site file says it\n|\
+          too large to search: the site has more than 64 open positions or more than 24 fragments in all\n|",
         meaning_phrase(number),
     )
 }

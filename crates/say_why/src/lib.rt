@@ -75,7 +75,7 @@ fn put_line(out: &mut [u8], at: usize, what: Phrase) -> usize
           the load test fails: cell @1 is over by @2 fragment@b; on a site that is not nested that alone decides nothing\n|\
           planned\n|\
           not planned: cell @1 is @2 fragment@b short. The site is full: no plan exists\n|\
-          not planned: cell @1 is @2 fragment@b short. This order found no room, and there may be another\n|\
+          not planned: cell @1 is @2 fragment@b short. This order found no room, which alone decides nothing\n|\
           it takes @1 channel-slot@a, and no fewer; the site has @2\n|\
           it takes @1 channel-slot@a, and no fewer; the site has @2 open\n|\
           it takes at least @1 channel-slot@a, and @2 will do; the site has @3\n|\

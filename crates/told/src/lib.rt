@@ -11,6 +11,7 @@ use numbering::CarryAnswer;
 use numbering::RenumberAnswer;
 use numbering::Renumbered;
 use planner::PlanAnswer;
+use search::SearchAnswer;
 use shares::ShareAnswer;
 use site::ClashAnswer;
 use site::Fault;
@@ -21,6 +22,7 @@ ghost use Rattle.site.specs.Given.{faultGiven, clashGiven};
 ghost use Rattle.judges.specs.Given.{loadGiven, chainGiven, classGiven, leastGiven};
 ghost use Rattle.heaviest.specs.Given.{heaviestGiven};
 ghost use Rattle.planner.specs.Given.{planGiven};
+ghost use Rattle.search.specs.Given.{searchGiven};
 ghost use Rattle.checker.specs.Given.{checkGiven};
 ghost use Rattle.wordtable.specs.Given.{formGiven};
 ghost use Rattle.mender.specs.Given.{mendGiven};
@@ -136,6 +138,19 @@ pub fn plan_answer(said: PlanAnswer) -> Answer
         PlanAnswer::TableShort => give(4, 0, 0, 0),
         PlanAnswer::NoRoom(cell, short) => give(5, cell, short, 0),
         PlanAnswer::Refused(f) => fault_answer(f),
+    }
+}
+
+pub fn search_answer(said: SearchAnswer) -> Answer
+    ensures { λ r. ⌜ r ≡ told (searchGiven said) ⌝ }
+{
+    match said {
+        SearchAnswer::Plan(tries) => give(0, 0, tries as usize, 0),
+        SearchAnswer::Full(tries) => give(0, 1, tries as usize, 0),
+        SearchAnswer::Limit(tries) => give(0, 2, tries as usize, 0),
+        SearchAnswer::TooMany => give(25, 0, 0, 0),
+        SearchAnswer::TableShort => give(4, 0, 0, 0),
+        SearchAnswer::Refused(f) => fault_answer(f),
     }
 }
 

@@ -171,7 +171,7 @@ told =
           "not chained: cells 1 and 3 clash, and cell 2 between them does not clash with cell 1\n" ∷
           "not nested: cells 2 and 3 clash with cell 4, and not with one another\n" ∷
           "the load test fails: cell 4 is over by 1 fragment; on a site that is not nested that alone decides nothing\n" ∷
-          "not planned: cell 4 is 1 fragment short. This order found no room, and there may be another\n" ∷
+          "not planned: cell 4 is 1 fragment short. This order found no room, which alone decides nothing\n" ∷
           "it takes at least 2 channel-slots, and 3 will do; the site has 2\n" ∷
           "of all cells that clash with one another these need the most, 2:\n" ∷
           "  cell 1, load 1\n" ∷
@@ -186,7 +186,7 @@ told =
           "not chained: cells 1 and 5 clash, and cell 3 between them does not clash with cell 1\n" ∷
           "not nested: cells 1 and 4 clash with cell 5, and not with one another\n" ∷
           "the load test fails: cell 5 is over by 1 fragment; on a site that is not nested that alone decides nothing\n" ∷
-          "not planned: cell 5 is 1 fragment short. This order found no room, and there may be another\n" ∷
+          "not planned: cell 5 is 1 fragment short. This order found no room, which alone decides nothing\n" ∷
           "it takes at least 2 channel-slots, and 3 will do; the site has 2\n" ∷
           "of all cells that clash with one another these need the most, 2:\n" ∷
           "  cell 1, load 1\n" ∷
@@ -358,7 +358,7 @@ unfolding firstOf sum any most part forbid marked fill run overloaded lowestOver
     cellPhrase cellPhrases fewest sizePhrase whyPhrases whySaid
 letter-by-letter = refl
 
--- ---- `there may be another`: of P4 there is a plan; of the ring there is none
+-- ---- `which alone decides nothing`: of P4 there is a plan; of the ring there is none
 
 -- cells 1 and 4 in the first position, cells 2 and 3 in the second
 abbrev pub otherPlan : Reserved

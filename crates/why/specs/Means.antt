@@ -145,7 +145,7 @@ meanings s =
     ∷ (λ a b c d. Planned s)
     -- `not planned: cell @1 is @2 fragments short. The site is full: no plan exists`
     ∷ (λ cell short c d. Short s cell short × NoPlan s)
-    -- `not planned: cell @1 is @2 fragments short. This order found no room, and there may be another`
+    -- `not planned: cell @1 is @2 fragments short. This order found no room, which alone decides nothing`
     ∷ (λ cell short c d. Short s cell short × (NestedHolds s → ⊥) × (weight (netOf s) (bitAt (set s)) ≤ openOf s))
     -- `it takes @1 channel-slots, and no fewer; the site has @2`
     ∷ (λ n has c d. AtLeast s n × WillDo s n × Has s has)

@@ -1,6 +1,6 @@
 -- What `duggfrask why` says of a site: a list of phrases, each a row of the lines with its values, made from the answers of the calls; and a line that
 -- lists what is blocked. A site that is not planned is full when L is above N, the count of open positions, nested or not. Only of what is left
--- `This order found no room, and there may be another` is said.
+-- `This order found no room, which alone decides nothing` is said.
 use Prim.Native.Nat.{ℕ, zero, suc, _+_, _/_, _%_}
 use mathlib.Core.Bool.{Bool}
 use mathlib.Core.List.{List, [], _∷_, _++_}

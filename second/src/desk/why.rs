@@ -1,16 +1,17 @@
 //! `duggfrask why`: what can be said of a site, line by line.
 
-use super::wording::counted;
+use super::wording::{counted, tries};
 use crate::blocklist::write_list;
 use crate::heaviest::{heaviest, Heaviest};
 use crate::judge::{chain, least, load_test, nested};
 use crate::numbering::renumber;
 use crate::planner::plan;
+use crate::search::{search, End};
 use crate::site::{Site, MOST_CHANNELS, MOST_SLOTS, RULE_2};
 
 /// Whether the site is chained, and if not whether it is nested; the load test, the plan or what a no means; how many channel-slots it takes and the
-/// heaviest clash; and so how many slots and channels, or where something is blocked what; of a site that is not nested what a numbering says of it; and
-/// the rule where it is 2. The site comes from a reader, and is sound.
+/// heaviest clash; and so how many slots and channels, or where something is blocked what; of a site that is not nested what a numbering says of it;
+/// what a search says where nothing else decides; and the rule where it is 2. The site comes from a reader, and is sound.
 pub fn why(site: &Site) -> String {
     let gap = chain(site).expect("a sound site");
     let clash = heaviest(site).expect("a sound site");
@@ -26,17 +27,31 @@ pub fn why(site: &Site) -> String {
     let planned = plan(site, &mut vec![0; site.table_len()]);
     let demand = least(site).expect("a sound site").channel_slots;
     let enough = if planned.is_ok() { demand.min(room) } else { demand };
-    let plan = match planned {
+    let plan = match &planned {
         Ok(()) => String::from("planned\n"),
         Err(no) => no_line(no.value[0], no.value[1], clash.load > room),
     };
+    let searched = if planned.is_err() && clash.load <= room { searched_line(site) } else { String::new() };
     chain
         + &load_line(site, split.is_none())
         + &plan
         + &takes_lines(site, &clash, enough)
         + &if site.has_blocked() { blocked_line(site) } else { size_lines(site, clash.load, enough) }
         + if split.is_some() { anew_line(site) } else { "" }
+        + &searched
         + &rule_lines(site)
+}
+
+/// The tries that are made at most, where neither a plan nor a set of clashing cells decides.
+const MOST_TRIES: u64 = 1_000_000;
+
+fn searched_line(site: &Site) -> String {
+    match search(site, MOST_TRIES, &mut vec![0; site.table_len()]) {
+        Ok((End::Plan, made)) => format!("searched: a plan exists, found after {} (duggfrask search)\n", tries(made)),
+        Ok((End::NoneExists, made)) => format!("searched: no plan exists, and {} show it\n", tries(made)),
+        Ok((End::LimitMet, made)) => format!("not known: the search stopped at {}\n", tries(made)),
+        Err(_) => String::from("not known: over 64 open positions or 24 fragments, which is too many to search\n"),
+    }
 }
 
 /// Whether a numbering of all cells makes the site nested, and if one does whether the renumbered site can be planned: then this one has a plan, and
@@ -95,7 +110,7 @@ fn load_line(site: &Site, nested: bool) -> String {
 
 fn no_line(cell: u64, short: u64, full: bool) -> String {
     let meaning =
-        if full { "The site is full: no plan exists" } else { "This order found no room, and there may be another" };
+        if full { "The site is full: no plan exists" } else { "This order found no room, which alone decides nothing" };
     format!("not planned: cell {cell} is {} short. {meaning}\n", counted(short, "fragment"))
 }
 
@@ -220,7 +235,7 @@ mod tests {
 not chained: cells 1 and 3 clash, and cell 2 between them does not clash with cell 1
 not nested: cells 2 and 3 clash with cell 4, and not with one another
 the load test fails: cell 4 is over by 1 fragment; on a site that is not nested that alone decides nothing
-not planned: cell 4 is 1 fragment short. This order found no room, and there may be another
+not planned: cell 4 is 1 fragment short. This order found no room, which alone decides nothing
 it takes at least 2 channel-slots, and 3 will do; the site has 2
 of all cells that clash with one another these need the most, 2:
   cell 1, load 1
@@ -228,8 +243,41 @@ of all cells that clash with one another these need the most, 2:
 with 1 channel: at least 2 slots, and 3 will do
 with 2 slots: at least 1 channel, and 2 will do
 renumbered it is nested and can be planned: this site has a plan (duggfrask renumber, plan, carry)
+searched: a plan exists, found after 10 tries (duggfrask search)
 ";
         assert_eq!(why(&site), expected);
+    }
+
+    /// Cells in a ring, each with this load.
+    fn ring(cells: usize, slots: usize, load: u16) -> Site {
+        let mut site = Site::sized(cells, slots, 1);
+        for cell in 1..=cells {
+            site = site.with_reach(cell, cell % cells + 1, true).unwrap();
+        }
+        site.loads[..cells].fill(load);
+        site
+    }
+
+    #[test]
+    fn full_by_a_search_or_not_known() {
+        let lines = why(&ring(5, 2, 1));
+        assert!(lines.ends_with("\nsearched: no plan exists, and 18 tries show it\n"), "{lines}");
+        // Of five cells in a ring at most two send at once: 20 fragments need 10 positions, and 25 need 13.
+        let lines = why(&ring(5, 8, 4));
+        assert!(lines.ends_with("\nsearched: no plan exists, and 8912 tries show it\n"), "{lines}");
+        // Seventeen cells that clash with nobody, each at one of two positions, and the ring: it is searched for each choice.
+        let mut site = Site::sized(22, 2, 1);
+        for cell in 18..=22 {
+            site = site.with_reach(cell, if cell == 22 { 18 } else { cell + 1 }, true).unwrap();
+        }
+        site.loads[..22].fill(1);
+        let lines = why(&site);
+        assert!(lines.ends_with("\nnot known: the search stopped at 1000000 tries\n"), "{lines}");
+        let lines = why(&ring(5, 10, 5));
+        assert!(lines.ends_with("\nnot known: over 64 open positions or 24 fragments, which is too many to search\n"), "{lines}");
+        // Full by two cells that clash: nothing is searched.
+        let lines = why(&ring(5, 1, 1));
+        assert!(!lines.contains("search"), "{lines}");
     }
 
     /// A star with its centre last that is full, and a ring of four, which no numbering makes nested.

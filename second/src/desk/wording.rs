@@ -11,6 +11,14 @@ pub fn counted(number: u64, thing: &str) -> String {
     format!("{number} {thing}{}", if number == 1 { "" } else { "s" })
 }
 
+/// `1 try`, but `0 tries` and `2 tries`.
+pub fn tries(number: u64) -> String {
+    if number == 1 {
+        return String::from("1 try");
+    }
+    format!("{number} tries")
+}
+
 /// `3 cells, 8 slots`, then what stands before the last, and `2 channels`.
 pub fn sizes(site: &Site, before_last: &str) -> String {
     let cells = counted(site.cells.into(), "cell");

@@ -18,6 +18,7 @@ extern "C" {
     fn dugg_least(site: Site) -> Answer;
     fn dugg_heaviest(site: Site) -> Answer;
     fn dugg_plan(site: Site, table: *mut u8, len: usize) -> Answer;
+    fn dugg_search(site: Site, limit: u64, table: *mut u8, len: usize) -> Answer;
     fn dugg_check(site: Site, table: *const u8, len: usize) -> Answer;
     fn dugg_share(slots: u16, burst: u16, period: u16) -> Answer;
     fn dugg_share_repeated(slots: u16, burst: u16, period: u16, repeats: u16) -> Answer;
@@ -49,6 +50,7 @@ pub struct Calls {
     pub least: unsafe extern "C" fn(Site) -> Answer,
     pub heaviest: unsafe extern "C" fn(Site) -> Answer,
     pub plan: unsafe extern "C" fn(Site, *mut u8, usize) -> Answer,
+    pub search: unsafe extern "C" fn(Site, u64, *mut u8, usize) -> Answer,
     pub check: unsafe extern "C" fn(Site, *const u8, usize) -> Answer,
     pub share: unsafe extern "C" fn(u16, u16, u16) -> Answer,
     pub share_repeated: unsafe extern "C" fn(u16, u16, u16, u16) -> Answer,
@@ -80,6 +82,7 @@ pub const LIBRARY: Calls = Calls {
     least: dugg_least,
     heaviest: dugg_heaviest,
     plan: dugg_plan,
+    search: dugg_search,
     check: dugg_check,
     share: dugg_share,
     share_repeated: dugg_share_repeated,
@@ -111,6 +114,7 @@ pub const SECOND: Calls = Calls {
     least: second_least,
     heaviest: second_heaviest,
     plan: second_plan,
+    search: second_search,
     check: second_check,
     share: second_share,
     share_repeated: second_share_repeated,

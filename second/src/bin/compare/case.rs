@@ -20,6 +20,7 @@ pub enum Call {
     Least,
     Heaviest,
     Plan,
+    Search,
     Check,
     Share,
     ShareRepeated,
@@ -46,6 +47,8 @@ pub struct Case {
     pub call: Call,
     pub site: Site,
     pub numbers: [u16; 4],
+    /// The limit of a search.
+    pub limit: u64,
     /// What is lent to be read: a file, a sheet, or a table to check or to write.
     pub input: Lent<u8>,
     /// What is lent to be written: a table to plan, to mend or to read into, or a file's output.
@@ -76,12 +79,17 @@ impl Case {
     pub fn of(call: Call, site: Site) -> Case {
         let (input, output) = (Lent::none(), Lent::none());
         let (flows, words, list) = (Lent::none(), Lent::none(), Lent::none());
-        Case { call, site, numbers: [0; 4], input, output, flows, words, list }
+        Case { call, site, numbers: [0; 4], limit: 0, input, output, flows, words, list }
     }
 
     /// The first few numbers of the call; the others stay 0.
     pub fn numbers<const K: usize>(mut self, numbers: [u16; K]) -> Case {
         self.numbers[..K].copy_from_slice(&numbers);
+        self
+    }
+
+    pub fn limit(mut self, limit: u64) -> Case {
+        self.limit = limit;
         self
     }
 
@@ -135,6 +143,7 @@ impl Case {
                 Call::Least => alone((calls.least)(site)),
                 Call::Heaviest => alone((calls.heaviest)(site)),
                 Call::Plan => alone((calls.plan)(site, out, olen)),
+                Call::Search => alone((calls.search)(site, self.limit, out, olen)),
                 Call::Check => alone((calls.check)(site, inp, ilen)),
                 Call::Share => alone((calls.share)(x, y, z)),
                 Call::ShareRepeated => alone((calls.share_repeated)(x, y, z, w)),
@@ -177,7 +186,7 @@ impl Case {
     /// How many bytes a call with this answer may write.
     fn bytes_written(&self, seen: &Seen) -> usize {
         match (self.call, seen.answer.number) {
-            (Call::Plan, 0 | 5) | (Call::ToBytes | Call::Mend | Call::Carry, 0) => self.site.table_len(),
+            (Call::Plan, 0 | 5) | (Call::ToBytes | Call::Mend | Call::Carry | Call::Search, 0) => self.site.table_len(),
             (Call::ReadPlan, 0) => seen.site.table_len(),
             (Call::WriteSite | Call::WritePlan | Call::WriteSheet, 0) => seen.answer.value[0] as usize,
             _ => 0,
@@ -208,7 +217,7 @@ impl Case {
         println!("  reach {:08x?}", self.site.reach);
         println!("  blocked {:016x?}", self.site.blocked);
         println!("  rule {}", self.site.rule);
-        println!("numbers {:?}", self.numbers);
+        println!("numbers {:?}, limit {}", self.numbers, self.limit);
         println!("lent to read, {} bytes: {}", self.input.len(), hex(self.input.part()));
         println!("lent to write, {} bytes: {}", self.output.len(), hex(self.output.part()));
         println!("flows {:?}", self.flows.part());

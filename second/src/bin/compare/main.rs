@@ -21,6 +21,8 @@ mod random;
 mod rule_limits;
 mod run;
 mod samples;
+mod search_limits;
+mod searches;
 mod sheet_limits;
 mod sheets;
 mod sites;
@@ -66,6 +68,7 @@ fn fixed(dir: &Path) -> ExitCode {
     heaviest_limits::compare(&mut run);
     blocked_limits::compare(&mut run);
     rule_limits::compare(&mut run);
+    search_limits::compare(&mut run);
     println!("boundaries: {} cases", run.cases);
     let before = run.cases;
     spares::compare(&mut run);
@@ -85,6 +88,9 @@ fn fixed(dir: &Path) -> ExitCode {
     let before = run.cases;
     rule_limits::every_small_reach(&mut run);
     println!("four cells, whoever reaches whom, under both rules: {} cases", run.cases - before);
+    let before = run.cases;
+    search_limits::every_small_site(&mut run);
+    println!("small sites searched: {} cases", run.cases - before);
     let before = run.cases;
     match samples::compare(&mut run, dir) {
         Ok(files) if files > 0 => println!("{files} sample files, cut and changed: {} cases", run.cases - before),

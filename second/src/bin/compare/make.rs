@@ -1,6 +1,6 @@
 //! Makes random cases: sites, tables, files and flows that are valid, nearly valid or damaged, so that every number is
 //! given often. Sites and tables are made in `sites`, files in `files`, range sheets in `sheets`, lists of flows in
-//! `admits`, tables of words in `word_tables`, tables to mend in `mends`, sites to renumber in `numberings`.
+//! `admits`, tables of words in `word_tables`, tables to mend in `mends`, sites to renumber in `numberings`, sites to search in `searches`. 
 
 use crate::admits;
 use crate::case::{Call, Case};
@@ -9,6 +9,7 @@ use crate::mends;
 use crate::numberings;
 use crate::random::Random;
 use crate::run::Run;
+use crate::searches;
 use crate::sheets::{self, sheet};
 use crate::sites::{damage, sound_site, table};
 use crate::word_tables;
@@ -29,6 +30,8 @@ const CALLS: &[Call] = &[
     Call::Heaviest,
     Call::Plan,
     Call::Plan,
+    Call::Search,
+    Call::Search,
     Call::Check,
     Call::Check,
     Call::Share,
@@ -87,6 +90,9 @@ pub fn compare(run: &mut Run, random: &mut Random) {
         }
         Call::Renumber | Call::Carry => {
             run.compare(&numberings::case(random, call));
+        }
+        Call::Search => {
+            run.compare(&searches::case(random));
         }
         _ => {
             let case = with_site(random, call).numbers_for(random);

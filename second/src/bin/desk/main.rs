@@ -54,6 +54,8 @@ fn said(words: &[&str]) -> io::Result<Said> {
     let file = |k: usize| Input { name: words[k + 1], bytes: &files[k] };
     Ok(Said::Told(match *words {
         ["plan", _] => desk::plan(file(0)),
+        ["search", _] => desk::search(file(0), desk::TRIES_WITHOUT_A_NUMBER),
+        ["search", _, "--tries", tries] => desk::search(file(0), tries.parse().unwrap_or(u64::MAX)),
         ["check", _, _] => desk::check(file(0), file(1)),
         ["mend", _, _] => desk::mend(file(0), file(1)),
         ["why", _] => desk::why(file(0)),

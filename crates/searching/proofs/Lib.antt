@@ -1,0 +1,2 @@
+-- The laws of crate `searching`, module by module.
+pub mod Rising

@@ -1,0 +1,2 @@
+-- The definitions of crate `searching`, module by module.
+pub mod Met

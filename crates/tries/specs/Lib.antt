@@ -1,0 +1,3 @@
+-- The definitions of crate `tries`, module by module.
+pub mod Search
+pub mod Looks
