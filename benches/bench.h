@@ -41,6 +41,7 @@ typedef struct {
     dugg_answer (*carry)(dugg_site, const uint8_t *, size_t, uint8_t *, size_t);
     dugg_answer (*clash)(dugg_site, uint16_t, uint16_t);
     dugg_answer (*search)(dugg_site, uint64_t, uint8_t *, size_t);
+    dugg_answer (*change_load)(dugg_site *, uint16_t, uint16_t, uint8_t *, size_t);
 } maker;
 
 extern const maker makers[MAKERS];
@@ -98,6 +99,8 @@ int number_agree(void);
 void number_table(void);
 int search_agree(void);
 void search_table(void);
+int handheld_agree(void);
+void handheld_table(void);
 int blocked_agree(void);
 void blocked_table(void);
 int rules_agree(void);

@@ -14,8 +14,7 @@ static const int sites[SITES] = {P1, MIDDLE_TUNNEL, MIDDLE_ALL, TUNNEL, ALL_CLAS
     {name,              P##plan,       P##check,      P##load_test,   P##chain,      P##class,       P##least,        \
      P##read_site,      P##write_site, P##read_plan,  P##write_plan,  P##read_sheet, P##write_sheet,                  \
      P##share_repeated, P##admit,      P##plan_words, P##check_words, P##to_words,   P##to_bytes,                     \
-     P##mend,           P##heaviest,   P##renumber,   P##carry, \
-     P##clash, P##search} 
+     P##mend,           P##heaviest,   P##renumber,   P##carry,       P##clash,      P##search,      P##change_load}
 
 const maker makers[MAKERS] = {
     [LIBRARY] = MAKER("library", dugg_),
@@ -284,7 +283,8 @@ int main(void)
         }
         fine &= agree(&w[k]) & agree_when_wrong(&w[k]);
     }
-    fine &= admit_agree() & words_agree() & mend_agree() & heaviest_agree() & number_agree() & blocked_agree() & rules_agree() & search_agree(); 
+    fine &= admit_agree() & words_agree() & mend_agree() & heaviest_agree() & number_agree() & blocked_agree() & rules_agree() & search_agree() &
+            handheld_agree();
     if (!fine)
         return 1;
     printf("All gave the same answers and the same bytes on these inputs before they were timed.\n");
@@ -297,6 +297,7 @@ int main(void)
     heaviest_table();
     number_table();
     search_table();
+    handheld_table();
     blocked_table();
     rules_table();
     printf("\nPlan and check on the largest sites are %s a quarter of C -O3: the worst ratio is %.2f.\n",

@@ -18,6 +18,7 @@
     dugg_answer P##heaviest(dugg_site site);                                                                          \
     dugg_answer P##plan(dugg_site site, uint8_t *table, size_t len);                                                  \
     dugg_answer P##search(dugg_site site, uint64_t limit, uint8_t *table, size_t len);                                \
+    dugg_answer P##change_load(dugg_site *site, uint16_t cell, uint16_t load, uint8_t *table, size_t len);            \
     dugg_answer P##check(dugg_site site, const uint8_t *table, size_t len);                                           \
     dugg_answer P##share(uint16_t slots, uint16_t burst, uint16_t period);                                            \
     dugg_answer P##share_repeated(uint16_t slots, uint16_t burst, uint16_t period, uint16_t repeats);                 \

@@ -1,6 +1,6 @@
 /* Duggfrask, the C interface: plans channel time-slots for the cells of a wireless fieldbus, and checks finished plans.
  *
- * Every call answers a number and up to three values. Number 0 is "done"; 1 to 25 are the
+ * Every call answers a number and up to three values. Number 0 is "done"; 1 to 26 are the
  * refusals of docs/RULES.md. Values that are not named below are 0. No call keeps anything between calls.
  *
  *    1  cells, slots or channels out of range
@@ -28,8 +28,9 @@
  *   22  a cell transmits at a blocked position (values: position, cell)
  *   23  no numbering of the cells puts the site in the class
  *   24  the rule is not 1 or 2, or in a site file that gives it not 2
- *    25  the search: more than 64 open positions, or more than 24 fragments
- * 
+ *   25  the search: more than 64 open positions, or more than 24 fragments
+ *   26  the table is not the plan of the site whose load is to change
+ *
  * A refused file read has one value: where in the file the refused record begins (12: the first byte too many;
  * 4: 0). A sheet has no records: its 17 gives the line, its 3 the lowest row, its 20 the lowest position.
  * Cells are numbered from 1, positions from 0: slot t and channel f are position (t-1) * channels + (f-1).
@@ -168,6 +169,14 @@ dugg_answer dugg_to_bytes(dugg_site site, const uint32_t *words, size_t count, u
  * without room, and how many fragments are short; 13: how many changes there are, where the list has no room for them.
  * A refusal leaves table and list as they were. */
 dugg_answer dugg_mend(dugg_site site, uint8_t *table, size_t len, uint16_t *changes, size_t count);
+
+/* Changes the load of one cell on the handheld, in the record where it stands, and plans the table anew from that cell on.
+ * The table must be the plan of the record as it is, byte for byte over cells * slots * channels bytes (26). Afterwards record
+ * and table are those of a fresh plan, and the rows of lower cells were not written. Refusals: the record's; 2 for the cell;
+ * 4; 26; these leave record and table as they were. 5: the first cell without room, and how many fragments are short; the
+ * record keeps the new load, and the site's part of the table is 0, so that the next change is 26. The record does not lie in
+ * the table. The call needs some 15 kilobytes of stack. */
+dugg_answer dugg_change_load(dugg_site *site, uint16_t cell, uint16_t load, uint8_t *table, size_t len);
 
 /* Numbers the cells anew, idle ones too, so that each cell's lower clashing cells clash with one another: then the load
  * test is exact, whatever the loads. The last number goes to the highest old number whose clashing cells all clash with

@@ -11,6 +11,7 @@ use crate::answer::Answer;
 use crate::blocklist::read_list;
 use crate::checker;
 use crate::files::{read_plan, read_site, write_plan, write_site};
+use crate::handheld::change_load;
 use crate::judge::first_split;
 use crate::mender;
 use crate::numbering;
@@ -22,7 +23,7 @@ use crate::site::{Positions, Site};
 pub use input::Input;
 use input::Kind;
 use wording::{
-    bad_list, change_line, counted, no_room, no_room_beside, not_nested, refused, sends_wrongly, sizes, wrong_flow,
+    bad_list, change_line, counted, no_room, no_room_beside, no_room_with, not_nested, refused, sends_wrongly, sizes, wrong_flow,
     tries, wrong_slots, Place,
 };
 
@@ -144,6 +145,33 @@ pub fn carry(site_file: Input, plan_file: Input) -> Told {
     let mut table = vec![0; site.table_len()];
     numbering::carry(&site, &new_numbered, &mut table).map_err(|no| refused(no.number, Place::Nowhere))?;
     result(written(|file| write_plan(&site, &table, file)))
+}
+
+/// What a change of a load writes, and its words for standard error.
+#[derive(Debug, PartialEq, Eq)]
+pub struct Changed {
+    pub site: Vec<u8>,
+    pub plan: Vec<u8>,
+    pub words: String,
+}
+
+/// A plan file has no forbidden marks: it is the plan where its reservations are those of the site's own plan.
+pub fn load(site_file: Input, plan_file: Input, cell: u16, load: u16) -> Result<Changed, String> {
+    let (mut site, read) = site_and_table(site_file, plan_file)?;
+    let mut table = vec![0; site.table_len()];
+    let planned = planner::plan(&site, &mut table).is_ok();
+    if !planned || table.iter().zip(&read).any(|(&own, &read)| (own == planner::RESERVED) != (read == planner::RESERVED)) {
+        // Then no table with these reservations is the plan.
+        table.fill(planner::FORBIDDEN);
+    }
+    change_load(&mut site, cell.into(), load, &mut table).map_err(|no| match no.number {
+        2 => refused(2, Place::Cell(no.value[0])),
+        5 => no_room_with(&no),
+        number => refused(number, Place::Nowhere),
+    })?;
+    let site_bytes = written(|file| write_site(&site, file));
+    let plan_bytes = written(|file| write_plan(&site, &table, file));
+    Ok(Changed { site: site_bytes, plan: plan_bytes, words: format!("planned: cell {cell} now has load {load}\n") })
 }
 
 pub fn why(site_file: Input) -> Told {
@@ -301,6 +329,30 @@ mod tests {
         let line = "refused 23: no numbering makes the site nested when all its cells count, the spare ones too\n";
         assert_eq!(renumber(file(&ring_file)), Err(line.into()));
         assert_eq!(carry(file(&ring_file), file(&plan_of(&ring, &[0; 4]))), Err(line.into()));
+    }
+
+    /// P6, where load 0 in cell 5 is planned, and load 0 in cell 2 leaves cell 5 no room.
+    #[test]
+    fn a_load_changed() {
+        let mut p6 = Site::sized(5, 2, 1);
+        for (from, to) in [(1, 4), (2, 3), (3, 5), (4, 5)] {
+            p6 = p6.with_reach(from, to, true).unwrap();
+        }
+        p6.loads[..5].fill(1);
+        let own = written(|file| write_site(&p6, file));
+        let planned = plan(file(&own)).unwrap().result;
+        let made = load(file(&own), file(&planned), 5, 0).unwrap();
+        let edited = written(|file| write_site(&p6.with_load(5, 0).unwrap(), file));
+        assert_eq!((&made.site, made.words.as_str()), (&edited, "planned: cell 5 now has load 0\n"));
+        assert_eq!(made.plan, plan(file(&edited)).unwrap().result);
+        let no = |cell, with: u16, plan: &[u8]| load(file(&own), file(plan), cell, with).unwrap_err();
+        let line = "refused 5, cell 5: with this load there is no room for 1 of its fragments\n";
+        assert_eq!(no(2, 0, &planned), line);
+        let line = "refused 26: the table is not the plan of the site as it is, so that one load can't be changed in it\n";
+        assert_eq!(no(1, 1, &plan_of(&p6, &[0; 10])), line);
+        let line = "refused 2, cell 6: a load or a flow is for a cell that the site does not have\n";
+        assert_eq!(no(6, 1, &plan_of(&p6, &[0; 10])), line);
+        assert_eq!(load(file(&own), file(&planned), 3, 1).unwrap().plan, planned);
     }
 
     #[test]

@@ -8,6 +8,7 @@ pub mod capi;
 pub mod checker;
 pub mod desk;
 pub mod files;
+pub mod handheld;
 pub mod heaviest;
 pub mod judge;
 pub mod listing;

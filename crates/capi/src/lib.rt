@@ -22,6 +22,8 @@ ghost use Rattle.planner.specs.Plan.{planAnswer, planTable};
 ghost use Rattle.planner.specs.Given.{planGiven};
 ghost use Rattle.search.specs.Search.{searchAnswer, searchTable};
 ghost use Rattle.search.specs.Given.{searchGiven};
+ghost use Rattle.handheld.specs.Change.{changeAnswer, changeSite, changeTable, changedOf};
+ghost use Rattle.handheld.specs.Given.{changeGiven};
 ghost use Rattle.checker.specs.Check.{checkAnswer};
 ghost use Rattle.checker.specs.Given.{checkGiven};
 ghost use Rattle.wordtable.specs.Plan.{planWordsAnswer, planWords};
@@ -46,7 +48,7 @@ ghost use Rattle.sheet.specs.Write.{sheetWritten, sheetOut};
 ghost use Rattle.admission.specs.Admit.{admitAnswer};
 ghost use Rattle.admission.specs.Given.{admitGiven};
 ghost use Rattle.told.specs.Told.{told, toldRenumbered};
-ghost use Rattle.toldfiles.specs.Files.{toldEdited, toldSiteRead, toldPlanRead, toldSheetRead};
+ghost use Rattle.toldfiles.specs.Files.{toldEdited, toldChanged, toldSiteRead, toldPlanRead, toldSheetRead};
 
 // The exports. Each makes its call and converts the answer; a cell is named by a number of two bytes.
 #[no_mangle]
@@ -133,6 +135,31 @@ pub extern "C" fn dugg_search(site: Site, limit: u64, table: &mut [u8]) -> Answe
     ensures { λ _. ⌜ now (table .exit) ≡ searchTable site limit (now (table .entry)) ⌝ }
 {
     told::search_answer(search::search(site, limit, table))
+}
+
+// The change of a load by value, with its answer as a C caller gets it.
+fn changed_by(site: Site, cell: u16, load: u16, table: &mut [u8]) -> EditedSite
+    ensures { λ r. ⌜ (r ≡ toldChanged (changedOf site cell load (now (table .entry))))
+        × (now (table .exit) ≡ changeTable site cell load (now (table .entry))) ⌝ }
+{
+    toldfiles::changed_site(handheld::changed_load(site, cell as usize, load, table))
+}
+
+#[no_mangle]
+pub extern "C" fn dugg_change_load(
+    site: &mut Site,
+    cell: u16,
+    load: u16,
+    table: &mut [u8],
+) -> Answer
+    ensures { λ r. ⌜ (r ≡ told (changeGiven (changeAnswer (now (site .entry)) cell load (now (table .entry)))))
+        × (now (site .exit) ≡ changeSite (now (site .entry)) cell load (now (table .entry)))
+        × (now (table .exit) ≡ changeTable (now (site .entry)) cell load (now (table .entry))) ⌝ }
+{
+    let old = *site;
+    let e = changed_by(old, cell, load, table);
+    *site = e.site;
+    e.answer
 }
 
 #[no_mangle]

@@ -7,11 +7,13 @@ use Rattle.admission.specs.Admit.{admitAnswer}
 use Rattle.admission.specs.Given.{admitGiven}
 use Rattle.checker.specs.Check.{checkAnswer}
 use Rattle.checker.specs.Given.{checkGiven}
-use Rattle.contracts.specs.CapiSays.{DuggAdmit, DuggCarry, DuggChain, DuggCheck, DuggCheckWords, DuggClash, DuggClass, DuggClearReach, DuggFault}
-use Rattle.contracts.specs.CapiSays.{DuggHeaviest, DuggLeast, DuggLoadTest, DuggMend, DuggPlan, DuggPlanWords, DuggReadPlan, DuggReadSheet, DuggReadSite}
-use Rattle.contracts.specs.CapiSays.{DuggRenumber, DuggSearch, DuggSetLoad, DuggSetReach, DuggShare, DuggShareRepeated, DuggToBytes, DuggToWords}
-use Rattle.contracts.specs.CapiSays.{DuggWritePlan, DuggWriteSheet, DuggWriteSite}
+use Rattle.contracts.specs.CapiSays.{DuggAdmit, DuggCarry, DuggChain, DuggChangeLoad, DuggCheck, DuggCheckWords, DuggClash, DuggClass, DuggClearReach}
+use Rattle.contracts.specs.CapiSays.{DuggFault, DuggHeaviest, DuggLeast, DuggLoadTest, DuggMend, DuggPlan, DuggPlanWords, DuggReadPlan, DuggReadSheet}
+use Rattle.contracts.specs.CapiSays.{DuggReadSite, DuggRenumber, DuggSearch, DuggSetLoad, DuggSetReach, DuggShare, DuggShareRepeated, DuggToBytes}
+use Rattle.contracts.specs.CapiSays.{DuggToWords, DuggWritePlan, DuggWriteSheet, DuggWriteSite}
 use Rattle.flowlist.specs.declared.Flow.{Flow}
+use Rattle.handheld.specs.Change.{changeAnswer, changeSite, changeTable}
+use Rattle.handheld.specs.Given.{changeGiven}
 use Rattle.heaviest.specs.Given.{heaviestGiven}
 use Rattle.heaviest.specs.Sets.{heaviestOf}
 use Rattle.judges.specs.Given.{chainGiven, classGiven, leastGiven, loadGiven}
@@ -172,6 +174,18 @@ duggSearch-one site limit table = (
   searchTable site limit table,
   record { answer = refl; table-after = refl },
   λ q table″ says. (says .answer, says .table-after),
+)
+
+-- capi::dugg_change_load
+pub duggChangeLoad-one : (site : Site) (cell : ℕ) (load : ℕ) (table : List ℕ)
+    → (r : Answer) × (site′ : Site) × (table′ : List ℕ) × (DuggChangeLoad site cell load table r site′ table′)
+    × ((q : Answer) (site″ : Site) (table″ : List ℕ) → DuggChangeLoad site cell load table q site″ table″ → (q ≡ r) × (site″ ≡ site′) × (table″ ≡ table′))
+duggChangeLoad-one site cell load table = (
+  told (changeGiven (changeAnswer site cell load table)),
+  changeSite site cell load table,
+  changeTable site cell load table,
+  record { answer = refl; site-after = refl; table-after = refl },
+  λ q site″ table″ says. (says .answer, says .site-after, says .table-after),
 )
 
 -- capi::dugg_check

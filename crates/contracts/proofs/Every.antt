@@ -1,12 +1,13 @@
 -- Every call of the product has one answer: crate by crate. Made by tools/surface from the source. Assumes nothing.
 use Rattle.contracts.proofs.AdmissionOne.{admit-one, decide-one, shareIn-one}
-use Rattle.contracts.proofs.CapiOne.{duggAdmit-one, duggCarry-one, duggChain-one, duggCheck-one, duggCheckWords-one, duggClash-one, duggClass-one}
-use Rattle.contracts.proofs.CapiOne.{duggClearReach-one, duggFault-one, duggHeaviest-one, duggLeast-one, duggLoadTest-one, duggMend-one, duggPlan-one}
-use Rattle.contracts.proofs.CapiOne.{duggPlanWords-one, duggReadPlan-one, duggReadSheet-one, duggReadSite-one, duggRenumber-one, duggSearch-one}
-use Rattle.contracts.proofs.CapiOne.{duggSetLoad-one, duggSetReach-one, duggShare-one, duggShareRepeated-one, duggToBytes-one, duggToWords-one}
-use Rattle.contracts.proofs.CapiOne.{duggWritePlan-one, duggWriteSheet-one, duggWriteSite-one}
+use Rattle.contracts.proofs.CapiOne.{duggAdmit-one, duggCarry-one, duggChain-one, duggChangeLoad-one, duggCheck-one, duggCheckWords-one, duggClash-one}
+use Rattle.contracts.proofs.CapiOne.{duggClass-one, duggClearReach-one, duggFault-one, duggHeaviest-one, duggLeast-one, duggLoadTest-one, duggMend-one}
+use Rattle.contracts.proofs.CapiOne.{duggPlan-one, duggPlanWords-one, duggReadPlan-one, duggReadSheet-one, duggReadSite-one, duggRenumber-one}
+use Rattle.contracts.proofs.CapiOne.{duggSearch-one, duggSetLoad-one, duggSetReach-one, duggShare-one, duggShareRepeated-one, duggToBytes-one}
+use Rattle.contracts.proofs.CapiOne.{duggToWords-one, duggWritePlan-one, duggWriteSheet-one, duggWriteSite-one}
 use Rattle.contracts.proofs.CheckerOne.{check-one}
 use Rattle.contracts.proofs.FlowsheetOne.{readFlows-one}
+use Rattle.contracts.proofs.HandheldOne.{changeLoad-one, changedLoad-one}
 use Rattle.contracts.proofs.HeaviestOne.{heaviest-one}
 use Rattle.contracts.proofs.JudgesOne.{chain-one, inClass-one, least-one, loadTest-one}
 use Rattle.contracts.proofs.MenderOne.{mend-one, mendOnly-one}
@@ -39,6 +40,8 @@ every-call = record {
   inClass = inClass-one;
   least = least-one;
   plan = plan-one;
+  changedLoad = changedLoad-one;
+  changeLoad = changeLoad-one;
   check = check-one;
   search = search-one;
   heaviest = heaviest-one;
@@ -75,6 +78,7 @@ every-call = record {
   duggHeaviest = duggHeaviest-one;
   duggPlan = duggPlan-one;
   duggSearch = duggSearch-one;
+  duggChangeLoad = duggChangeLoad-one;
   duggCheck = duggCheck-one;
   duggPlanWords = duggPlanWords-one;
   duggCheckWords = duggCheckWords-one;

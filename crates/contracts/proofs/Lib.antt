@@ -16,6 +16,8 @@ pub mod JudgesOne
 pub mod PlanrowsOne
 pub mod PlannerOne
 pub mod StretchesOne
+pub mod ReplanOne
+pub mod HandheldOne
 pub mod RowcountsOne
 pub mod CheckerOne
 pub mod SearchOne
@@ -51,6 +53,7 @@ pub mod ListingOne
 pub mod SayVerdictsOne
 pub mod SayFlowsheetOne
 pub mod SayNumberingOne
+pub mod SayHandheldOne
 pub mod SaySearchOne
 pub mod SayRuleOne
 pub mod SayFlowsOne

@@ -6,9 +6,11 @@ use Rattle.admission.specs.Given.{admitGiven}
 use Rattle.admission.specs.declared.AdmitAnswer.{AdmitAnswer}
 use Rattle.checker.specs.Given.{checkGiven}
 use Rattle.checker.specs.declared.CheckAnswer.{CheckAnswer}
-use Rattle.contracts.specs.ToldSays.{ToldAdmitAnswer, ToldCarryAnswer, ToldChainAnswer, ToldCheckAnswer, ToldClashAnswer, ToldClassAnswer}
-use Rattle.contracts.specs.ToldSays.{ToldFaultAnswer, ToldFormAnswer, ToldGive, ToldHeaviestAnswer, ToldLeastAnswer, ToldLoadAnswer, ToldMendAnswer}
-use Rattle.contracts.specs.ToldSays.{ToldPlanAnswer, ToldRenumberAnswer, ToldRenumberedSite, ToldSearchAnswer, ToldShareAnswer}
+use Rattle.contracts.specs.ToldSays.{ToldAdmitAnswer, ToldCarryAnswer, ToldChainAnswer, ToldChangeAnswer, ToldCheckAnswer, ToldClashAnswer}
+use Rattle.contracts.specs.ToldSays.{ToldClassAnswer, ToldFaultAnswer, ToldFormAnswer, ToldGive, ToldHeaviestAnswer, ToldLeastAnswer, ToldLoadAnswer}
+use Rattle.contracts.specs.ToldSays.{ToldMendAnswer, ToldPlanAnswer, ToldRenumberAnswer, ToldRenumberedSite, ToldSearchAnswer, ToldShareAnswer}
+use Rattle.handheld.specs.Given.{changeGiven}
+use Rattle.handheld.specs.declared.ChangeAnswer.{ChangeAnswer}
 use Rattle.heaviest.specs.Given.{heaviestGiven}
 use Rattle.heaviest.specs.declared.HeaviestAnswer.{HeaviestAnswer}
 use Rattle.judges.specs.Given.{chainGiven, classGiven, leastGiven, loadGiven}
@@ -133,6 +135,16 @@ pub toldSearchAnswer-one : (said : SearchAnswer)
     × ((q : Answer) → ToldSearchAnswer said q → (q ≡ r))
 toldSearchAnswer-one said = (
   told (searchGiven said),
+  record { answer = refl },
+  λ q says. says .answer,
+)
+
+-- told::change_answer
+pub toldChangeAnswer-one : (said : ChangeAnswer)
+    → (r : Answer) × (ToldChangeAnswer said r)
+    × ((q : Answer) → ToldChangeAnswer said q → (q ≡ r))
+toldChangeAnswer-one said = (
+  told (changeGiven said),
   record { answer = refl },
   λ q says. says .answer,
 )

@@ -1,8 +1,9 @@
 -- For any arguments one answer and one content of what is lent meet the contract, and no other, in crate `toldfiles`: by its equalities alone.
 -- Made by tools/surface from the source. Assumes nothing.
 use mathlib.Core.Path.{_≡_, refl}
-use Rattle.contracts.specs.ToldfilesSays.{ToldfilesEditedAnswer, ToldfilesPlanRead, ToldfilesPlanWritten, ToldfilesReadAnswer, ToldfilesSheetAnswer}
-use Rattle.contracts.specs.ToldfilesSays.{ToldfilesSheetRead, ToldfilesSiteRead, ToldfilesWrittenAnswer}
+use Rattle.contracts.specs.ToldfilesSays.{ToldfilesChangedSite, ToldfilesEditedAnswer, ToldfilesPlanRead, ToldfilesPlanWritten, ToldfilesReadAnswer}
+use Rattle.contracts.specs.ToldfilesSays.{ToldfilesSheetAnswer, ToldfilesSheetRead, ToldfilesSiteRead, ToldfilesWrittenAnswer}
+use Rattle.handheld.specs.declared.Changed.{Changed}
 use Rattle.planfile.specs.Given.{planWrittenGiven}
 use Rattle.planfile.specs.declared.PlanRead.{PlanRead}
 use Rattle.planfile.specs.declared.PlanWritten.{PlanWritten}
@@ -16,7 +17,7 @@ use Rattle.site.specs.declared.Edited.{Edited}
 use Rattle.sitefile.specs.declared.SiteRead.{SiteRead}
 use Rattle.told.specs.Told.{told}
 use Rattle.told.specs.declared.Answer.{Answer}
-use Rattle.toldfiles.specs.Files.{toldEdited, toldPlanRead, toldSheetRead, toldSiteRead}
+use Rattle.toldfiles.specs.Files.{toldChanged, toldEdited, toldPlanRead, toldSheetRead, toldSiteRead}
 use Rattle.toldfiles.specs.declared.EditedSite.{EditedSite}
 use Rattle.toldfiles.specs.declared.PlanReadC.{PlanReadC}
 
@@ -66,6 +67,16 @@ pub toldfilesEditedAnswer-one : (e : Edited)
     × ((q : EditedSite) → ToldfilesEditedAnswer e q → (q ≡ r))
 toldfilesEditedAnswer-one e = (
   toldEdited e,
+  record { answer = refl },
+  λ q says. says .answer,
+)
+
+-- toldfiles::changed_site
+pub toldfilesChangedSite-one : (e : Changed)
+    → (r : EditedSite) × (ToldfilesChangedSite e r)
+    × ((q : EditedSite) → ToldfilesChangedSite e q → (q ≡ r))
+toldfilesChangedSite-one e = (
+  toldChanged e,
   record { answer = refl },
   λ q says. says .answer,
 )

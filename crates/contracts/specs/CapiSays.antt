@@ -8,6 +8,8 @@ use Rattle.admission.specs.Given.{admitGiven}
 use Rattle.checker.specs.Check.{checkAnswer}
 use Rattle.checker.specs.Given.{checkGiven}
 use Rattle.flowlist.specs.declared.Flow.{Flow}
+use Rattle.handheld.specs.Change.{changeAnswer, changeSite, changeTable}
+use Rattle.handheld.specs.Given.{changeGiven}
 use Rattle.heaviest.specs.Given.{heaviestGiven}
 use Rattle.heaviest.specs.Sets.{heaviestOf}
 use Rattle.judges.specs.Given.{chainGiven, classGiven, leastGiven, loadGiven}
@@ -97,6 +99,12 @@ pub record DuggPlan (site : Site) (table : List ℕ) (r : Answer) (table′ : Li
 pub record DuggSearch (site : Site) (limit : ℕ) (table : List ℕ) (r : Answer) (table′ : List ℕ) : Type 0 where
   pub answer : r ≡ told (searchGiven (searchAnswer site limit table))
   pub table-after : table′ ≡ searchTable site limit table
+
+-- capi::dugg_change_load
+pub record DuggChangeLoad (site : Site) (cell : ℕ) (load : ℕ) (table : List ℕ) (r : Answer) (site′ : Site) (table′ : List ℕ) : Type 0 where
+  pub answer : r ≡ told (changeGiven (changeAnswer site cell load table))
+  pub site-after : site′ ≡ changeSite site cell load table
+  pub table-after : table′ ≡ changeTable site cell load table
 
 -- capi::dugg_check
 pub record DuggCheck (site : Site) (table : List ℕ) (r : Answer) : Type 0 where

@@ -7,12 +7,13 @@ use Prim.Native.Nat.{ℕ}
 use Rattle.admission.specs.declared.AdmitAnswer.{AdmitAnswer}
 use Rattle.checker.specs.declared.CheckAnswer.{CheckAnswer}
 use Rattle.contracts.specs.AdmissionSays.{Admit, Decide, ShareIn}
-use Rattle.contracts.specs.CapiSays.{DuggAdmit, DuggCarry, DuggChain, DuggCheck, DuggCheckWords, DuggClash, DuggClass, DuggClearReach, DuggFault}
-use Rattle.contracts.specs.CapiSays.{DuggHeaviest, DuggLeast, DuggLoadTest, DuggMend, DuggPlan, DuggPlanWords, DuggReadPlan, DuggReadSheet, DuggReadSite}
-use Rattle.contracts.specs.CapiSays.{DuggRenumber, DuggSearch, DuggSetLoad, DuggSetReach, DuggShare, DuggShareRepeated, DuggToBytes, DuggToWords}
-use Rattle.contracts.specs.CapiSays.{DuggWritePlan, DuggWriteSheet, DuggWriteSite}
+use Rattle.contracts.specs.CapiSays.{DuggAdmit, DuggCarry, DuggChain, DuggChangeLoad, DuggCheck, DuggCheckWords, DuggClash, DuggClass, DuggClearReach}
+use Rattle.contracts.specs.CapiSays.{DuggFault, DuggHeaviest, DuggLeast, DuggLoadTest, DuggMend, DuggPlan, DuggPlanWords, DuggReadPlan, DuggReadSheet}
+use Rattle.contracts.specs.CapiSays.{DuggReadSite, DuggRenumber, DuggSearch, DuggSetLoad, DuggSetReach, DuggShare, DuggShareRepeated, DuggToBytes}
+use Rattle.contracts.specs.CapiSays.{DuggToWords, DuggWritePlan, DuggWriteSheet, DuggWriteSite}
 use Rattle.contracts.specs.CheckerSays.{Check}
 use Rattle.contracts.specs.FlowsheetSays.{ReadFlows}
+use Rattle.contracts.specs.HandheldSays.{ChangeLoad, ChangedLoad}
 use Rattle.contracts.specs.HeaviestSays.{Heaviest}
 use Rattle.contracts.specs.JudgesSays.{Chain, InClass, Least, LoadTest}
 use Rattle.contracts.specs.MenderSays.{Mend, MendOnly}
@@ -28,6 +29,8 @@ use Rattle.contracts.specs.WordtableSays.{CheckWords, PlanWords, ToBytes
 use Rattle.flowlist.specs.declared.Flow.{Flow}
 use Rattle.flowlist.specs.declared.FlowList.{FlowList}
 use Rattle.flowsheet.specs.declared.FlowsRead.{FlowsRead}
+use Rattle.handheld.specs.declared.ChangeAnswer.{ChangeAnswer}
+use Rattle.handheld.specs.declared.Changed.{Changed}
 use Rattle.heaviest.specs.declared.HeaviestAnswer.{HeaviestAnswer}
 use Rattle.judges.specs.declared.ChainAnswer.{ChainAnswer}
 use Rattle.judges.specs.declared.ClassAnswer.{ClassAnswer}
@@ -118,6 +121,14 @@ pub record EveryCall : Type 0 where
   pub plan : (site : Site) (table : List ℕ)
       → (r : PlanAnswer) × (table′ : List ℕ) × (Plan site table r table′)
       × ((q : PlanAnswer) (table″ : List ℕ) → Plan site table q table″ → (q ≡ r) × (table″ ≡ table′))
+  -- handheld::changed_load
+  pub changedLoad : (site : Site) (cell : ℕ) (load : ℕ) (table : List ℕ)
+      → (r : Changed) × (table′ : List ℕ) × (ChangedLoad site cell load table r table′)
+      × ((q : Changed) (table″ : List ℕ) → ChangedLoad site cell load table q table″ → (q ≡ r) × (table″ ≡ table′))
+  -- handheld::change_load
+  pub changeLoad : (site : Site) (cell : ℕ) (load : ℕ) (table : List ℕ)
+      → (r : ChangeAnswer) × (site′ : Site) × (table′ : List ℕ) × (ChangeLoad site cell load table r site′ table′)
+      × ((q : ChangeAnswer) (site″ : Site) (table″ : List ℕ) → ChangeLoad site cell load table q site″ table″ → (q ≡ r) × (site″ ≡ site′) × (table″ ≡ table′))
   -- checker::check
   pub check : (site : Site) (table : List ℕ)
       → (r : CheckAnswer) × (Check site table r)
@@ -262,6 +273,10 @@ pub record EveryCall : Type 0 where
   pub duggSearch : (site : Site) (limit : ℕ) (table : List ℕ)
       → (r : Answer) × (table′ : List ℕ) × (DuggSearch site limit table r table′)
       × ((q : Answer) (table″ : List ℕ) → DuggSearch site limit table q table″ → (q ≡ r) × (table″ ≡ table′))
+  -- capi::dugg_change_load
+  pub duggChangeLoad : (site : Site) (cell : ℕ) (load : ℕ) (table : List ℕ)
+      → (r : Answer) × (site′ : Site) × (table′ : List ℕ) × (DuggChangeLoad site cell load table r site′ table′)
+      × ((q : Answer) (site″ : Site) (table″ : List ℕ) → DuggChangeLoad site cell load table q site″ table″ → (q ≡ r) × (site″ ≡ site′) × (table″ ≡ table′))
   -- capi::dugg_check
   pub duggCheck : (site : Site) (table : List ℕ)
       → (r : Answer) × (DuggCheck site table r)

@@ -16,6 +16,8 @@ pub mod JudgesSays
 pub mod PlanrowsSays
 pub mod PlannerSays
 pub mod StretchesSays
+pub mod ReplanSays
+pub mod HandheldSays
 pub mod RowcountsSays
 pub mod CheckerSays
 pub mod SearchSays
@@ -51,6 +53,7 @@ pub mod ListingSays
 pub mod SayVerdictsSays
 pub mod SayFlowsheetSays
 pub mod SayNumberingSays
+pub mod SayHandheldSays
 pub mod SaySearchSays
 pub mod SayRuleSays
 pub mod SayFlowsSays

@@ -6,6 +6,8 @@ use Rattle.admission.specs.Given.{admitGiven}
 use Rattle.admission.specs.declared.AdmitAnswer.{AdmitAnswer}
 use Rattle.checker.specs.Given.{checkGiven}
 use Rattle.checker.specs.declared.CheckAnswer.{CheckAnswer}
+use Rattle.handheld.specs.Given.{changeGiven}
+use Rattle.handheld.specs.declared.ChangeAnswer.{ChangeAnswer}
 use Rattle.heaviest.specs.Given.{heaviestGiven}
 use Rattle.heaviest.specs.declared.HeaviestAnswer.{HeaviestAnswer}
 use Rattle.judges.specs.Given.{chainGiven, classGiven, leastGiven, loadGiven}
@@ -73,6 +75,10 @@ pub record ToldPlanAnswer (said : PlanAnswer) (r : Answer) : Type 0 where
 -- told::search_answer
 pub record ToldSearchAnswer (said : SearchAnswer) (r : Answer) : Type 0 where
   pub answer : r ≡ told (searchGiven said)
+
+-- told::change_answer
+pub record ToldChangeAnswer (said : ChangeAnswer) (r : Answer) : Type 0 where
+  pub answer : r ≡ told (changeGiven said)
 
 -- told::check_answer
 pub record ToldCheckAnswer (said : CheckAnswer) (r : Answer) : Type 0 where

@@ -1,6 +1,7 @@
 -- The equalities that the contracts of crate `toldfiles` state: r is the answer, and x′ what a lent x holds afterwards.
 -- Made by tools/surface from the source.
 use mathlib.Core.Path.{_≡_}
+use Rattle.handheld.specs.declared.Changed.{Changed}
 use Rattle.planfile.specs.Given.{planWrittenGiven}
 use Rattle.planfile.specs.declared.PlanRead.{PlanRead}
 use Rattle.planfile.specs.declared.PlanWritten.{PlanWritten}
@@ -14,7 +15,7 @@ use Rattle.site.specs.declared.Edited.{Edited}
 use Rattle.sitefile.specs.declared.SiteRead.{SiteRead}
 use Rattle.told.specs.Told.{told}
 use Rattle.told.specs.declared.Answer.{Answer}
-use Rattle.toldfiles.specs.Files.{toldEdited, toldPlanRead, toldSheetRead, toldSiteRead}
+use Rattle.toldfiles.specs.Files.{toldChanged, toldEdited, toldPlanRead, toldSheetRead, toldSiteRead}
 use Rattle.toldfiles.specs.declared.EditedSite.{EditedSite}
 use Rattle.toldfiles.specs.declared.PlanReadC.{PlanReadC}
 
@@ -37,6 +38,10 @@ pub record ToldfilesSheetAnswer (said : SheetAnswer) (r : Answer) : Type 0 where
 -- toldfiles::edited_answer
 pub record ToldfilesEditedAnswer (e : Edited) (r : EditedSite) : Type 0 where
   pub answer : r ≡ toldEdited e
+
+-- toldfiles::changed_site
+pub record ToldfilesChangedSite (e : Changed) (r : EditedSite) : Type 0 where
+  pub answer : r ≡ toldChanged e
 
 -- toldfiles::site_read
 pub record ToldfilesSiteRead (e : SiteRead) (r : EditedSite) : Type 0 where

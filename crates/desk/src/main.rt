@@ -10,6 +10,7 @@ use blocklist::ListRead;
 use checker::CheckAnswer;
 use flowlist::FlowList;
 use flowsheet::FlowsAnswer;
+use handheld::ChangeAnswer;
 use inputs::Input;
 use libc::STDIN_FILENO;
 use mender::MendAnswer;
@@ -358,6 +359,84 @@ fn carry(
         return;
     }
     reply::fine();
+}
+
+// Whether a plan file is the site's own plan. It has no forbidden marks, so the planner makes the table, with its marks, and the plan file of that has the same
+// bytes.
+fn own_plan(site: Site, second: &[u8], table: &mut [u8], out: &mut [u8]) -> bool {
+    let planned = planner::plan(site, table);
+    let PlanAnswer::Done = planned else {
+        return false;
+    };
+    let written = planfile::write_plan(site, table, out);
+    let PlanWritten::Done(size) = written else {
+        return false;
+    };
+    if size != second.len() {
+        return false;
+    }
+    lines::eat_text(out, 0, second) == size
+}
+
+// A site and its plan, each as a result of its own.
+fn put_both(site: Site, table: &[u8], out: &mut [u8]) -> bool {
+    let written = sitefile::write_site(site, out);
+    let Written::Done(size) = written else {
+        return false;
+    };
+    if !reply::result(out, size) {
+        return false;
+    }
+    let planned = planfile::write_plan(site, table, out);
+    let PlanWritten::Done(length) = planned else {
+        return false;
+    };
+    reply::second_result(out, length)
+}
+
+// The load of a cell changed in a site and in its table: both files, and a line that says what is planned now.
+fn change(site: Site, cell: u16, load: u16, table: &mut [u8], out: &mut [u8], text: &mut [u8])
+    requires { ⌜ 65536 ≤ length (now text) ⌝ }
+{
+    let changed = handheld::changed_load(site, cell as usize, load, table);
+    let answer = changed.answer;
+    let new = changed.site;
+    let end = say_handheld::put_change(text, 0, cell as usize, load as usize, answer);
+    let ChangeAnswer::Done = answer else {
+        no(text, end);
+        return;
+    };
+    if !put_both(new, table, out) {
+        reply::unwritten();
+        return;
+    }
+    reply::message(text, end);
+    reply::fine();
+}
+
+// Changes one load of a site and of its plan. A plan that is not the site's own is taken as it was read, and is refused.
+fn load(
+    input: &[u8],
+    second: &[u8],
+    cell: u16,
+    load: u16,
+    read: &mut [u8],
+    table: &mut [u8],
+    out: &mut [u8],
+    text: &mut [u8],
+)
+    requires { ⌜ 65536 ≤ length (now text) ⌝ }
+{
+    let pair = read_pair(input, second, read, text);
+    if !pair.good {
+        return;
+    }
+    let site = pair.site;
+    if own_plan(site, second, table, out) {
+        change(site, cell, load, table, out, text);
+        return;
+    }
+    change(site, cell, load, read, out, text);
 }
 
 // A search, which is shown while it runs, or not.
@@ -714,6 +793,7 @@ enum Command {
     Admit,
     Renumber,
     Carry,
+    Load,
     Unknown,
 }
 
@@ -751,6 +831,9 @@ fn asked() -> Command {
     }
     if is(b"carry") {
         return Command::Carry;
+    }
+    if is(b"load") {
+        return Command::Load;
     }
     Command::Unknown
 }
@@ -805,6 +888,16 @@ fn main() {
         Command::Carry => carry(
             &input[..n],
             &second[..m],
+            &mut old,
+            &mut table,
+            &mut out,
+            &mut text,
+        ),
+        Command::Load => load(
+            &input[..n],
+            &second[..m],
+            number(NUMBERS),
+            number(NUMBERS + 1),
             &mut old,
             &mut table,
             &mut out,

@@ -24,4 +24,5 @@ pub mod InC
 pub mod Untouched
 pub mod Top
 pub mod Numbered
+pub mod Handheld
 pub mod Searched

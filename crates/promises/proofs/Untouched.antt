@@ -1,5 +1,5 @@
 -- What a refusal leaves in lent memory, call by call: each call's own theorem, by its contract. In C the number is that of the call. Assumes nothing.
-use mathlib.Core.Path.{_≡_, refl, _∙_}
+use mathlib.Core.Path.{_≡_, refl, ap, _∙_}
 use mathlib.Core.Bool.{Bool, true, false}
 use mathlib.Core.List.{List}
 use Prim.Native.Nat.{ℕ}
@@ -29,6 +29,7 @@ use Rattle.promises.proofs.Demand1.{plan-leaves, plan-read-leaves, site
 use Rattle.promises.proofs.Words.{plan-words-leaves, forms-leave}
 use Rattle.promises.proofs.Sheets.{sheet-write-leaves}
 use Rattle.promises.proofs.Mending.{refused-untouched}
+use Rattle.promises.proofs.Handheld.{change-untouched, change-no-room}
 
 module _ (s : Site) (words : List ℕ) where
   words-no-room : planGiven (planWordsAnswer s words) .number ≡ 5 → Idle (positions s) words (planWords s words)
@@ -82,13 +83,20 @@ unfolding told
 idle-if-no-room = record {
   plan = λ site table table′ r says e. says .table-after ∙ plan-no-room site table (rw (says .answer) at e);
   plan-words = λ site words words′ r says e. says .words-after ∙ words-no-room site words (rw (says .answer) at e);
+  change-load = λ site site′ cell load table table′ r says e. says .table-after ∙ change-no-room site cell load table (rw (says .answer) at e) .1;
+  changed-load = λ site cell load table table′ r says e. says .table-after ∙ change-no-room site cell load table (rw (says .answer) at e) .1;
   plan-in-c = λ site table table′ r says e. says .table-after ∙ plan-no-room site table (rw (says .answer) at e);
+  change-load-in-c = λ site site′ cell load table table′ r says e. says .table-after ∙ change-no-room site cell load table (rw (says .answer) at e) .1;
   plan-words-in-c = λ site words words′ r says e. says .words-after ∙ words-no-room site words (rw (says .answer) at e);
 }
 
 pub untouched : Untouched
 untouched = record {
   plan = λ site table table′ r says z. says .table-after ∙ plan-untouched site table (rw (says .answer) at z);
+  change-load = λ site site′ cell load table table′ r says z.
+      let u = change-untouched site cell load table (rw (says .answer) at z) in (says .site-after ∙ u .0, says .table-after ∙ u .1);
+  changed-load = λ site cell load table table′ r says z.
+      let u = change-untouched site cell load table (rw (says .answer) at z) in (ap (λ c. c .site) (says .answer) ∙ u .0, says .table-after ∙ u .1);
   plan-words = λ site words words′ r says z. says .words-after ∙ words-untouched site words (rw (says .answer) at z);
   to-words = λ site table words words′ r says z. says .words-after ∙ to-words-untouched site words table (rw (says .answer) at z);
   to-bytes = λ site words table table′ r says z. says .table-after ∙ to-bytes-untouched site words table (rw (says .answer) at z);
@@ -109,6 +117,8 @@ pub untouched-in-c : UntouchedInC
 unfolding told toldPlanRead
 untouched-in-c = record {
   plan = λ site table table′ r says z. says .table-after ∙ plan-untouched site table (rw (says .answer) at z);
+  change-load = λ site site′ cell load table table′ r says z.
+      let u = change-untouched site cell load table (rw (says .answer) at z) in (says .site-after ∙ u .0, says .table-after ∙ u .1);
   plan-words = λ site words words′ r says z. says .words-after ∙ words-untouched site words (rw (says .answer) at z);
   to-words = λ site table words words′ r says z. says .words-after ∙ to-words-untouched site words table (rw (says .answer) at z);
   to-bytes = λ site words table table′ r says z. says .table-after ∙ to-bytes-untouched site words table (rw (says .answer) at z);

@@ -8,4 +8,5 @@ pub mod Top
 pub mod Spare
 pub mod Rules
 pub mod Numbered
+pub mod Handheld
 pub mod Searched

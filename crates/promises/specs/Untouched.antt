@@ -8,6 +8,9 @@ use Rattle.site.specs.Record.{positions, size}
 use Rattle.site.specs.declared.Site.{Site}
 use Rattle.planner.specs.Given.{planGiven}
 use Rattle.planner.specs.declared.PlanAnswer.{PlanAnswer}
+use Rattle.handheld.specs.Given.{changeGiven}
+use Rattle.handheld.specs.declared.ChangeAnswer.{ChangeAnswer}
+use Rattle.handheld.specs.declared.Changed.{Changed}
 use Rattle.wordtable.specs.Given.{formGiven}
 use Rattle.wordtable.specs.declared.FormAnswer.{FormAnswer}
 use Rattle.mender.specs.Given.{mendGiven}
@@ -24,6 +27,7 @@ use Rattle.planfile.specs.declared.PlanWritten.{PlanWritten}
 use Rattle.told.specs.declared.Answer.{Answer}
 use Rattle.toldfiles.specs.declared.PlanReadC.{PlanReadC}
 use Rattle.contracts.specs.PlannerSays.{Plan}
+use Rattle.contracts.specs.HandheldSays.{ChangedLoad, ChangeLoad}
 use Rattle.contracts.specs.WordtableSays.{PlanWords, ToWords, ToBytes}
 use Rattle.contracts.specs.MenderSays.{Mend, MendOnly}
 use Rattle.contracts.specs.NumberingSays.{Carry}
@@ -33,6 +37,7 @@ use Rattle.contracts.specs.PlanfileSays.{ReadPlan, WritePlan}
 use Rattle.contracts.specs.SheetSays.{WriteSheet}
 use Rattle.contracts.specs.CapiSays.{
   DuggPlan,
+  DuggChangeLoad,
   DuggPlanWords,
   DuggToWords,
   DuggToBytes,
@@ -56,18 +61,29 @@ Refused number = number ≡ 0 → ⊥
 abbrev pub RefusedElse : ℕ → Type 0
 RefusedElse number = (Refused number) × (number ≡ 5 → ⊥)
 
--- The planner's no-room refusal leaves the site's part of the lent table idle; W6: "5 leaves N words of 0"
+-- The planner's no-room refusal leaves the site's part of the lent table idle; W6: "5 leaves N words of 0"; W14: "5 keeps the edit and leaves the site's part
+-- idle, lower rows included". That it keeps the edit is in specs/Handheld.antt
 pub record IdleIfNoRoom : Type 0 where
   pub plan : (site : Site) (table table′ : List ℕ) (r : PlanAnswer) → Plan site table r table′ → planGiven r .number ≡ 5 → Idle (size site) table table′
   pub plan-words : (site : Site) (words words′ : List ℕ) (r : PlanAnswer) → PlanWords site words r words′
       → planGiven r .number ≡ 5 → Idle (positions site) words words′
+  pub change-load : (site site′ : Site) (cell load : ℕ) (table table′ : List ℕ) (r : ChangeAnswer) → ChangeLoad site cell load table r site′ table′
+      → changeGiven r .number ≡ 5 → Idle (size site) table table′
+  pub changed-load : (site : Site) (cell load : ℕ) (table table′ : List ℕ) (r : Changed) → ChangedLoad site cell load table r table′
+      → changeGiven (r .answer) .number ≡ 5 → Idle (size site) table table′
   pub plan-in-c : (site : Site) (table table′ : List ℕ) (r : Answer) → DuggPlan site table r table′ → r .number ≡ 5 → Idle (size site) table table′
+  pub change-load-in-c : (site site′ : Site) (cell load : ℕ) (table table′ : List ℕ) (r : Answer) → DuggChangeLoad site cell load table r site′ table′
+      → r .number ≡ 5 → Idle (size site) table table′
   pub plan-words-in-c : (site : Site) (words words′ : List ℕ) (r : Answer) → DuggPlanWords site words r words′
       → r .number ≡ 5 → Idle (positions site) words words′
 
 -- every other refusal leaves lent memory untouched
 pub record Untouched : Type 0 where
   pub plan : (site : Site) (table table′ : List ℕ) (r : PlanAnswer) → Plan site table r table′ → RefusedElse (planGiven r .number) → table′ ≡ table
+  pub change-load : (site site′ : Site) (cell load : ℕ) (table table′ : List ℕ) (r : ChangeAnswer) → ChangeLoad site cell load table r site′ table′
+      → RefusedElse (changeGiven r .number) → (site′ ≡ site) × (table′ ≡ table)
+  pub changed-load : (site : Site) (cell load : ℕ) (table table′ : List ℕ) (r : Changed) → ChangedLoad site cell load table r table′
+      → RefusedElse (changeGiven (r .answer) .number) → (r .site ≡ site) × (table′ ≡ table)
   pub plan-words : (site : Site) (words words′ : List ℕ) (r : PlanAnswer) → PlanWords site words r words′ → RefusedElse (planGiven r .number) → words′ ≡ words
   pub to-words : (site : Site) (table words words′ : List ℕ) (r : FormAnswer) → ToWords site table words r words′
       → Refused (formGiven r .number) → words′ ≡ words
@@ -87,6 +103,8 @@ pub record Untouched : Type 0 where
 
 pub record UntouchedInC : Type 0 where
   pub plan : (site : Site) (table table′ : List ℕ) (r : Answer) → DuggPlan site table r table′ → RefusedElse (r .number) → table′ ≡ table
+  pub change-load : (site site′ : Site) (cell load : ℕ) (table table′ : List ℕ) (r : Answer) → DuggChangeLoad site cell load table r site′ table′
+      → RefusedElse (r .number) → (site′ ≡ site) × (table′ ≡ table)
   pub plan-words : (site : Site) (words words′ : List ℕ) (r : Answer) → DuggPlanWords site words r words′ → RefusedElse (r .number) → words′ ≡ words
   pub to-words : (site : Site) (table words words′ : List ℕ) (r : Answer) → DuggToWords site table words r words′ → Refused (r .number) → words′ ≡ words
   pub to-bytes : (site : Site) (words table table′ : List ℕ) (r : Answer) → DuggToBytes site words table r table′ → Refused (r .number) → table′ ≡ table

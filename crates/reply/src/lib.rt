@@ -1,5 +1,6 @@
-// How a program answers the script `duggfrask`, whose head says what stands on which descriptor: the result on standard output, words on standard error,
-// and the status, one byte, on descriptor 3. What is written is no value, so these functions have no contract but that they are safe.
+// How a program answers the script `duggfrask`, whose head says what stands on which descriptor: the result on standard output and a second one on
+// descriptor 5, words on standard error, and the status, one byte, on descriptor 3. What is written is no value, so these functions have no contract but that
+// they are safe.
 use inputs::Input;
 use libc::STDERR_FILENO;
 use libc::STDOUT_FILENO;
@@ -7,6 +8,8 @@ ghost use Prim.Native.Nat.{_≤_};
 ghost use lib.ListN.{length};
 
 const STATUS: i32 = 3;
+
+const SECOND_RESULT: i32 = 5;
 
 // As much of a buffer as there is.
 fn within(end: usize, buffer: &[u8]) -> usize
@@ -27,6 +30,11 @@ fn put(fd: i32, buffer: &[u8], end: usize) -> bool {
 // The first bytes of a buffer, as a part of the result; whether all of them were written.
 pub fn result(bytes: &[u8], end: usize) -> bool {
     put(STDOUT_FILENO, bytes, end)
+}
+
+// The first bytes of a buffer, as the second result, of a command that has two; whether all of them were written.
+pub fn second_result(bytes: &[u8], end: usize) -> bool {
+    put(SECOND_RESULT, bytes, end)
 }
 
 // The first bytes of a buffer, as words; whether all of them were written.

@@ -7,10 +7,10 @@ use Rattle.say_refusals.specs.Lines.{refusalMeanings, refusalHeads}
 use Rattle.say_refusals.specs.Said.{meaning, refusedLine}
 use Rattle.say_refusals.specs.declared.Place.the-variants.{Nowhere, Byte, PlanByte, Line, Cell, Flow, Position}
 
--- of a record, a flow's cell, a table, a numbering and a search
+-- of a record, a flow's cell, a table, a numbering, a search and a change of a load
 records-said :
     refusedLine 1 Nowhere ∷ refusedLine 2 (Cell 5) ∷ refusedLine 2 (Flow 7) ∷ refusedLine 3 (Cell 4) ∷ refusedLine 4 Nowhere
-    ∷ refusedLine 20 (Position 6) ∷ refusedLine 23 Nowhere ∷ refusedLine 24 Nowhere ∷ refusedLine 25 Nowhere ∷ []
+    ∷ refusedLine 20 (Position 6) ∷ refusedLine 23 Nowhere ∷ refusedLine 24 Nowhere ∷ refusedLine 25 Nowhere ∷ refusedLine 26 Nowhere ∷ []
     ≡ bytes "refused 1: the size is out of range: a site has 1 to 32 cells, 1 to 128 slots and 1 to 16 channels\n"
     ∷ bytes "refused 2, cell 5: a load or a flow is for a cell that the site does not have\n"
     ∷ bytes "refused 2, flow 7: a load or a flow is for a cell that the site does not have\n"
@@ -19,7 +19,8 @@ records-said :
     ∷ bytes "refused 20, position 6: a blocked position is one that the site does not have: its slots and channels end before it\n"
     ∷ bytes "refused 23: no numbering makes the site nested when all its cells count, the spare ones too\n"
     ∷ bytes "refused 24: the rule is not 1 or 2, or not 2 where a site file says it\n"
-    ∷ bytes "refused 25: too large to search: the site has more than 64 open positions or more than 24 fragments in all\n" ∷ []
+    ∷ bytes "refused 25: too large to search: the site has more than 64 open positions or more than 24 fragments in all\n"
+    ∷ bytes "refused 26: the table is not the plan of the site as it is, so that one load can't be changed in it\n" ∷ []
 unfolding refusalMeanings refusalHeads meaning refusedLine spoken decimal digitsOf
 records-said = refl
 

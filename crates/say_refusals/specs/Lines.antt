@@ -33,6 +33,7 @@ refusalMeanings =
     ∷ "no numbering makes the site nested when all its cells count, the spare ones too\n"
     ∷ "the rule is not 1 or 2, or not 2 where a site file says it\n"
     ∷ "too large to search: the site has more than 64 open positions or more than 24 fragments in all\n"
+    ∷ "the table is not the plan of the site as it is, so that one load can't be changed in it\n"
     ∷ []
 
 -- the number, and the place

@@ -10,7 +10,7 @@ ghost use Rattle.say_refusals.specs.Said.{meaningPhrase, meaning, headPh
 ghost use Rattle.say_refusals.specs.Sentences.{sentenceIn, sentenceRoom};
 
 // The number of rows of meanings.
-const MEANINGS: usize = 26;
+const MEANINGS: usize = 27;
 
 const ALONE: usize = 0;
 
@@ -87,7 +87,8 @@ fn put_meaning(out: &mut [u8], at: usize, number: usize) -> usize
           the call was refused\n|\
           no numbering makes the site nested when all its cells count, the spare ones too\n|\
           the rule is not 1 or 2, or not 2 where a site file says it\n|\
-          too large to search: the site has more than 64 open positions or more than 24 fragments in all\n|",
+          too large to search: the site has more than 64 open positions or more than 24 fragments in all\n|\
+          the table is not the plan of the site as it is, so that one load can't be changed in it\n|",
         meaning_phrase(number),
     )
 }

@@ -1,6 +1,7 @@
 // Each answer of the product as a C caller gets it: document 01's number and its values.
 use admission::AdmitAnswer;
 use checker::CheckAnswer;
+use handheld::ChangeAnswer;
 use heaviest::HeaviestAnswer;
 use judges::ChainAnswer;
 use judges::ClassAnswer;
@@ -23,6 +24,7 @@ ghost use Rattle.judges.specs.Given.{loadGiven, chainGiven, classGiven, leastGi
 ghost use Rattle.heaviest.specs.Given.{heaviestGiven};
 ghost use Rattle.planner.specs.Given.{planGiven};
 ghost use Rattle.search.specs.Given.{searchGiven};
+ghost use Rattle.handheld.specs.Given.{changeGiven};
 ghost use Rattle.checker.specs.Given.{checkGiven};
 ghost use Rattle.wordtable.specs.Given.{formGiven};
 ghost use Rattle.mender.specs.Given.{mendGiven};
@@ -151,6 +153,18 @@ pub fn search_answer(said: SearchAnswer) -> Answer
         SearchAnswer::TooMany => give(25, 0, 0, 0),
         SearchAnswer::TableShort => give(4, 0, 0, 0),
         SearchAnswer::Refused(f) => fault_answer(f),
+    }
+}
+
+pub fn change_answer(said: ChangeAnswer) -> Answer
+    ensures { λ r. ⌜ r ≡ told (changeGiven said) ⌝ }
+{
+    match said {
+        ChangeAnswer::Done => give(0, 0, 0, 0),
+        ChangeAnswer::TableShort => give(4, 0, 0, 0),
+        ChangeAnswer::NotPlan => give(26, 0, 0, 0),
+        ChangeAnswer::NoRoom(cell, short) => give(5, cell, short, 0),
+        ChangeAnswer::Refused(f) => fault_answer(f),
     }
 }
 

@@ -1,6 +1,8 @@
 -- What a C caller is told of an edit and of a file that was read: the answer, and what comes beside it.
 use Rattle.site.specs.Given.{faultGiven}
 use Rattle.site.specs.declared.Edited.{Edited}
+use Rattle.handheld.specs.Given.{changeGiven}
+use Rattle.handheld.specs.declared.Changed.{Changed}
 use Rattle.records.specs.Given.{readGiven}
 use Rattle.sitefile.specs.declared.SiteRead.{SiteRead}
 use Rattle.planfile.specs.declared.PlanRead.{PlanRead}
@@ -13,6 +15,10 @@ use Rattle.toldfiles.specs.declared.PlanReadC.{PlanReadC}
 -- the site as the edit gave it, and the answer as told
 unfoldable pub toldEdited : Edited → EditedSite
 toldEdited e = record { site = e .site; answer = told (faultGiven (e .answer)) }
+
+-- the record as the change of a load left it, and the answer as told
+unfoldable pub toldChanged : Changed → EditedSite
+toldChanged e = record { site = e .site; answer = told (changeGiven (e .answer)) }
 
 -- the site as the read gave it, and the answer as told
 unfoldable pub toldSiteRead : SiteRead → EditedSite

@@ -1,4 +1,5 @@
 // The answers of the files and of the edits as a C caller gets them: document 01's number and its values, and the site that comes beside.
+use handheld::Changed;
 use planfile::PlanRead;
 use planfile::PlanWritten;
 use records::ReadAnswer;
@@ -9,6 +10,7 @@ use site::Edited;
 use site::Site;
 use sitefile::SiteRead;
 use told::Answer;
+use told::change_answer;
 use told::fault_answer;
 use told::give;
 ghost use mathlib.Core.Path.{_≡_};
@@ -16,7 +18,7 @@ ghost use Rattle.records.specs.Given.{readGiven, writtenGiven};
 ghost use Rattle.planfile.specs.Given.{planWrittenGiven};
 ghost use Rattle.sheet.specs.Given.{sheetGiven};
 ghost use Rattle.told.specs.Told.{told};
-ghost use Rattle.toldfiles.specs.Files.{toldEdited, toldSiteRead, toldPlanRead, toldSheetRead};
+ghost use Rattle.toldfiles.specs.Files.{toldEdited, toldChanged, toldSiteRead, toldPlanRead, toldSheetRead};
 
 // dugg_blocked: a set of blocked positions, position k in bit k % 64 of word k / 64.
 #[repr(C)]
@@ -88,6 +90,17 @@ pub fn edited_answer(e: Edited) -> EditedSite
     EditedSite {
         site,
         answer: fault_answer(f),
+    }
+}
+
+pub fn changed_site(e: Changed) -> EditedSite
+    ensures { λ r. ⌜ r ≡ toldChanged e ⌝ }
+{
+    let site = e.site;
+    let said = e.answer;
+    EditedSite {
+        site,
+        answer: change_answer(said),
     }
 }
 

@@ -96,6 +96,12 @@ pub fn no_room_beside(no: &Answer) -> String {
     )
 }
 
+/// Refusal 5 of a change of a load.
+pub fn no_room_with(no: &Answer) -> String {
+    let [cell, short, _] = no.value;
+    format!("refused 5, cell {cell}: with this load there is no room for {short} of its fragments\n")
+}
+
 /// Refusal 19, with the three cells that show it.
 pub fn not_nested((a, b, i): (usize, usize, usize)) -> String {
     let sentence = meaning(NUMBERS, 19);

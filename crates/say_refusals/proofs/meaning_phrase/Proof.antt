@@ -10,11 +10,11 @@ use Rattle.say_refusals.proofs.meaning_phrase.Tie as tie
 
 returns : tie.Need-returns
 unfolding refusalMeanings
-returns c = let e : ltb (c .before .args .number) (length refusalMeanings) ≡ true = lt-ltb _ 26 (c .if1 .taken) in rw e
+returns c = let e : ltb (c .before .args .number) (length refusalMeanings) ≡ true = lt-ltb _ 27 (c .if1 .taken) in rw e
 
 returns-2 : tie.Need-returns-2
 unfolding refusalMeanings
-returns-2 c = let e : ltb (c .before .args .number) (length refusalMeanings) ≡ false = le-ltb _ 26 (c .if1 .left) in rw e
+returns-2 c = let e : ltb (c .before .args .number) (length refusalMeanings) ≡ false = le-ltb _ 27 (c .if1 .left) in rw e
 
 pub meaning-phrase-spec : {M : Type 1} → statement M
 meaning-phrase-spec = tie.close (tie.spec returns returns-2)

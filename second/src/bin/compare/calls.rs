@@ -19,6 +19,7 @@ extern "C" {
     fn dugg_heaviest(site: Site) -> Answer;
     fn dugg_plan(site: Site, table: *mut u8, len: usize) -> Answer;
     fn dugg_search(site: Site, limit: u64, table: *mut u8, len: usize) -> Answer;
+    fn dugg_change_load(site: &mut Site, cell: u16, load: u16, table: *mut u8, len: usize) -> Answer;
     fn dugg_check(site: Site, table: *const u8, len: usize) -> Answer;
     fn dugg_share(slots: u16, burst: u16, period: u16) -> Answer;
     fn dugg_share_repeated(slots: u16, burst: u16, period: u16, repeats: u16) -> Answer;
@@ -51,6 +52,7 @@ pub struct Calls {
     pub heaviest: unsafe extern "C" fn(Site) -> Answer,
     pub plan: unsafe extern "C" fn(Site, *mut u8, usize) -> Answer,
     pub search: unsafe extern "C" fn(Site, u64, *mut u8, usize) -> Answer,
+    pub change_load: unsafe extern "C" fn(&mut Site, u16, u16, *mut u8, usize) -> Answer,
     pub check: unsafe extern "C" fn(Site, *const u8, usize) -> Answer,
     pub share: unsafe extern "C" fn(u16, u16, u16) -> Answer,
     pub share_repeated: unsafe extern "C" fn(u16, u16, u16, u16) -> Answer,
@@ -83,6 +85,7 @@ pub const LIBRARY: Calls = Calls {
     heaviest: dugg_heaviest,
     plan: dugg_plan,
     search: dugg_search,
+    change_load: dugg_change_load,
     check: dugg_check,
     share: dugg_share,
     share_repeated: dugg_share_repeated,
@@ -115,6 +118,7 @@ pub const SECOND: Calls = Calls {
     heaviest: second_heaviest,
     plan: second_plan,
     search: second_search,
+    change_load: second_change_load,
     check: second_check,
     share: second_share,
     share_repeated: second_share_repeated,

@@ -21,6 +21,7 @@ pub enum Call {
     Heaviest,
     Plan,
     Search,
+    ChangeLoad,
     Check,
     Share,
     ShareRepeated,
@@ -49,6 +50,8 @@ pub struct Case {
     pub numbers: [u16; 4],
     /// The limit of a search.
     pub limit: u64,
+    /// The record that is lent to be changed: the site, between guards.
+    pub record: Lent<Site>,
     /// What is lent to be read: a file, a sheet, or a table to check or to write.
     pub input: Lent<u8>,
     /// What is lent to be written: a table to plan, to mend or to read into, or a file's output.
@@ -68,6 +71,7 @@ pub struct Seen {
     pub site: Site,
     /// New numbers by old ones, and old ones by new ones.
     pub numbers: [[u16; 32]; 2],
+    pub record: Lent<Site>,
     pub input: Lent<u8>,
     pub output: Lent<u8>,
     pub flows: Lent<Flow>,
@@ -77,9 +81,9 @@ pub struct Seen {
 
 impl Case {
     pub fn of(call: Call, site: Site) -> Case {
-        let (input, output) = (Lent::none(), Lent::none());
+        let (record, input, output) = (Lent::none(), Lent::none(), Lent::none());
         let (flows, words, list) = (Lent::none(), Lent::none(), Lent::none());
-        Case { call, site, numbers: [0; 4], limit: 0, input, output, flows, words, list }
+        Case { call, site, numbers: [0; 4], limit: 0, record, input, output, flows, words, list }
     }
 
     /// The first few numbers of the call; the others stay 0.
@@ -90,6 +94,13 @@ impl Case {
 
     pub fn limit(mut self, limit: u64) -> Case {
         self.limit = limit;
+        self
+    }
+
+    /// Lends the record where it stands.
+    pub fn record(mut self, mark: u64) -> Case {
+        let guard = Site { cells: mark as u16, ..Site::default() };
+        self.record = Lent::between(&[self.site], [guard; 2], mark);
         self
     }
 
@@ -122,7 +133,7 @@ impl Case {
 
     /// Makes the call on copies of the lent parts.
     pub fn run(&self, calls: &Calls) -> Seen {
-        let (input, mut output) = (self.input.clone(), self.output.clone());
+        let (mut record, input, mut output) = (self.record.clone(), self.input.clone(), self.output.clone());
         let (flows, mut words, mut list) = (self.flows.clone(), self.words.clone(), self.list.clone());
         let (site, [x, y, z, w]) = (self.site, self.numbers);
         let (inp, ilen, out, olen) = (input.pointer(), input.len(), output.pointer_mut(), output.len());
@@ -144,6 +155,10 @@ impl Case {
                 Call::Heaviest => alone((calls.heaviest)(site)),
                 Call::Plan => alone((calls.plan)(site, out, olen)),
                 Call::Search => alone((calls.search)(site, self.limit, out, olen)),
+                Call::ChangeLoad => {
+                    let answer = (calls.change_load)(&mut *record.pointer_mut(), x, y, out, olen);
+                    (record.part()[0], answer)
+                }
                 Call::Check => alone((calls.check)(site, inp, ilen)),
                 Call::Share => alone((calls.share)(x, y, z)),
                 Call::ShareRepeated => alone((calls.share_repeated)(x, y, z, w)),
@@ -170,14 +185,17 @@ impl Case {
                 Call::Carry => alone((calls.carry)(site, inp, ilen, out, olen)),
             }
         };
-        Seen { answer, site, numbers, input, output, flows, words, list }
+        Seen { answer, site, numbers, record, input, output, flows, words, list }
     }
 
     /// Was all that may not be written left as it was: what is lent to be read, every guard, and what is lent to be
     /// written past the part that the answer speaks of?
     pub fn untouched(&self, seen: &Seen) -> bool {
         let read_only = self.input == seen.input && self.flows == seen.flows;
+        let (kept, changed) = (self.bytes_kept(seen), self.changes_record(seen));
         read_only
+            && seen.record.same_past(&self.record, changed as usize)
+            && seen.output.part()[..kept] == self.output.part()[..kept]
             && seen.output.same_past(&self.output, self.bytes_written(seen))
             && seen.words.same_past(&self.words, self.words_written(seen))
             && seen.list.same_past(&self.list, self.numbers_written(seen))
@@ -186,11 +204,25 @@ impl Case {
     /// How many bytes a call with this answer may write.
     fn bytes_written(&self, seen: &Seen) -> usize {
         match (self.call, seen.answer.number) {
-            (Call::Plan, 0 | 5) | (Call::ToBytes | Call::Mend | Call::Carry | Call::Search, 0) => self.site.table_len(),
+            (Call::Plan | Call::ChangeLoad, 0 | 5) | (Call::ToBytes | Call::Mend | Call::Carry | Call::Search, 0) => self.site.table_len(),
             (Call::ReadPlan, 0) => seen.site.table_len(),
             (Call::WriteSite | Call::WritePlan | Call::WriteSheet, 0) => seen.answer.value[0] as usize,
             _ => 0,
         }
+    }
+
+    /// How many bytes from the first on a call with this answer may not write: the rows of cells lower than the one whose load
+    /// changes.
+    fn bytes_kept(&self, seen: &Seen) -> usize {
+        match (self.call, seen.answer.number) {
+            (Call::ChangeLoad, 0) => (self.numbers[0] as usize - 1) * self.site.positions(),
+            _ => 0,
+        }
+    }
+
+    /// Does a call with this answer change the record where it stands?
+    fn changes_record(&self, seen: &Seen) -> bool {
+        self.call == Call::ChangeLoad && matches!(seen.answer.number, 0 | 5)
     }
 
     /// How many words a call with this answer may write.

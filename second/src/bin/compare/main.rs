@@ -13,6 +13,8 @@ mod case;
 mod files;
 mod heaviest_limits;
 mod lent;
+mod load_change_limits;
+mod load_changes;
 mod make;
 mod mend_limits;
 mod mends;
@@ -69,6 +71,7 @@ fn fixed(dir: &Path) -> ExitCode {
     blocked_limits::compare(&mut run);
     rule_limits::compare(&mut run);
     search_limits::compare(&mut run);
+    load_change_limits::compare(&mut run);
     println!("boundaries: {} cases", run.cases);
     let before = run.cases;
     spares::compare(&mut run);
@@ -91,6 +94,9 @@ fn fixed(dir: &Path) -> ExitCode {
     let before = run.cases;
     search_limits::every_small_site(&mut run);
     println!("small sites searched: {} cases", run.cases - before);
+    let before = run.cases;
+    load_change_limits::every_small_site(&mut run);
+    println!("small sites, each load changed: {} cases", run.cases - before);
     let before = run.cases;
     match samples::compare(&mut run, dir) {
         Ok(files) if files > 0 => println!("{files} sample files, cut and changed: {} cases", run.cases - before),

@@ -1,10 +1,12 @@
 //! Makes random cases: sites, tables, files and flows that are valid, nearly valid or damaged, so that every number is
 //! given often. Sites and tables are made in `sites`, files in `files`, range sheets in `sheets`, lists of flows in
-//! `admits`, tables of words in `word_tables`, tables to mend in `mends`, sites to renumber in `numberings`, sites to search in `searches`. 
+//! `admits`, tables of words in `word_tables`, tables to mend in `mends`, sites to renumber in `numberings`, sites to search in
+//! `searches`, changes of a load in `load_changes`.
 
 use crate::admits;
 use crate::case::{Call, Case};
 use crate::files::{plan_file, site_file};
+use crate::load_changes;
 use crate::mends;
 use crate::numberings;
 use crate::random::Random;
@@ -32,6 +34,7 @@ const CALLS: &[Call] = &[
     Call::Plan,
     Call::Search,
     Call::Search,
+    Call::ChangeLoad,
     Call::Check,
     Call::Check,
     Call::Share,
@@ -94,6 +97,7 @@ pub fn compare(run: &mut Run, random: &mut Random) {
         Call::Search => {
             run.compare(&searches::case(random));
         }
+        Call::ChangeLoad => load_changes::compare(run, random),
         _ => {
             let case = with_site(random, call).numbers_for(random);
             run.compare(&case);

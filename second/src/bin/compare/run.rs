@@ -8,7 +8,7 @@ use second::site::Site;
 #[derive(Default)]
 pub struct Run {
     pub cases: u64,
-    pub given: [u64; 26],
+    pub given: [u64; 27],
 }
 
 impl Run {
@@ -70,7 +70,7 @@ impl Run {
         self.compare(&write.output(&vec![0xA5; bytes.len() - 1], mark));
     }
 
-    /// Prints how often each number was given, and says whether each of 0 to 25 was.
+    /// Prints how often each number was given, and says whether each of 0 to 26 was.
     pub fn report(&self) -> bool {
         for (number, times) in self.given.iter().enumerate() {
             println!("number {number} was given {times} times");

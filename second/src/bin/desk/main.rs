@@ -44,7 +44,7 @@ fn wrong() -> Said {
 fn said(words: &[&str]) -> io::Result<Said> {
     let mut files = Vec::new();
     let count = match words.first() {
-        Some(&("check" | "mend" | "admit" | "carry")) => 2,
+        Some(&("check" | "mend" | "admit" | "carry" | "load")) => 2,
         Some(&"share") => 0,
         _ => 1,
     };
@@ -75,6 +75,16 @@ fn said(words: &[&str]) -> io::Result<Said> {
         ["admit", _, _] => desk::admit(file(0), file(1)),
         ["renumber", _] => desk::renumber(file(0)),
         ["carry", _, _] => desk::carry(file(0), file(1)),
+        ["load", _, _, cell, load, "-o", site, "-p", plan] => {
+            match desk::load(file(0), file(1), number(cell), number(load)) {
+                Ok(made) => {
+                    fs::write(site, made.site)?;
+                    fs::write(plan, made.plan)?;
+                    Ok(Done { result: Vec::new(), words: made.words })
+                }
+                Err(no) => Err(no),
+            }
+        }
         _ => return Ok(wrong()),
     }))
 }

@@ -1,0 +1,80 @@
+-- `replan::gather` meets its contract: before cell i, the words have the rows of the cells below i. Assumes nothing.
+use mathlib.Core.Path.{_≡_, refl, _∙_}
+use Prim.Native.Nat.{_-_, _≤_, _<_}
+use native.Mathlib.Omega.{arith}
+use lib.ListN.{length}
+use Rattle.laws.proofs.Bits.{one-shl}
+use Rattle.laws.proofs.Grid.{row-before}
+use Rattle.laws.proofs.Stores.{sets-long}
+use Rattle.replan.specs.Code.{Gathered}
+use Rattle.replan.proofs.Runs.{none-gathered, one-gathered}
+use borrow.Author.Needs.{needs}
+use Rattle.replan.proofs.gather.Statement.{statement}
+use Rattle.replan.proofs.gather.Tie as tie
+
+abbrev Inv-loop : tie.InvT-loop
+Inv-loop words₀ table n first i₀ words i = (i ≤ first) × (length words ≡ length words₀) × Gathered n i table words
+
+abbrev μ-loop : tie.MeasureT-loop
+μ-loop words₀ table n first i₀ words i = first - i
+
+loop-holds : tie.Need-loop-holds Inv-loop μ-loop
+loop-holds c = let s = c .before .before in (omega arith, refl, none-gathered (s .args .n) (s .args .table .now) (s .args .words .now) (s .pre .1))
+
+mul-add-row : tie.Need-mul-add-row Inv-loop μ-loop
+mul-add-row c = let s = c .before .before .before .before .before in omega (arith, row-before (s .args .n) (c .before .loop-test .taken), s .pre .0 .2)
+
+cast-add-row : tie.Need-cast-add-row Inv-loop μ-loop
+cast-add-row c = search needs
+
+shl-add-row : tie.Need-shl-add-row Inv-loop μ-loop
+shl-add-row c = search needs
+
+add-row-requires : tie.Need-add-row-requires Inv-loop μ-loop
+add-row-requires c κs =
+    let s = c .before .before .before .before .before in
+    (omega (arith, c .before .before .loop .inv .1, s .pre .0 .1), omega (arith, row-before (s .args .n) (c .before .loop-test .taken), s .pre .0 .2))
+
+add-i : tie.Need-add-i Inv-loop μ-loop
+add-i c = search needs
+
+loop-less : tie.Need-loop-less Inv-loop μ-loop
+loop-less c = search needs
+
+loop-again : tie.Need-loop-again Inv-loop μ-loop
+loop-again c =
+    let s = c .before .before .before .before .before .before .before .before in
+    let l = c .before .before .before .before .before .loop in
+    let r = c .before .before .add-row in
+    let low : l .i < s .args .first = c .before .before .before .before .loop-test .taken in (
+      omega arith,
+      sets-long _ (s .args .n) (l .words) (r .last .0) (r .ensures) ∙ l .inv .1,
+      one-gathered (s .args .n) (l .i) _ (s .args .table .now) (l .words) (r .last .0) (omega (arith, l .inv .1, s .pre .0 .1))
+          (one-shl (l .i) (omega (arith, s .pre .0 .0))) (l .inv .2) (r .ensures),
+    )
+
+same-length : tie.Need-same-length Inv-loop μ-loop
+same-length c = c .before .loop .inv .1
+
+returns : tie.Need-returns Inv-loop μ-loop
+returns c =
+    let l = c .before .loop in
+    let all : l .i ≡ c .before .before .before .before .args .first = omega (arith, c .loop-test .left, l .inv .0) in
+    rw all at (l .inv .2)
+
+pub gather-spec : {M : Type 1} → statement M
+gather-spec =
+    tie.close
+    (tie.spec
+    Inv-loop
+    μ-loop
+    loop-holds
+    mul-add-row
+    cast-add-row
+    shl-add-row
+    add-row-requires
+    add-i
+    loop-less
+    loop-again
+    same-length
+    returns)

@@ -1,0 +1,2 @@
+-- The definitions of crate `replan`, module by module.
+pub mod Code
