@@ -85,6 +85,23 @@ void print_head(const char *first, const char *const names[MAKERS], int columns)
 /* The times and ratios of a row. A time of 0 is a dash. */
 void print_times(const double best[MAKERS], int columns);
 
+/* A table with a row for each call on each site. */
+typedef struct {
+    const char *title, *note, *first;          /* its heading, the line below it, and the columns that come first */
+    int sites, calls;
+    bool (*has)(const maker *m, int call);     /* whether a maker has the call */
+    column_call *run;                          /* the job is a call_on */
+    void (*label)(int site, int call);         /* prints the columns that come first */
+    bool (*counts)(int site, int call);        /* whether the ratio to C -O3 counts for the worst */
+} call_table;
+
+typedef struct {
+    int site, call;
+} call_on;
+
+/* Times and prints the table, with every maker in it. The worst ratio to C -O3 of the rows that count. */
+double print_calls(const call_table *t);
+
 /* ---- the parts: agreement before the time, then the table ---- */
 
 int admit_agree(void);

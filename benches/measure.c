@@ -66,3 +66,25 @@ void print_times(const double best[MAKERS], int columns)
         print_number(best[m] == 0 ? 0 : best[LIBRARY] / best[m], 2);
     printf(" |\n");
 }
+
+double print_calls(const call_table *t)
+{
+    const char *names[MAKERS];
+    double best[MAKERS], worst = 0;
+    bool there[MAKERS];
+    for (int m = 0; m < MAKERS; m++)
+        names[m] = makers[m].name;
+    printf("\n### %s\n\n%s\n\n", t->title, t->note);
+    print_head(t->first, names, MAKERS);
+    for (int site = 0; site < t->sites; site++)
+        for (int call = 0; call < t->calls; call++) {
+            for (int m = 0; m < MAKERS; m++)
+                there[m] = t->has(&makers[m], call);
+            measure(t->run, &(call_on){site, call}, there, best);
+            t->label(site, call);
+            print_times(best, MAKERS);
+            if (t->counts(site, call) && best[LIBRARY] / best[C3] > worst)
+                worst = best[LIBRARY] / best[C3];
+        }
+    return worst;
+}

@@ -172,40 +172,36 @@ int blocked_agree(void)
 
 /* ---- the table ---- */
 
-typedef struct {
-    int operation;
-    const work *w;
-} job;
-
 static void call(int column, const void *of)
 {
     static left l;
-    const job *j = of;
-    run(&makers[column], j->operation, j->w, &l);
+    const call_on *j = of;
+    run(&makers[column], j->call, &works[j->site], &l);
+}
+
+static void label(int site, int operation)
+{
+    printf("| %s | %s; %s", operations[operation], works[site].name, works[site].half);
+}
+
+static bool counts(int site, int operation)
+{
+    return operation == PLAN || operation == CHECK;
 }
 
 void blocked_table(void)
 {
-    const char *names[MAKERS];
-    double worst = 0;
-    for (int m = 0; m < MAKERS; m++)
-        names[m] = makers[m].name;
-    printf("\n### Half of the site blocked\n\n");
-    printf("The loads are half of those above. Mending a valid table has the time of laying it out in it.\n\n");
-    print_head("Call | Site and what is blocked", names, MAKERS);
-    for (int k = 0; k < ROWS; k++)
-        for (int operation = 0; operation < OPERATIONS; operation++) {
-            const work *w = &works[k];
-            double best[MAKERS];
-            bool there[MAKERS];
-            for (int m = 0; m < MAKERS; m++)
-                there[m] = has(&makers[m], operation);
-            measure(call, &(job){operation, w}, there, best);
-            printf("| %s | %s; %s", operations[operation], w->name, w->half);
-            print_times(best, MAKERS);
-            if ((operation == PLAN || operation == CHECK) && best[LIBRARY] / best[C3] > worst)
-                worst = best[LIBRARY] / best[C3];
-        }
+    double worst = print_calls(&(call_table){
+        .title = "Half of the site blocked",
+        .note = "The loads are half of those above. Mending a valid table has the time of laying it out in it.",
+        .first = "Call | Site and what is blocked",
+        .sites = ROWS,
+        .calls = OPERATIONS,
+        .has = has,
+        .run = call,
+        .label = label,
+        .counts = counts,
+    });
     printf("\nWith half of the site blocked, plan and check are %s a quarter of C -O3: the worst ratio is %.2f.\n",
            worst <= 1.25 ? "within" : "NOT within", worst);
 }

@@ -180,40 +180,36 @@ int rules_agree(void)
 
 /* ---- the table ---- */
 
-typedef struct {
-    int operation;
-    const work *w;
-} job;
-
 static void call(int column, const void *of)
 {
     static left l;
-    const job *j = of;
-    run(&makers[column], j->operation, j->w, &l);
+    const call_on *j = of;
+    run(&makers[column], j->call, &works[j->site], &l);
+}
+
+static void label(int site, int operation)
+{
+    printf("| %s | %s", operations[operation], works[site].name);
+}
+
+static bool counts(int site, int operation)
+{
+    return (operation == PLAN || operation == CHECK) && works[site].table_len == MOST;
 }
 
 void rules_table(void)
 {
-    const char *names[MAKERS];
-    double worst = 0;
-    for (int m = 0; m < MAKERS; m++)
-        names[m] = makers[m].name;
-    printf("\n### Rule 2\n\n");
-    printf("Cells clash also when both reach a third cell. Clash is asked of cells 2 and 3.\n\n");
-    print_head("Call | Site", names, MAKERS);
-    for (int k = 0; k < ROWS; k++)
-        for (int operation = 0; operation < OPERATIONS; operation++) {
-            const work *w = &works[k];
-            double best[MAKERS];
-            bool there[MAKERS];
-            for (int m = 0; m < MAKERS; m++)
-                there[m] = has(&makers[m], operation);
-            measure(call, &(job){operation, w}, there, best);
-            printf("| %s | %s", operations[operation], w->name);
-            print_times(best, MAKERS);
-            if ((operation == PLAN || operation == CHECK) && w->table_len == MOST && best[LIBRARY] / best[C3] > worst)
-                worst = best[LIBRARY] / best[C3];
-        }
+    double worst = print_calls(&(call_table){
+        .title = "Rule 2",
+        .note = "Cells clash also when both reach a third cell. Clash is asked of cells 2 and 3.",
+        .first = "Call | Site",
+        .sites = ROWS,
+        .calls = OPERATIONS,
+        .has = has,
+        .run = call,
+        .label = label,
+        .counts = counts,
+    });
     printf("\nUnder rule 2, plan and check on the largest sites are %s a quarter of C -O3: the worst ratio is %.2f.\n",
            worst <= 1.25 ? "within" : "NOT within", worst);
 }

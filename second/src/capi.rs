@@ -4,7 +4,9 @@ use crate::admit::Flow;
 use crate::answer::{done, Answer, Outcome};
 use crate::share::{Fragments, Repeats, Share, Slots};
 use crate::site::{Positions, Site};
-use crate::{admit, checker, files, handheld, heaviest, judge, mender, numbering, planner, search, share, sheet, words};
+use crate::{
+    admit, checker, files, handheld, heaviest, judge, mender, numbering, planner, search, share, sheet, words,
+};
 
 #[repr(C)]
 #[derive(Clone, Copy, Debug, PartialEq, Eq)]
@@ -277,7 +279,13 @@ pub unsafe extern "C" fn second_to_bytes(
 /// # Safety
 /// `table` has `len` bytes, and the record does not lie in it.
 #[no_mangle]
-pub unsafe extern "C" fn second_change_load(site: &mut Site, cell: u16, load: u16, table: *mut u8, len: usize) -> Answer {
+pub unsafe extern "C" fn second_change_load(
+    site: &mut Site,
+    cell: u16,
+    load: u16,
+    table: *mut u8,
+    len: usize,
+) -> Answer {
     answer(handheld::change_load(site, cell as usize, load, lent_out(table, len)), |()| [])
 }
 

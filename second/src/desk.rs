@@ -23,8 +23,8 @@ use crate::site::{Positions, Site};
 pub use input::Input;
 use input::Kind;
 use wording::{
-    bad_list, change_line, counted, no_room, no_room_beside, no_room_with, not_nested, refused, sends_wrongly, sizes, wrong_flow,
-    tries, wrong_slots, Place,
+    bad_list, change_line, counted, no_room, no_room_beside, no_room_with, not_nested, refused, sends_wrongly, sizes,
+    tries, wrong_flow, wrong_slots, Place,
 };
 
 /// Of each input no more than this is looked at.
@@ -79,8 +79,7 @@ pub const TRIES_WITHOUT_A_NUMBER: u64 = 10_000_000;
 pub fn search(site_file: Input, limit: u64) -> Told {
     let site = site_in(site_file)?;
     let mut table = vec![0; site.table_len()];
-    let (end, made) =
-        search::search(&site, limit, &mut table).map_err(|no| refused(no.number, Place::Nowhere))?;
+    let (end, made) = search::search(&site, limit, &mut table).map_err(|no| refused(no.number, Place::Nowhere))?;
     match end {
         End::Plan => {
             let words = format!("planned after {}\n", tries(made));
@@ -160,7 +159,9 @@ pub fn load(site_file: Input, plan_file: Input, cell: u16, load: u16) -> Result<
     let (mut site, read) = site_and_table(site_file, plan_file)?;
     let mut table = vec![0; site.table_len()];
     let planned = planner::plan(&site, &mut table).is_ok();
-    if !planned || table.iter().zip(&read).any(|(&own, &read)| (own == planner::RESERVED) != (read == planner::RESERVED)) {
+    if !planned
+        || table.iter().zip(&read).any(|(&own, &read)| (own == planner::RESERVED) != (read == planner::RESERVED))
+    {
         // Then no table with these reservations is the plan.
         table.fill(planner::FORBIDDEN);
     }
@@ -348,7 +349,8 @@ mod tests {
         let no = |cell, with: u16, plan: &[u8]| load(file(&own), file(plan), cell, with).unwrap_err();
         let line = "refused 5, cell 5: with this load there is no room for 1 of its fragments\n";
         assert_eq!(no(2, 0, &planned), line);
-        let line = "refused 26: the table is not the plan of the site as it is, so that one load can't be changed in it\n";
+        let line =
+            "refused 26: the table is not the plan of the site as it is, so that one load can't be changed in it\n";
         assert_eq!(no(1, 1, &plan_of(&p6, &[0; 10])), line);
         let line = "refused 2, cell 6: a load or a flow is for a cell that the site does not have\n";
         assert_eq!(no(6, 1, &plan_of(&p6, &[0; 10])), line);

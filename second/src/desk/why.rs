@@ -274,7 +274,10 @@ searched: a plan exists, found after 10 tries (duggfrask search)
         let lines = why(&site);
         assert!(lines.ends_with("\nnot known: the search stopped at 1000000 tries\n"), "{lines}");
         let lines = why(&ring(5, 10, 5));
-        assert!(lines.ends_with("\nnot known: over 64 open positions or 24 fragments, which is too many to search\n"), "{lines}");
+        assert!(
+            lines.ends_with("\nnot known: over 64 open positions or 24 fragments, which is too many to search\n"),
+            "{lines}"
+        );
         // Full by two cells that clash: nothing is searched.
         let lines = why(&ring(5, 1, 1));
         assert!(!lines.contains("search"), "{lines}");

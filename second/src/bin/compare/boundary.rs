@@ -7,20 +7,14 @@ use crate::case::{Call, Case};
 use crate::run::Run;
 use second::site::{set_of, Site};
 
-pub const CELLS: [u16; 6] = [0, 1, 31, 32, 33, 65_535];
-pub const SLOTS: [u16; 6] = [0, 1, 127, 128, 129, 65_535];
-pub const CHANNELS: [u16; 6] = [0, 1, 15, 16, 17, 65_535];
+const CELLS: [u16; 6] = [0, 1, 31, 32, 33, 65_535];
+const SLOTS: [u16; 6] = [0, 1, 127, 128, 129, 65_535];
+const CHANNELS: [u16; 6] = [0, 1, 15, 16, 17, 65_535];
 const REPEATS: [u16; 7] = [0, 1, 2, 3, 4, 5, 65_535];
 const TABLE: usize = 65_536;
 
 pub fn compare(run: &mut Run) {
-    for cells in CELLS {
-        for slots in SLOTS {
-            for channels in CHANNELS {
-                every_call(run, cells, slots, channels);
-            }
-        }
-    }
+    every_size(|cells, slots, channels| every_call(run, cells, slots, channels));
     largest_sums(run);
     for period in [4, 5] {
         shares(run, 3, 3, period);
@@ -40,6 +34,37 @@ fn shares(run: &mut Run, slots: u16, burst: u16, period: u16) {
     for repeats in REPEATS {
         run.compare(&Case::of(Call::ShareRepeated, Site::default()).numbers([slots, burst, period, repeats]));
     }
+}
+
+/// Every number of cells, slots and channels at the limits of a site and next to them.
+fn every_size(mut each: impl FnMut(u16, u16, u16)) {
+    for cells in CELLS {
+        for slots in SLOTS {
+            for channels in CHANNELS {
+                each(cells, slots, channels);
+            }
+        }
+    }
+}
+
+/// A tunnel of each of these sizes.
+pub fn every_tunnel(mut each: impl FnMut(&Site)) {
+    every_size(|cells, slots, channels| each(&tunnel(cells, slots, channels)));
+}
+
+/// A site on one channel. Bit k of `clashes` is for the k-th pair of cells, by the lower cell and then the higher, and digit i
+/// of `loads`, to the base 3, is the load of cell i.
+pub fn small_site(cells: usize, slots: usize, mut clashes: u32, mut loads: u16) -> Site {
+    let mut site = Site::sized(cells, slots, 1);
+    for a in 0..cells {
+        site.loads[a] = loads % 3;
+        loads /= 3;
+        for b in a + 1..cells {
+            site.reach[a] |= (clashes % 2) << b;
+            clashes /= 2;
+        }
+    }
+    site
 }
 
 /// A tunnel in which each cell reaches the next, one way, and all the load that has room.

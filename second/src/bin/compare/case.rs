@@ -204,7 +204,9 @@ impl Case {
     /// How many bytes a call with this answer may write.
     fn bytes_written(&self, seen: &Seen) -> usize {
         match (self.call, seen.answer.number) {
-            (Call::Plan | Call::ChangeLoad, 0 | 5) | (Call::ToBytes | Call::Mend | Call::Carry | Call::Search, 0) => self.site.table_len(),
+            (Call::Plan | Call::ChangeLoad, 0 | 5) | (Call::ToBytes | Call::Mend | Call::Carry | Call::Search, 0) => {
+                self.site.table_len()
+            }
             (Call::ReadPlan, 0) => seen.site.table_len(),
             (Call::WriteSite | Call::WritePlan | Call::WriteSheet, 0) => seen.answer.value[0] as usize,
             _ => 0,

@@ -2,6 +2,7 @@
 //! and all but triples, each of 1 to 32 cells and with loads that are alike, rise, fall, double, or are the greatest; and
 //! every site of five cells with loads 0 to 2.
 
+use crate::boundary::small_site;
 use crate::case::{Call, Case};
 use crate::run::Run;
 use second::site::Site;
@@ -50,24 +51,10 @@ pub fn compare(run: &mut Run) {
     }
 }
 
-/// Bit k of `clashes` is for the k-th pair, and digit i of `loads`, to the base 3, is the load of a cell.
 pub fn every_small_site(run: &mut Run) {
     for clashes in 0..1 << 10 {
         for loads in 0..243 {
-            run.compare(&Case::of(Call::Heaviest, five_cells(clashes, loads)));
+            run.compare(&Case::of(Call::Heaviest, small_site(5, 2, clashes, loads)));
         }
     }
-}
-
-fn five_cells(mut clashes: u32, mut loads: u16) -> Site {
-    let mut site = Site::sized(5, 2, 1);
-    for a in 0..5 {
-        site.loads[a] = loads % 3;
-        loads /= 3;
-        for b in a + 1..5 {
-            site.reach[a] |= (clashes % 2) << b;
-            clashes /= 2;
-        }
-    }
-    site
 }

@@ -2,20 +2,14 @@
 //! and one byte long; cells that are not there; the desk examples P6 and P7; each byte of a plan changed to every value; and
 //! every change of every site of three cells on two positions.
 
-use crate::boundary::{tunnel, wrong_sites, CELLS, CHANNELS, SLOTS};
+use crate::boundary::{every_tunnel, small_site, tunnel, wrong_sites};
 use crate::case::{Call, Case};
 use crate::run::Run;
 use second::planner::plan;
 use second::site::{set_of, Site};
 
 pub fn compare(run: &mut Run) {
-    for cells in CELLS {
-        for slots in SLOTS {
-            for channels in CHANNELS {
-                every_length(run, &tunnel(cells, slots, channels));
-            }
-        }
-    }
+    every_tunnel(|site| every_length(run, site));
     desk(run);
     faults(run);
     every_byte(run);
@@ -37,7 +31,9 @@ fn planned(site: &Site) -> Vec<u8> {
 fn every_length(run: &mut Run, site: &Site) {
     let table = planned(site);
     let (own, last) = (site.loads[0], site.cells);
-    for (cell, load) in [(1, own), (1, own.wrapping_sub(1)), (last, 0), (last, 65_535), (0, 1), (last.wrapping_add(1), 1)] {
+    for (cell, load) in
+        [(1, own), (1, own.wrapping_sub(1)), (last, 0), (last, 65_535), (0, 1), (last.wrapping_add(1), 1)]
+    {
         change(run, site, cell, load, &table);
         change(run, site, cell, load, &table[..table.len().saturating_sub(1)]);
         change(run, site, cell, load, &[&table[..], &[9]].concat());
@@ -97,14 +93,12 @@ fn every_byte(run: &mut Run) {
     }
 }
 
-/// Bit k of `clashes` is for the k-th pair, and digit i of `loads`, to the base 3, is the load of a cell.
+/// Each site under either rule, with its own plan: 26 exactly where it has none.
 pub fn every_small_site(run: &mut Run) {
     for rule in [1, 2] {
         for clashes in 0..8 {
             for loads in 0..27 {
-                let mut site = Site { rule, ..Site::sized(3, 2, 1) };
-                site.loads[..3].copy_from_slice(&[loads % 3, loads / 3 % 3, loads / 9]);
-                site.reach[..2].copy_from_slice(&[(clashes & 3) << 1, clashes >> 2 << 2]);
+                let site = Site { rule, ..small_site(3, 2, clashes, loads) };
                 let table = planned(&site);
                 for cell in 1..=3 {
                     for load in 0..4 {

@@ -2,19 +2,13 @@
 //! 255; lists with room for no change, for all changes and for one less; loads above N; the tables of the desk
 //! examples; and every table of small sites.
 
-use crate::boundary::{tunnel, wrong_sites, CELLS, CHANNELS, SLOTS};
+use crate::boundary::{every_tunnel, tunnel, wrong_sites};
 use crate::case::{Call, Case};
 use crate::run::Run;
 use second::site::Site;
 
 pub fn compare(run: &mut Run) {
-    for cells in CELLS {
-        for slots in SLOTS {
-            for channels in CHANNELS {
-                every_length(run, &tunnel(cells, slots, channels));
-            }
-        }
-    }
+    every_tunnel(|site| every_length(run, site));
     desk(run);
     faults(run);
 }

@@ -1,6 +1,7 @@
 //! The search at its limits: no try, one, the largest number of tries; no fragments, 24 and 25; 64 and 65 open positions;
 //! all blocked; a load above the open positions; and every site of four cells with loads 0 to 2 on one to three positions.
 
+use crate::boundary::small_site;
 use crate::case::{Call, Case};
 use crate::run::Run;
 use second::search::search;
@@ -52,31 +53,19 @@ fn ask(run: &mut Run, site: Site, limit: u64) {
     }
 }
 
-/// Each site with the tries that it needs, one less and one more. Bit k of `clashes` is for the k-th pair, and digit i of
-/// `loads`, to the base 3, is the load of a cell.
+/// Each site with the tries that it needs, one less and one more.
 pub fn every_small_site(run: &mut Run) {
     for slots in 1..=3 {
         for clashes in 0..64 {
             for loads in 0..81 {
-                let site = four_cells(slots, clashes, loads);
+                let site = small_site(4, slots, clashes, loads);
                 let Ok((_, tries)) = search(&site, u64::MAX, &mut vec![0; site.table_len()]) else { continue };
                 for limit in [tries.saturating_sub(1), tries, tries + 1] {
-                    run.compare(&Case::of(Call::Search, site).limit(limit).output(&vec![0x5A; site.table_len()], tries));
+                    run.compare(
+                        &Case::of(Call::Search, site).limit(limit).output(&vec![0x5A; site.table_len()], tries),
+                    );
                 }
             }
         }
     }
-}
-
-fn four_cells(slots: usize, mut clashes: u32, mut loads: u16) -> Site {
-    let mut site = Site::sized(4, slots, 1);
-    for a in 0..4 {
-        site.loads[a] = loads % 3;
-        loads /= 3;
-        for b in a + 1..4 {
-            site.reach[a] |= (clashes % 2) << b;
-            clashes /= 2;
-        }
-    }
-    site
 }

@@ -24,7 +24,8 @@ pub fn case(random: &mut Random) -> Case {
 /// A site with few fragments in all and a few open positions.
 fn small(random: &mut Random) -> Site {
     let cells = random.between(1, 12);
-    let (slots, channels) = random.pick(&[(1, 1), (2, 1), (2, 2), (3, 1), (3, 2), (5, 1), (8, 2), (64, 1), (13, 5), (128, 1)]);
+    let (slots, channels) =
+        random.pick(&[(1, 1), (2, 1), (2, 2), (3, 1), (3, 2), (5, 1), (8, 2), (64, 1), (13, 5), (128, 1)]);
     let mut site = Site::sized(cells, slots, channels);
     let clash_in = random.pick(&[1, 2, 2, 3, 6]);
     for a in 0..cells {

@@ -2,18 +2,15 @@
 //! whatever clashes, so that a spare stands as a, as b and as c and all cells are spare too; and tunnels of 32 cells with
 //! few spares and with many.
 
-use crate::boundary::tunnel;
+use crate::boundary::{small_site, tunnel};
 use crate::case::{Call, Case};
 use crate::run::Run;
 use second::site::Site;
 
-/// The pairs of four cells, lower cell first, both counted from 0.
-const PAIRS: [(usize, usize); 6] = [(0, 1), (0, 2), (0, 3), (1, 2), (1, 3), (2, 3)];
-
 pub fn compare(run: &mut Run) {
     for clashes in 0..64 {
         for loads in 0..81 {
-            verdicts(run, four_cells(clashes, loads));
+            verdicts(run, small_site(4, 2, clashes, loads));
         }
     }
     for apart in 1..=32 {
@@ -28,18 +25,6 @@ fn verdicts(run: &mut Run, site: Site) {
     for call in [Call::LoadTest, Call::Chain, Call::Class, Call::Least, Call::Heaviest] {
         run.compare(&Case::of(call, site));
     }
-}
-
-/// Bit k of `clashes` is for pair k, and digit i of `loads`, to the base 3, is the load of cell i.
-pub fn four_cells(clashes: usize, loads: u16) -> Site {
-    let mut site = Site::sized(4, 2, 1);
-    for (k, (a, b)) in PAIRS.into_iter().enumerate() {
-        site.reach[a] |= ((clashes >> k & 1) as u32) << b;
-    }
-    for i in 0..4 {
-        site.loads[i] = loads / 3u16.pow(i as u32) % 3;
-    }
-    site
 }
 
 /// The largest tunnel, each cell reaching the next two, with load 0 in some cells.

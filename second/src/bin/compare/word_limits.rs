@@ -1,20 +1,13 @@
 //! Tables of words at their limits: every size around the largest site, one word or one byte too few, words and bytes past
 //! the site's part, bits above the last cell, all bits set, bytes of every value, every small site; and there and back.
 
-use crate::boundary::{tunnel, wrong_sites, CELLS, CHANNELS, SLOTS};
+use crate::boundary::{every_tunnel, small_site, tunnel, wrong_sites};
 use crate::case::{Call, Case};
 use crate::run::Run;
-use crate::spares::four_cells;
 use second::site::Site;
 
 pub fn compare(run: &mut Run) {
-    for cells in CELLS {
-        for slots in SLOTS {
-            for channels in CHANNELS {
-                every_length(run, &tunnel(cells, slots, channels));
-            }
-        }
-    }
+    every_tunnel(|site| every_length(run, site));
     for cells in 1..=32 {
         bits(run, cells);
     }
@@ -78,7 +71,7 @@ fn every_byte(run: &mut Run) {
 fn every_small_site(run: &mut Run) {
     for clashes in 0..64 {
         for loads in 0..81 {
-            let site = four_cells(clashes, loads);
+            let site = small_site(4, 2, clashes, loads);
             let planned = run.compare(&Case::of(Call::PlanWords, site).words(&[0xFFFF_FFFF; 3], 5));
             run.compare(&Case::of(Call::CheckWords, site).words(planned.words.part(), 6));
         }
