@@ -31,6 +31,7 @@ typedef struct {
     dugg_answer (*write_sheet)(dugg_site, uint8_t *, size_t);
     dugg_answer (*share_repeated)(uint16_t, uint16_t, uint16_t, uint16_t);
     dugg_answer (*admit)(dugg_site, const dugg_flow *, size_t);
+    dugg_answer (*admit_beside)(dugg_site, const dugg_flow *, size_t);
     dugg_answer (*plan_words)(dugg_site, uint32_t *, size_t);
     dugg_answer (*check_words)(dugg_site, const uint32_t *, size_t);
     dugg_answer (*to_words)(dugg_site, const uint8_t *, size_t, uint32_t *, size_t);
@@ -41,7 +42,10 @@ typedef struct {
     dugg_answer (*carry)(dugg_site, const uint8_t *, size_t, uint8_t *, size_t);
     dugg_answer (*clash)(dugg_site, uint16_t, uint16_t);
     dugg_answer (*search)(dugg_site, uint64_t, uint8_t *, size_t);
+    dugg_answer (*find)(dugg_site, uint64_t, uint8_t *, size_t);
+    dugg_answer (*over_full)(dugg_site, uint32_t);
     dugg_answer (*change_load)(dugg_site *, uint16_t, uint16_t, uint8_t *, size_t);
+    dugg_answer (*tidy)(const uint8_t *, size_t, uint8_t *, size_t);
 } maker;
 
 extern const maker makers[MAKERS];
@@ -116,6 +120,10 @@ int number_agree(void);
 void number_table(void);
 int search_agree(void);
 void search_table(void);
+int find_agree(void);
+void find_table(void);
+int tidy_agree(void);
+void tidy_table(void);
 int handheld_agree(void);
 void handheld_table(void);
 int blocked_agree(void);

@@ -13,8 +13,10 @@ static const int sites[SITES] = {P1, MIDDLE_TUNNEL, MIDDLE_ALL, TUNNEL, ALL_CLAS
 #define MAKER(name, P)                                                                                                \
     {name,              P##plan,       P##check,      P##load_test,   P##chain,      P##class,       P##least,        \
      P##read_site,      P##write_site, P##read_plan,  P##write_plan,  P##read_sheet, P##write_sheet,                  \
-     P##share_repeated, P##admit,      P##plan_words, P##check_words, P##to_words,   P##to_bytes,                     \
-     P##mend,           P##heaviest,   P##renumber,   P##carry,       P##clash,      P##search,      P##change_load}
+     P##share_repeated, P##admit,      P##admit_beside,                                                               \
+     P##plan_words,     P##check_words, P##to_words,  P##to_bytes,                                                    \
+     P##mend,           P##heaviest,   P##renumber,   P##carry,       P##clash,      P##search,      P##find,         \
+     P##over_full,      P##change_load, P##tidy}
 
 const maker makers[MAKERS] = {
     [LIBRARY] = MAKER("library", dugg_),
@@ -284,7 +286,7 @@ int main(void)
         fine &= agree(&w[k]) & agree_when_wrong(&w[k]);
     }
     fine &= admit_agree() & words_agree() & mend_agree() & heaviest_agree() & number_agree() & blocked_agree() & rules_agree() & search_agree() &
-            handheld_agree();
+            find_agree() & handheld_agree() & tidy_agree();
     if (!fine)
         return 1;
     printf("All gave the same answers and the same bytes on these inputs before they were timed.\n");
@@ -297,9 +299,11 @@ int main(void)
     heaviest_table();
     number_table();
     search_table();
+    find_table();
     handheld_table();
     blocked_table();
     rules_table();
+    tidy_table();
     printf("\nPlan and check on the largest sites are %s a quarter of C -O3: the worst ratio is %.2f.\n",
            worst[C3] <= 1.25 ? "within" : "NOT within", worst[C3]);
     printf("\nReading and writing the sheets of the largest sites take %s twice the time of C -O3: the worst ratio is %.2f.\n",

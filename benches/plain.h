@@ -18,6 +18,8 @@
     dugg_answer P##heaviest(dugg_site site);                                                                          \
     dugg_answer P##plan(dugg_site site, uint8_t *table, size_t len);                                                  \
     dugg_answer P##search(dugg_site site, uint64_t limit, uint8_t *table, size_t len);                                \
+    dugg_answer P##find(dugg_site site, uint64_t limit, uint8_t *table, size_t len);                                  \
+    dugg_answer P##over_full(dugg_site site, uint32_t cells);                                                         \
     dugg_answer P##change_load(dugg_site *site, uint16_t cell, uint16_t load, uint8_t *table, size_t len);            \
     dugg_answer P##check(dugg_site site, const uint8_t *table, size_t len);                                           \
     dugg_answer P##share(uint16_t slots, uint16_t burst, uint16_t period);                                            \
@@ -29,7 +31,9 @@
     dugg_edited P##read_sheet(const uint8_t *bytes, size_t len, uint16_t slots, uint16_t channels,                    \
                               dugg_blocked blocked, uint16_t rule);                                                   \
     dugg_answer P##write_sheet(dugg_site site, uint8_t *out, size_t len);                                             \
+    dugg_answer P##tidy(const uint8_t *sheet, size_t len, uint8_t *out, size_t out_len);                              \
     dugg_answer P##admit(dugg_site site, const dugg_flow *flows, size_t count);                                       \
+    dugg_answer P##admit_beside(dugg_site site, const dugg_flow *flows, size_t count);                                \
     dugg_answer P##plan_words(dugg_site site, uint32_t *words, size_t count);                                         \
     dugg_answer P##check_words(dugg_site site, const uint32_t *words, size_t count);                                  \
     dugg_answer P##to_words(dugg_site site, const uint8_t *table, size_t len, uint32_t *words, size_t count);         \
@@ -48,9 +52,10 @@
 DECLARE(PREFIX)
 #endif
 
-/* The C on bit sets has these two, and the C that tries all sets of flows has this one. */
+/* The C on bit sets has these two, and the C that tries all sets of flows has the last two. */
 dugg_answer bits_plan(dugg_site site, uint8_t *table, size_t len);
 dugg_answer bits_check(dugg_site site, const uint8_t *table, size_t len);
 dugg_answer sets_admit(dugg_site site, const dugg_flow *flows, size_t count);
+dugg_answer sets_admit_beside(dugg_site site, const dugg_flow *flows, size_t count);
 
 #endif

@@ -43,21 +43,35 @@ static found search(const search_in *in, unsigned k, uint32_t set, uint32_t wort
     return over ? best : search(in, k, set | 1u << k, worth + in->value[k], rest, next, best);
 }
 
-dugg_answer NAME(admit)(dugg_site site, const dugg_flow *flows, size_t count)
+/* On top of the site's loads, whose demands are used from the start, or with these set aside. */
+static dugg_answer searched(dugg_site site, bool beside, const dugg_flow *flows, size_t count)
 {
     dugg_answer f = fault(&site);
     if (f.number != 0)
         return f;
-    uint32_t mask[CELLS], none[CELLS] = {0}, rest = 0;
+    uint32_t mask[CELLS], start[CELLS], used[CELLS] = {0}, rest = 0;
     flow_list list;
     search_in in;
     clash_masks(&site, mask);
-    f = read_flows(&site, mask, flows, count, &list);
+    start_of(&site, beside, start);
+    in.room = room_of(&site);
+    f = read_flows(&site, start, mask, in.room, flows, count, &list);
     if (f.number != 0)
         return f;
-    in.room = room_of(&site);
+    for (unsigned i = 0; beside && i < site.cells; i++)
+        used[i] = demand_of(start, mask, i);
     weigh(&in, &list, mask);
     for (unsigned k = 0; k < list.count; k++)
         rest += list.value[k];
-    return answer(0, search(&in, list.count, 0, 0, rest, none, (found){0, 0}).set, 0, 0);
+    return answer(0, search(&in, list.count, 0, 0, rest, used, (found){0, 0}).set, 0, 0);
+}
+
+dugg_answer NAME(admit)(dugg_site site, const dugg_flow *flows, size_t count)
+{
+    return searched(site, false, flows, count);
+}
+
+dugg_answer NAME(admit_beside)(dugg_site site, const dugg_flow *flows, size_t count)
+{
+    return searched(site, true, flows, count);
 }

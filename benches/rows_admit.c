@@ -3,18 +3,21 @@
 #include <string.h>
 #include "bench.h"
 
-enum { FLOWS = 16, LISTS = 200, ROWS = 6 };
+enum { FLOWS = 16, LISTS = 200, ROWS = 7 };
 
-/* A site and a list of flows for it. */
+/* A site and a list of flows for it, on top of its loads or with these set aside. */
 typedef struct {
     const char *name;
     dugg_site site;
     dugg_flow flows[FLOWS + 1];
     size_t count;
+    bool beside;
 } offer;
 
 static dugg_answer admit(int column, const offer *o)
 {
+    if (o->beside)
+        return (column == BITS ? sets_admit_beside : makers[column].admit_beside)(o->site, o->flows, o->count);
     return (column == BITS ? sets_admit : makers[column].admit)(o->site, o->flows, o->count);
 }
 
@@ -38,11 +41,14 @@ static void draw(offer *o, uint64_t *seed, unsigned most_share)
     }
 }
 
-/* Of 200 lists, the one that takes the library longest. */
+/* Of 200 lists, the one that takes the library longest. A running site has a load in every cell, about a fifth of the room in a cell
+ * and the three before it. */
 static void draw_hardest(offer *o, unsigned width, unsigned most_share)
 {
     size(&o->site, 32, 128, 16);
     tunnel(&o->site, width);
+    for (unsigned i = 0; o->beside && i < 32; i++)
+        o->site.loads[i] = 64 + i;
     uint64_t seed = 2015 + width;
     double longest = 0;
     offer tried = *o;
@@ -76,6 +82,9 @@ static void make_offers(offer o[ROWS])
     o[4].name = "32 cells, none clash, 16 flows";
     draw_hardest(&o[4], 0, 4096);
 
+    o[6] = (offer){.name = "the same tunnel, 16 flows on top of its loads", .beside = true};
+    draw_hardest(&o[6], 3, 2048);
+
     /* Each set in turn is the best so far, so that none can be left out. */
     o[5] = (offer){.name = "32 cells, none clash, 16 flows, values double", .count = FLOWS};
     size(&o[5].site, 32, 128, 16);
@@ -101,13 +110,15 @@ static int agree(const offer *o)
 
 static offer offers[ROWS];
 
-/* The lists, and each made wrong: a flow too many, a cell that is not there, no repeats, a site that is not nested. */
+/* The lists, and each made wrong: a load above the room, a flow too many, a cell that is not there, no repeats, a site that is not nested. */
 int admit_agree(void)
 {
     int fine = 1;
     make_offers(offers);
     for (int k = 0; k < ROWS; k++) {
         offer wrong = offers[k];
+        fine &= agree(&wrong);
+        wrong.site.loads[1] = 65535;
         fine &= agree(&wrong);
         wrong.flows[1].repeats = 0;
         fine &= agree(&wrong);
@@ -137,7 +148,7 @@ void admit_table(void)
     for (int k = 0; k < ROWS; k++) {
         double best[MAKERS];
         measure(call, &offers[k], there, best);
-        printf("| admit | %s", offers[k].name);
+        printf("| %s | %s", offers[k].beside ? "admit beside" : "admit", offers[k].name);
         print_times(best, MAKERS);
         if (offers[k].count == FLOWS && best[LIBRARY] / best[C3] > worst)
             worst = best[LIBRARY] / best[C3];

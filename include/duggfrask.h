@@ -8,7 +8,8 @@
  *    3  a reach row or bit beyond the last cell, or of a cell to itself (value: lowest row); or an edit or a pair that
  *       names a cell that is not there, or one cell twice (in an edit the value is its "from")
  *    4  the lent table is too short, or too few words are lent; blocked positions count as open ones do
- *    5  the planner, or the mender, finds no room (values: cell, fragments short)
+ *    5  the planner, or the mender, finds no room, or flows are to come on top of loads that are too much (values: cell,
+ *       fragments short)
  *    6  two clashing cells transmit at one position (values: position, first cell, second cell)
  *    7  a cell has the wrong number of reservations (values: cell, its count)
  *    8  the file ends inside a record, or before one that is due
@@ -137,6 +138,20 @@ dugg_answer dugg_plan(dugg_site site, uint8_t *table, size_t len);
  * a plan, a "none exists" or its tries. */
 dugg_answer dugg_search(dugg_site site, uint64_t limit, uint8_t *table, size_t len);
 
+/* Finds a plan of the site by any proved way, or says why there is none: the planner; then the heaviest clash, where its
+ * load is above the open positions; then the cells in new numbers, as dugg_renumber finds them; then the search, with at
+ * most `limit` tries. Done: value[0] is 0 for a plan, 1 where none exists, 2 where it is not known; value[1] says by which
+ * way: 0 the planner, 1 a set of cells that is over, 2 in new numbers, 3 the search; value[2] is the set as a word, or the
+ * tries of the search (0 where it is too large for it), or 0. The planner's plan is as dugg_plan writes it, any other is 1s
+ * and 0s, in the first cells * slots * channels bytes of the table; on 1 and 2 they are 0. The table needs that many bytes
+ * (refusal 4). A larger limit never alters a plan or a "none exists". */
+dugg_answer dugg_find(dugg_site site, uint64_t limit, uint8_t *table, size_t len);
+
+/* Are these cells over: do they clash with one another, and are their loads above the open positions? Bit i - 1 of `cells`
+ * is for cell i. Done: value[0] is 1 where they are, and then no plan exists, else 0; value[1] is their load. Cells that the
+ * site does not have are not over, and add no load. */
+dugg_answer dugg_over_full(dugg_site site, uint32_t cells);
+
 /* Is the finished table valid for the site? A byte that is 1 means transmit, any other is silence. Refusal 22 comes first
  * and gives the lowest blocked position where a cell transmits, and the lowest such cell; refusal 6 the lowest position
  * with a clash and the two cells; refusal 7 the lowest cell with a wrong count, and its count. */
@@ -206,6 +221,11 @@ dugg_answer dugg_share_repeated(uint16_t slots, uint16_t burst, uint16_t period,
  * flow's 2 has the same number as the record's: dugg_fault tells which it is. */
 dugg_answer dugg_admit(dugg_site site, const dugg_flow *flows, size_t count);
 
+/* The same on top of the loads that the site has, as on a running site: the shares of the set and the site's own loads, summed
+ * by cell, pass the load test. Refusals: dugg_admit's, and after 19, before the flows, 5 with the lowest cell that is over by
+ * the loads alone and by how much; then no set is allowed, not even the empty one. */
+dugg_answer dugg_admit_beside(dugg_site site, const dugg_flow *flows, size_t count);
+
 /* Reads a site file. */
 dugg_edited dugg_read_site(const uint8_t *bytes, size_t len);
 
@@ -232,6 +252,12 @@ dugg_edited dugg_read_sheet(const uint8_t *bytes, size_t len, uint16_t slots, ui
 /* Writes the range sheet of a site; the blocked positions and the rule are not in it. Done: value[0] is the number of bytes
  * written; bytes past those are not touched. */
 dugg_answer dugg_write_sheet(dugg_site site, uint8_t *out, size_t len);
+
+/* Makes a sheet as spreadsheets write it into the form that dugg_read_sheet asks: LF to CR LF, the byte order mark dropped,
+ * semicolons or tabs to commas, quotes and blanks around a field dropped, an empty mark to 0 and an x to 1, the last line's
+ * end added. A sheet in that form is left as it is. Done: value[0] is the size of the tidied sheet; bytes past it are not
+ * touched. Refusal 17 gives the first line that can't be tidied, then 13 the bytes needed; no refusal writes. */
+dugg_answer dugg_tidy(const uint8_t *sheet, size_t len, uint8_t *out, size_t out_len);
 
 #ifdef __cplusplus
 }

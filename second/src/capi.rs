@@ -5,7 +5,8 @@ use crate::answer::{done, Answer, Outcome};
 use crate::share::{Fragments, Repeats, Share, Slots};
 use crate::site::{Positions, Site};
 use crate::{
-    admit, checker, files, handheld, heaviest, judge, mender, numbering, planner, search, share, sheet, words,
+    admit, checker, files, find, handheld, heaviest, judge, mender, numbering, planner, search, share, sheet, tidy,
+    words,
 };
 
 #[repr(C)]
@@ -152,6 +153,21 @@ pub unsafe extern "C" fn second_search(site: Site, limit: u64, table: *mut u8, l
 /// # Safety
 /// `table` has `len` bytes.
 #[no_mangle]
+pub unsafe extern "C" fn second_find(site: Site, limit: u64, table: *mut u8, len: usize) -> Answer {
+    match find::find(&site, limit, lent_out(table, len)) {
+        Ok(found) => found.answer(),
+        Err(refusal) => refusal,
+    }
+}
+
+#[no_mangle]
+pub extern "C" fn second_over_full(site: Site, cells: u32) -> Answer {
+    answer(find::over_full(&site, cells), |(over, load)| [over as u64, load])
+}
+
+/// # Safety
+/// `table` has `len` bytes.
+#[no_mangle]
 pub unsafe extern "C" fn second_check(site: Site, table: *const u8, len: usize) -> Answer {
     answer(checker::check(&site, lent(table, len)), |()| [])
 }
@@ -230,10 +246,24 @@ pub unsafe extern "C" fn second_write_sheet(site: Site, out: *mut u8, len: usize
 }
 
 /// # Safety
+/// `sheet` has `len` bytes, `out` has `out_len`, and they do not overlap.
+#[no_mangle]
+pub unsafe extern "C" fn second_tidy(sheet: *const u8, len: usize, out: *mut u8, out_len: usize) -> Answer {
+    answer(tidy::tidy(lent(sheet, len), lent_out(out, out_len)), |(written, _)| [written as u64])
+}
+
+/// # Safety
 /// `flows` has `count` flows.
 #[no_mangle]
 pub unsafe extern "C" fn second_admit(site: Site, flows: *const Flow, count: usize) -> Answer {
     answer(admit::admit(&site, lent(flows, count)), |set| [set as u64])
+}
+
+/// # Safety
+/// `flows` has `count` flows.
+#[no_mangle]
+pub unsafe extern "C" fn second_admit_beside(site: Site, flows: *const Flow, count: usize) -> Answer {
+    answer(admit::admit_beside(&site, lent(flows, count)), |set| [set as u64])
 }
 
 /// # Safety

@@ -1,13 +1,18 @@
 //! The desk's command (docs/DESK.md): what each command answers to its files and to its numbers. The words are in
 //! `wording`, the files and their names in `input`, what is said of a site in `why`, the sheet of flows in `flows`.
 
+mod asked;
+mod audits;
 mod flows;
 mod input;
+mod rooms;
+mod sheets;
+mod verdict;
 mod why;
 mod wording;
 
-use crate::admit::{admit as admitted_set, Flow};
-use crate::answer::Answer;
+use crate::admit::{admit as admitted_set, admit_beside as admitted_beside, Flow};
+use crate::answer::{Answer, Outcome};
 use crate::blocklist::read_list;
 use crate::checker;
 use crate::files::{read_plan, read_site, write_plan, write_site};
@@ -20,8 +25,11 @@ use crate::search::{self, End};
 use crate::share::{share as share_by_default, share_of, Fragments, Repeats, Share, Slots, NO_REPEATS_GIVEN};
 use crate::sheet::{read_sheet, write_sheet};
 use crate::site::{Positions, Site};
+pub use asked::{audit, check_all, clashes, diff, find, made_line, room, set, tidy, why, AuditFile, Ended};
 pub use input::Input;
 use input::Kind;
+pub use sheets::bad_line_told;
+pub use verdict::last_word;
 use wording::{
     bad_list, change_line, counted, no_room, no_room_beside, no_room_with, not_nested, refused, sends_wrongly, sizes,
     tries, wrong_flow, wrong_slots, Place,
@@ -175,10 +183,6 @@ pub fn load(site_file: Input, plan_file: Input, cell: u16, load: u16) -> Result<
     Ok(Changed { site: site_bytes, plan: plan_bytes, words: format!("planned: cell {cell} now has load {load}\n") })
 }
 
-pub fn why(site_file: Input) -> Told {
-    result(why::why(&site_in(site_file)?))
-}
-
 pub fn sheet(site_file: Input) -> Told {
     let site = site_in(site_file)?;
     result(written(|file| write_sheet(&site, file)))
@@ -198,11 +202,11 @@ pub fn site(sheet: Input, slots: u16, channels: u16, blocked: &Positions, rule: 
         let value = no.value[0];
         match no.number {
             1 | 24 => refused(no.number, Place::Nowhere),
-            17 => sheet.refused(Kind::RangeSheet, refused(17, Place::Line(value))),
+            17 => sheet.refused(Kind::RangeSheet, bad_line_told(sheet.bytes, value)),
             number => sheet.refused(Kind::RangeSheet, refused(number, Place::Cell(value))),
         }
     })?;
-    result(written(|file| write_site(&site, file)))
+    Ok(Done { result: written(|file| write_site(&site, file)), words: made_line(&site) })
 }
 
 /// What a flow needs, in a superframe of so many slots. Numbers above 65,535 are given as 0, as `site` has it. Where no
@@ -229,16 +233,26 @@ pub fn share(slots: u16, burst: u16, period: u16, repeats: Option<u16>) -> Told 
 }
 
 pub fn admit(site_file: Input, flow_sheet: Input) -> Told {
+    admitted(site_file, flow_sheet, admitted_set, "the loads of the site are set aside\n")
+}
+
+pub fn admit_beside(site_file: Input, flow_sheet: Input) -> Told {
+    admitted(site_file, flow_sheet, admitted_beside, "on top of the loads of the site\n")
+}
+
+/// What an admission says, by the call that finds the set, and with this first line.
+fn admitted(site_file: Input, flow_sheet: Input, set_of: fn(&Site, &[Flow]) -> Outcome<u32>, first_line: &str) -> Told {
     let site = site_in(site_file)?;
     let flow_sheet = seen(flow_sheet);
     let place = |no: &Answer| if no.number == 17 { Place::Line(no.value[0]) } else { Place::Nowhere };
     let flows = flows::read_flows(flow_sheet.bytes)
         .map_err(|no| flow_sheet.refused(Kind::FlowSheet, refused(no.number, place(&no))))?;
-    let set = admitted_set(&site, &flows).map_err(|no| match no.number {
+    let set = set_of(&site, &flows).map_err(|no| match no.number {
+        5 => no_room(&no),
         19 => not_nested(first_split(&site, |_| true).expect("a site that is not nested")),
         number => refused(number, Place::Flow(no.value[0])),
     })?;
-    let (mut lines, mut worth) = (String::from("the loads of the site are set aside\n"), 0);
+    let (mut lines, mut worth) = (String::from(first_line), 0);
     for (k, flow) in flows.iter().enumerate() {
         let taken = set >> k & 1 == 1;
         worth += if taken { flow.value as u64 } else { 0 };
@@ -383,10 +397,12 @@ mod tests {
         let sheet_of_one = b"cell,load,1\r\n1,1,0\r\n";
         assert_eq!(sheet(file(&one(1))), result(*sheet_of_one));
         let site = |bytes, slots, channels| site(file(bytes), slots, channels, &[0; 32], 1);
-        assert_eq!(site(sheet_of_one, 2, 1), result(one(1)));
+        let words = String::from("made: 1 cell, 2 slots, 1 channel, 0 clashes\n");
+        assert_eq!(site(sheet_of_one, 2, 1), Ok(Done { result: one(1).to_vec(), words }));
         assert!(site(sheet_of_one, 0, 1).unwrap_err().starts_with("refused 1: "));
         assert!(site(b"cell,load,1\r\n1,1,1\r\n", 2, 1).unwrap_err().starts_with("f: refused 3, cell 1: "));
-        assert!(site(b"cell,load,1\r\n", 0, 1).unwrap_err().starts_with("f: refused 17, line 2: "));
+        let line = "f: refused 17, line 2: the sheet ends before this line\n";
+        assert_eq!(site(b"cell,load,1\r\n", 0, 1), Err(String::from(line)));
     }
 
     #[test]
@@ -469,7 +485,7 @@ mod tests {
             bytes.extend(length.to_le_bytes());
             bytes.extend([3, 0]);
             bytes.resize(18 + length as usize, 0);
-            assert!(why(file(&bytes)).unwrap_err().starts_with(number), "{length}");
+            assert!(why(file(&bytes), 0).words.starts_with(number), "{length}");
         }
     }
 }

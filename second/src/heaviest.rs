@@ -26,7 +26,7 @@ fn word(cells: impl Iterator<Item = usize>) -> u32 {
 }
 
 /// The cells of a word, by number.
-fn cells_of(word: u32) -> impl Iterator<Item = usize> {
+pub fn cells_of(word: u32) -> impl Iterator<Item = usize> {
     (1..=32).filter(move |cell| word >> (cell - 1) & 1 == 1)
 }
 

@@ -7,7 +7,7 @@ use crate::planner::{table_fits, IDLE, RESERVED};
 use crate::site::Site;
 
 /// An entry of the list: cell, position, what it was and what it is, 1 for a reservation and 0 for silence.
-type Change = [u16; 4];
+pub type Change = [u16; 4];
 
 /// Mends the table where it stands, lists the changes and gives their number. Every refusal leaves both as they were.
 pub fn mend(site: &Site, table: &mut [u8], list: &mut [u16]) -> Outcome<usize> {
@@ -23,6 +23,22 @@ pub fn mend(site: &Site, table: &mut [u8], list: &mut [u16]) -> Outcome<usize> {
         table[(cell - 1) * site.positions() + position] = if is == 1 { RESERVED } else { IDLE };
     }
     Ok(changes.len())
+}
+
+/// The changes that mending would make, or its refusal 5. The table stays as it is.
+pub fn changes_to_mend(site: &Site, table: &[u8]) -> Outcome<Vec<Change>> {
+    site.sound()?;
+    table_fits(site, table.len())?;
+    Ok(changes(site, table, &mended(site, table)?))
+}
+
+/// The changes from one table of the site to another, as the mender lists its own: by cell, then position.
+pub fn diff(site: &Site, old: &[u8], new: &[u8]) -> Outcome<Vec<Change>> {
+    site.sound()?;
+    table_fits(site, old.len())?;
+    table_fits(site, new.len())?;
+    let at = new[..site.table_len()].iter().map(|&byte| byte == RESERVED).collect();
+    Ok(changes(site, old, &Stands { site, at }))
 }
 
 /// Where a reservation stands after mending, by cell from 1 and position.
@@ -138,5 +154,30 @@ mod tests {
         assert_eq!(mend_in(&one(), &mut table, 7), (refuse(13, &[2]), untouched));
         assert_eq!(mend_in(&one(), &mut table, 0), (refuse(13, &[2]), vec![]));
         assert_eq!(table, [1, 1, 1, 1]);
+    }
+
+    #[test]
+    fn from_one_table_to_another() {
+        let site = one();
+        assert_eq!(diff(&site, &[1, 0, 2, 1], &[1, 2, 0, 1]), Ok(vec![]));
+        assert_eq!(
+            diff(&site, &[1, 0, 2, 1], &[0, 1, 1, 3]),
+            Ok(vec![[1, 0, 1, 0], [1, 1, 0, 1], [1, 2, 0, 1], [1, 3, 1, 0]])
+        );
+        assert_eq!(diff(&site, &[1, 0, 2], &[0; 4]), refuse(4, &[]));
+        assert_eq!(diff(&site, &[0; 4], &[0; 3]), refuse(4, &[]));
+        assert_eq!(diff(&Site { rule: 0, ..site }, &[], &[]), refuse(24, &[]));
+    }
+
+    /// The changes to mend are those from the table to the mended one.
+    #[test]
+    fn the_changes_to_mend() {
+        for set in 0..16u8 {
+            let table: Vec<u8> = (0..4).map(|k| set >> k & 1).collect();
+            let mut mended = table.clone();
+            mend(&one(), &mut mended, &mut [0; 16]).unwrap();
+            assert_eq!(changes_to_mend(&one(), &table), diff(&one(), &table, &mended));
+        }
+        assert_eq!(changes_to_mend(&one().with_load(1, 9).unwrap(), &[0; 4]), refuse(5, &[1, 5]));
     }
 }

@@ -5,7 +5,7 @@ use crate::answer::{refuse, Outcome};
 use crate::planner::{table_fits, IDLE, RESERVED};
 use crate::site::Site;
 
-pub const MOST_OPEN: usize = 64;
+pub const MOST_OPEN: u64 = 64;
 pub const MOST_FRAGMENTS: u64 = 24;
 
 #[derive(Clone, Copy, Debug, PartialEq, Eq)]
@@ -15,15 +15,20 @@ pub enum End {
     LimitMet,
 }
 
+/// Has a sound site more open positions or more fragments than a search takes?
+pub fn too_large(site: &Site) -> bool {
+    let fragments: u64 = (1..=site.count()).map(|cell| site.load(cell)).sum();
+    site.room() > MOST_OPEN || fragments > MOST_FRAGMENTS
+}
+
 /// How a search ends, and the tries made. A plan is 1s and 0s in the first IN bytes of the table; else they are 0.
 pub fn search(site: &Site, limit: u64, table: &mut [u8]) -> Outcome<(End, u64)> {
     site.sound()?;
     table_fits(site, table.len())?;
-    let open: Vec<usize> = (0..site.positions()).filter(|&position| site.is_open(position)).collect();
-    let fragments: u64 = (1..=site.count()).map(|cell| site.load(cell)).sum();
-    if open.len() > MOST_OPEN || fragments > MOST_FRAGMENTS {
+    if too_large(site) {
         return refuse(25, &[]);
     }
+    let open = (0..site.positions()).filter(|&position| site.is_open(position)).collect();
     let owners = (1..=site.count()).flat_map(|cell| vec![cell; site.load(cell) as usize]).collect();
     let table = &mut table[..site.table_len()];
     table.fill(IDLE);

@@ -30,7 +30,7 @@ pub fn number(field: &[u8]) -> Option<u16> {
 }
 
 /// `cell,load` and the cell numbers: how many cells there are.
-fn read_first(line: &[u8]) -> Option<usize> {
+pub fn read_first(line: &[u8]) -> Option<usize> {
     let fields = fields(line);
     if fields.len() < 3 || fields[0] != b"cell" || fields[1] != b"load" {
         return None;

@@ -1,5 +1,5 @@
 -- Where no flow is refused, the three arrays state the flows of the list: each flow is in a cell of the site, and past the flows stand zeros.
--- So the search over the arrays is the one over the list (`same-best`).
+-- So the search over the arrays is the one over the list (`same-best`). What the arrays state of the site is in proofs/Rooms.antt.
 -- Assumes nothing.
 use Prim.Native.Nat.{ℕ, _-_, _≤_, _<_, zero-le}
 use mathlib.Core.Bool.{true, false}
@@ -11,28 +11,21 @@ use borrow.Author.Tests.{ltb-true, ltb-false}
 use lib.Dec.{ltb}
 use lib.ListN.{getD, replicate, getD-replicate, length-replicate}
 use lib.Seq.{sets}
-use Rattle.laws.specs.Bits.{bitIn}
 use Rattle.laws.specs.Part.{listOf}
 use Rattle.laws.proofs.Choice.{cases}
 use Rattle.laws.proofs.Search.{first-most, first-before}
 use Rattle.laws.proofs.Stores.{sets-at, sets-beyond}
-use Rattle.theory.specs.Net.{everyone}
-use Rattle.theory.specs.Verdict.{classVerdict}
-use Rattle.positions.specs.Blocked.{openIn}
-use Rattle.site.specs.Record.{positions, faultOf}
-use Rattle.site.specs.Reach.{clashOf, netOf}
+use Rattle.theory.specs.Net.{Net}
+use Rattle.site.specs.Record.{faultOf}
 use Rattle.site.specs.declared.Site.{Site}
 use Rattle.site.specs.declared.Fault.the-variants.{Fine}
 use Rattle.site.proofs.Faults.{up-to, fine-sized}
-use Rattle.site.proofs.Accepted.{net-open}
-use Rattle.admitting.specs.Best.{best}
-use Rattle.bestset.specs.Code.{Stands}
+use Rattle.admitting.specs.Best.{bestBeside}
 use Rattle.bestset.specs.Code as arrays
 use Rattle.admitting.proofs.Alike.{best-flows}
 use Rattle.flowlist.specs.declared.Flow.{Flow}
-use Rattle.admission.specs.Admit.{shareIn, amount, badIn, firstBadIn, flowsAsked, isNested}
+use Rattle.admission.specs.Admit.{shareIn, amount, badIn, firstBadIn, flowsAsked}
 use Rattle.admission.proofs.Asking.{good-cell}
-use Rattle.admission.proofs.Suits.{class-of}
 
 abbrev zeros : List ℕ
 zeros = replicate 16 0
@@ -70,18 +63,14 @@ module _ (s : Site) (fine : faultOf s ≡ Fine) (f : ℕ → Flow) (n : ℕ) (fe
     pub inside-most : (k : ℕ) → k < 16 → getD own k 0 < 32
     inside-most k l = omega (arith, inside k l, fine-sized s fine .cells-most)
 
-    pub stands : (room : ℕ) → room ≡ openIn (s .blocked) (positions s) → (rows : List ℕ) → bitIn rows ≡ clashOf s
-        → isNested (classVerdict (netOf s) everyone) ≡ true → Stands (netOf s) room rows own
-    stands room is rows relation class = record { room-is = is ∙ sym (net-open s); clash-is = relation; inside = inside; class = class-of (netOf s) class }
-
-    pub same-best : (shares values : List ℕ) → shares ≡ sets zeros 0 (listOf (λ k. amount (shareIn (s .slots) (f k))) bad)
+    pub same-best : (start : Net) (shares values : List ℕ) → shares ≡ sets zeros 0 (listOf (λ k. amount (shareIn (s .slots) (f k))) bad)
         → values ≡ sets zeros 0 (listOf (λ k. f k .value) bad)
-        → best (netOf s) (arrays.flowsIn own shares values n) ≡ best (netOf s) (flowsAsked (s .slots) f n)
-    same-best shares values shared valued =
+        → bestBeside start (arrays.flowsIn own shares values n) ≡ bestBeside start (flowsAsked (s .slots) f n)
+    same-best start shares values shared valued =
         let shared-n : shares ≡ sets zeros 0 (listOf (λ k. amount (shareIn (s .slots) (f k))) n)
         = shared ∙ ap (λ (m : ℕ). sets zeros 0 (listOf (λ k. amount (shareIn (s .slots) (f k))) m)) all-good in
         let valued-n : values ≡ sets zeros 0 (listOf (λ k. f k .value) n) = valued ∙ ap (λ (m : ℕ). sets zeros 0 (listOf (λ k. f k .value) m)) all-good in
-        best-flows (netOf s) n (λ k. getD own k 0) (λ k. f k .cell - 1) (λ k. getD shares k 0) (λ k. amount (shareIn (s .slots) (f k))) (λ k. getD values k 0)
+        best-flows start n (λ k. getD own k 0) (λ k. f k .cell - 1) (λ k. getD shares k 0) (λ k. amount (shareIn (s .slots) (f k))) (λ k. getD values k 0)
         (λ k. f k .value)
         (at (λ k. f k .cell - 1) n own few owned-n) (at (λ k. amount (shareIn (s .slots) (f k))) n shares few shared-n)
         (at (λ k. f k .value) n values few valued-n)

@@ -13,9 +13,11 @@ use Rattle.site.specs.Record.{siteOf, upTo, sizeOk, ruleOk, rowBad, extraLoad, 
 use Rattle.site.specs.Reach.{reaches, clashIn}
 use Rattle.site.specs.declared.Site.{Site}
 use Rattle.shares.specs.Share.{roundedUp, shareOf}
-use Rattle.admitting.specs.Best.{allowed, bestOf, best}
+use Rattle.admitting.specs.Best.{allowedBeside, bestOf, bestBeside}
 use Rattle.flowlist.specs.declared.Flow.{Flow}
-use Rattle.admission.specs.Admit.{badIn, refusedIn, firstBadIn, answerIn, admitAnswer}
+use Rattle.admission.specs.Admit.{badIn, refusedIn, firstBadIn, answerFrom, admitAnswer}
+use Rattle.admission.specs.Beside.{besideIn, besideAnswer}
+use Rattle.admission.specs.declared.BesideAnswer.the-variants.{Answered, Over}
 use Rattle.admission.specs.declared.AdmitAnswer.the-variants.{Admitted, TooMany, NotNested, BadCell, BadFlow, BigShare}
 
 -- 32 numbers, the first of them these
@@ -35,9 +37,9 @@ three = flow 1 1 2 1 1 ∷ flow 2 2 2 1 1 ∷ flow 1 2 2 1 5 ∷ []
 
 -- the set {2,3} worth 6
 pub desk : admitAnswer bare three ≡ Admitted 6
-unfolding answerIn faultOf sizeOk ruleOk upTo extraLoad badRow extraBlocked rowBad firstOf classVerdict firstSplit splitOf splits second clashIn reaches
+unfolding answerFrom faultOf sizeOk ruleOk upTo extraLoad badRow extraBlocked rowBad firstOf classVerdict firstSplit splitOf splits second clashIn reaches
     firstBadIn
-    badIn refusedIn shareOf roundedUp best bestOf allowed sum overloaded lowestOver loadVerdict
+    badIn refusedIn shareOf roundedUp bestBeside bestOf allowedBeside sum overloaded lowestOver loadVerdict
 desk = refl
 
 -- the same where position 0 of the two is blocked, so that one is open: of shares 1, 2 and 2 only the first is at most 1, and the set is {1}
@@ -45,9 +47,9 @@ abbrev narrow : Site
 narrow = siteOf 2 2 1 (rows (2 ∷ 2 ∷ 0 ∷ 0 ∷ 0 ∷ [])) (rows (0 ∷ 0 ∷ 0 ∷ 0 ∷ 0 ∷ [])) (1 ∷ replicate 31 0) 1
 
 pub one-open : admitAnswer narrow three ≡ Admitted 1
-unfolding answerIn faultOf sizeOk ruleOk upTo extraLoad badRow extraBlocked rowBad firstOf classVerdict firstSplit splitOf splits second clashIn reaches
+unfolding answerFrom faultOf sizeOk ruleOk upTo extraLoad badRow extraBlocked rowBad firstOf classVerdict firstSplit splitOf splits second clashIn reaches
     firstBadIn
-    badIn refusedIn shareOf roundedUp best bestOf allowed sum overloaded lowestOver loadVerdict
+    badIn refusedIn shareOf roundedUp bestBeside bestOf allowedBeside sum overloaded lowestOver loadVerdict
 one-open = refl
 
 -- repeats that decide: two flows of burst 1 each 2 slots in cell 1, the first sent twice. Its share is 2 and the other's 1, which are 3 where N is 2;
@@ -56,8 +58,8 @@ abbrev twice : List Flow
 twice = flow 1 1 2 2 3 ∷ flow 1 1 2 1 2 ∷ []
 
 pub repeats-decide : (admitAnswer bare twice ≡ Admitted 1) × (admitAnswer bare (flow 1 1 2 1 3 ∷ flow 1 1 2 1 2 ∷ []) ≡ Admitted 3)
-unfolding answerIn faultOf sizeOk ruleOk upTo extraLoad badRow extraBlocked rowBad firstOf classVerdict firstSplit splitOf splits second clashIn reaches
-    firstBadIn badIn refusedIn shareOf roundedUp best bestOf allowed sum overloaded lowestOver loadVerdict
+unfolding answerFrom faultOf sizeOk ruleOk upTo extraLoad badRow extraBlocked rowBad firstOf classVerdict firstSplit splitOf splits second clashIn reaches
+    firstBadIn badIn refusedIn shareOf roundedUp bestBeside bestOf allowedBeside sum overloaded lowestOver loadVerdict
 repeats-decide = (refl, refl)
 
 -- T=3, F=2, cells 1-2-3 in a row each clashing with the next
@@ -72,9 +74,9 @@ nine =
 
 -- the set {2,3,4,8,9}, worth 177
 pub table-two : admitAnswer row nine ≡ Admitted 398
-unfolding answerIn faultOf sizeOk ruleOk upTo extraLoad badRow extraBlocked rowBad firstOf classVerdict firstSplit splitOf splits second clashIn reaches
+unfolding answerFrom faultOf sizeOk ruleOk upTo extraLoad badRow extraBlocked rowBad firstOf classVerdict firstSplit splitOf splits second clashIn reaches
     firstBadIn
-    badIn refusedIn shareOf roundedUp best bestOf allowed sum overloaded lowestOver loadVerdict
+    badIn refusedIn shareOf roundedUp bestBeside bestOf allowedBeside sum overloaded lowestOver loadVerdict
 table-two = refl
 
 -- no flows; all values 0; a cell outside the site; repeats of 5; a share too big; a star with its centre last, of whose outer cells one is spare
@@ -86,9 +88,9 @@ pub bad-input :
     × (admitAnswer row (flow 1 1 1 1 9 ∷ flow 4 1 1 1 9 ∷ []) ≡ BadCell 2)
     × (admitAnswer row (flow 1 1 1 5 9 ∷ []) ≡ BadFlow 1) × (admitAnswer row (flow 1 1 1 1 9 ∷ flow 1 1 1 1 9 ∷ flow 2 65535 1 1 9 ∷ []) ≡ BigShare 3)
     × (admitAnswer spare (flow 1 1 1 1 9 ∷ []) ≡ NotNested) × (admitAnswer spare (replicate 17 (flow 1 1 1 1 9)) ≡ TooMany)
-unfolding answerIn faultOf sizeOk ruleOk upTo extraLoad badRow extraBlocked rowBad firstOf classVerdict firstSplit splitOf splits second clashIn reaches
+unfolding answerFrom faultOf sizeOk ruleOk upTo extraLoad badRow extraBlocked rowBad firstOf classVerdict firstSplit splitOf splits second clashIn reaches
     firstBadIn
-    badIn refusedIn shareOf roundedUp best bestOf allowed sum overloaded lowestOver loadVerdict
+    badIn refusedIn shareOf roundedUp bestBeside bestOf allowedBeside sum overloaded lowestOver loadVerdict
 bad-input = (refl, refl, refl, refl, refl, refl, refl)
 
 -- W9: "A side drift makes a site unchained though the test is still exact there": cells 1-2-3 in a row, and cell 4 in a drift that leaves it at cell 1.
@@ -97,7 +99,37 @@ abbrev drift : Site
 drift = siteOf 4 3 2 (rows (0 ∷ 0 ∷ 0 ∷ 0 ∷ 0 ∷ [])) (rows (10 ∷ 4 ∷ 0 ∷ 0 ∷ 0 ∷ [])) emptySet 1
 
 pub drift-admitted : admitAnswer drift (flow 1 1 1 1 9 ∷ flow 2 1 1 1 9 ∷ flow 4 1 1 1 9 ∷ []) ≡ Admitted 7
-unfolding answerIn faultOf sizeOk ruleOk upTo extraLoad badRow extraBlocked rowBad firstOf classVerdict firstSplit splitOf splits second clashIn reaches
+unfolding answerFrom faultOf sizeOk ruleOk upTo extraLoad badRow extraBlocked rowBad firstOf classVerdict firstSplit splitOf splits second clashIn reaches
     firstBadIn
-    badIn refusedIn shareOf roundedUp best bestOf allowed sum overloaded lowestOver loadVerdict
+    badIn refusedIn shareOf roundedUp bestBeside bestOf allowedBeside sum overloaded lowestOver loadVerdict
 drift-admitted = refl
+
+-- On top of the loads: two cells that clash, N=4, loads 1 and 1, so that cell 2 has room for 2. With 4 slots a burst of 1 has share 2 each 2 slots, and share 1
+-- each 4. The set {2,3} is worth 7, and with the loads set aside all three go. Cell 2 at load 3 is full: no flow is taken. At load 5 it is over by 2, which
+-- comes after 18 and before a bad flow
+abbrev running : ℕ → Site
+running load = siteOf 2 4 1 (rows (1 ∷ load ∷ 0 ∷ 0 ∷ 0 ∷ [])) (rows (0 ∷ 1 ∷ 0 ∷ 0 ∷ 0 ∷ [])) emptySet 1
+
+abbrev asking : List Flow
+asking = flow 1 1 2 1 5 ∷ flow 2 1 4 1 3 ∷ flow 2 1 4 1 4 ∷ []
+
+pub on-top :
+    (besideAnswer (running 1) asking ≡ Answered (Admitted 6)) × (admitAnswer (running 1) asking ≡ Admitted 7)
+    × (besideAnswer (running 3) asking ≡ Answered (Admitted 0)) × (besideAnswer (running 5) (flow 0 0 0 0 0 ∷ []) ≡ Over 2 2)
+    × (besideAnswer (running 5) (replicate 17 (flow 1 1 1 1 9)) ≡ Answered TooMany)
+    × (besideAnswer (running 1) (flow 1 1 2 1 5 ∷ flow 3 1 1 1 1 ∷ []) ≡ Answered (BadCell 2))
+    × (besideAnswer spare (flow 1 1 1 1 9 ∷ []) ≡ Answered NotNested)
+unfolding answerFrom besideIn faultOf sizeOk ruleOk upTo extraLoad badRow extraBlocked rowBad firstOf classVerdict firstSplit splitOf splits second clashIn
+    reaches
+    firstBadIn
+    badIn refusedIn shareOf roundedUp bestBeside bestOf allowedBeside sum overloaded lowestOver loadVerdict
+on-top = (refl, refl, refl, refl, refl, refl, refl)
+
+-- a cell without flows counts where it has a load: cell 2 of two that clash has load 3 of 4, and one flow of share 2 in cell 1 would put it over
+pub loaded-cell : besideAnswer (siteOf 2 4 1 (rows (0 ∷ 3 ∷ 0 ∷ 0 ∷ 0 ∷ [])) (rows (0 ∷ 1 ∷ 0 ∷ 0 ∷ 0 ∷ [])) emptySet 1) (flow 1 1 2 1 5 ∷ [])
+    ≡ Answered (Admitted 0)
+unfolding answerFrom besideIn faultOf sizeOk ruleOk upTo extraLoad badRow extraBlocked rowBad firstOf classVerdict firstSplit splitOf splits second clashIn
+    reaches
+    firstBadIn
+    badIn refusedIn shareOf roundedUp bestBeside bestOf allowedBeside sum overloaded lowestOver loadVerdict
+loaded-cell = refl

@@ -2,15 +2,15 @@
 -- record's 2, so that a caller in C asks for the record's fault to know which it is. `Refused Fine` looks like no fault, and no call answers it.
 -- Assumes nothing.
 use Prim.Native.Nat.{ℕ, _+_}
-use mathlib.Core.Bool.{Bool, true, false≢true}
+use mathlib.Core.Bool.{Bool, true, false, false≢true}
 use mathlib.Core.List.{List, [], _∷_, map}
 use mathlib.Core.Path.{_≡_, refl, sym, ap, ap₂, _∙_}
 use native.Mathlib.Omega.{arith}
 use lib.Dec.{eqb, ltb}
 use lib.ListN.{getD, length}
 use Rattle.laws.specs.Choice.{pick}
-use Rattle.theory.specs.Net.{everyone}
-use Rattle.theory.specs.Verdict.{classVerdict}
+use Rattle.theory.specs.Net.{Net, everyone, loaded}
+use Rattle.theory.specs.Verdict.{LoadVerdict, holds, over, loadVerdict, classVerdict}
 use Rattle.site.specs.Record.{upTo, faultOf}
 use Rattle.site.specs.Reach.{netOf}
 use Rattle.site.specs.Given.{Given}
@@ -21,11 +21,14 @@ use Rattle.site.proofs.Given.{faultFrom}
 use Rattle.site.proofs.PassedOn.{proper-call, proper-either}
 use Rattle.shares.specs.declared.ShareAnswer.{ShareAnswer}
 use Rattle.shares.specs.declared.ShareAnswer.the-variants as share
-use Rattle.admitting.specs.Best.{best}
+use Rattle.admitting.specs.Best.{idle, bestBeside}
 use Rattle.flowlist.specs.List.{flowAt}
 use Rattle.flowlist.specs.declared.Flow.{Flow}
-use Rattle.admission.specs.Admit.{shareIn, shareRefused, refusedIn, firstBadIn, flowsAsked, isNested, answerIn, admitAnswer}
-use Rattle.admission.specs.Given.{admitGiven, admitProper, ofRecord}
+use Rattle.admission.specs.Admit.{shareIn, shareRefused, refusedIn, firstBadIn, flowsAsked, isNested, answerFrom, admitAnswer}
+use Rattle.admission.specs.Beside.{isAsked, besideWhere, besideIn, besideAnswer}
+use Rattle.admission.specs.Given.{admitGiven, admitProper, ofRecord, besideGiven, besideProper, besideRecord}
+use Rattle.admission.specs.declared.BesideAnswer.{BesideAnswer}
+use Rattle.admission.specs.declared.BesideAnswer.the-variants.{Answered, Over}
 use Rattle.admission.specs.declared.AdmitAnswer.{AdmitAnswer}
 use Rattle.admission.specs.declared.AdmitAnswer.the-variants.{Admitted, TooMany, NotNested, BadCell, BadFlow, BigShare, Refused}
 
@@ -90,17 +93,19 @@ unfolding refusedIn
 refused-proper cells slots f number =
     proper-either admitProper (upTo cells (f .cell)) (shareRefused number (shareIn slots f)) (BadCell number) (share-proper number (shareIn slots f)) refl
 
-pub admit-proper : (s : Site) (fs : List Flow) → admitProper (admitAnswer s fs) ≡ true
-unfolding answerIn
-admit-proper s fs =
-    let n = length fs in
-    let bad = firstBadIn (s .cells) (s .slots) (flowAt fs) n in
+pub answer-proper : (start : Net) (s : Site) (f : ℕ → Flow) (n : ℕ) → admitProper (answerFrom start s f n) ≡ true
+unfolding answerFrom
+answer-proper start s f n =
+    let bad = firstBadIn (s .cells) (s .slots) f n in
     proper-call admitProper Refused (λ g. refl) (faultOf s) _
     (proper-either admitProper (ltb 16 n) TooMany _ refl
     (proper-either admitProper (isNested (classVerdict (netOf s) everyone)) _ NotNested
-    (proper-either admitProper (ltb bad n) (refusedIn (s .cells) (s .slots) (flowAt fs bad) (bad + 1))
-    (Admitted (best (netOf s) (flowsAsked (s .slots) (flowAt fs) n)))
-    (refused-proper (s .cells) (s .slots) (flowAt fs bad) (bad + 1)) refl) refl))
+    (proper-either admitProper (ltb bad n) (refusedIn (s .cells) (s .slots) (f bad) (bad + 1))
+    (Admitted (bestBeside start (flowsAsked (s .slots) f n)))
+    (refused-proper (s .cells) (s .slots) (f bad) (bad + 1)) refl) refl))
+
+pub admit-proper : (s : Site) (fs : List Flow) → admitProper (admitAnswer s fs) ≡ true
+admit-proper s fs = answer-proper (idle (netOf s)) s (flowAt fs) (length fs)
 
 -- the numbers and the values, in their order, of an answer of each kind
 abbrev answers : (set flow cell row position : ℕ) → List AdmitAnswer
@@ -113,3 +118,68 @@ pub admit-numbers : (set flow cell row position : ℕ)
     × (map (λ (a : AdmitAnswer). admitGiven a .values) (answers set flow cell row position)
     ≡ (set ∷ []) ∷ [] ∷ [] ∷ (flow ∷ []) ∷ (flow ∷ []) ∷ (flow ∷ []) ∷ [] ∷ [] ∷ (cell ∷ []) ∷ (row ∷ []) ∷ (position ∷ []) ∷ [])
 admit-numbers set flow cell row position = (refl, refl)
+
+-- ---- on top of the loads: 5 besides
+
+loadFrom : Given → BesideAnswer
+loadFrom g = Over (getD (g .values) 0 0) (getD (g .values) 1 0)
+
+-- 5 is no admission's number
+not-five : (a : AdmitAnswer) → eqb (admitGiven a .number) 5 ≡ false
+not-five (Admitted set) = refl
+not-five TooMany = refl
+not-five NotNested = refl
+not-five (BadCell flow) = refl
+not-five (BadFlow flow) = refl
+not-five (BigShare flow) = refl
+not-five (Refused Fine) = refl
+not-five (Refused Size) = refl
+not-five (Refused Rule) = refl
+not-five (Refused (Load k)) = refl
+not-five (Refused (Reach k)) = refl
+not-five (Refused (Blocked k)) = refl
+
+abbrev besideBack : Bool → Given → BesideAnswer
+besideBack whole g = pick (eqb (g .number) 5) (loadFrom g) (Answered (readBack whole g))
+
+beside-back : (a : BesideAnswer) → besideProper a ≡ true → besideBack (besideRecord a) (besideGiven a) ≡ a
+unfolding loadFrom
+beside-back (Answered a) h = rw (not-five a) (ap Answered (read-back a h))
+beside-back (Over cell excess) h = refl
+
+pub beside-apart : (a b : BesideAnswer) → besideProper a ≡ true → besideProper b ≡ true → besideRecord a ≡ besideRecord b → besideGiven a ≡ besideGiven b
+    → a ≡ b
+beside-apart a b p q r e = sym (beside-back a p) ∙ ap₂ besideBack r e ∙ beside-back b q
+
+-- 0 with one value is a set, and nothing else
+pub beside-done : (a : BesideAnswer) (x : ℕ) → besideGiven a ≡ record { number = 0; values = x ∷ [] } → a ≡ Answered (Admitted x)
+beside-done (Answered a) x e = ap Answered (done-set a x e)
+beside-done (Over cell excess) x e = absurd (omega (arith, ap (λ (g : Given). g .number) e))
+
+-- 5 is given where the loads are over, and nowhere else
+pub beside-five : (a : BesideAnswer) (cell excess : ℕ) → besideGiven a ≡ record { number = 5; values = cell ∷ excess ∷ [] } → a ≡ Over cell excess
+beside-five (Answered a) cell excess e =
+    let is : eqb (admitGiven a .number) 5 ≡ true = ap (λ (g : Given). eqb (g .number) 5) e in
+    absurd (false≢true (sym (not-five a) ∙ is))
+beside-five (Over c m) cell excess e =
+    let one : c ≡ cell = ap (λ (g : Given). getD (g .values) 0 0) e in
+    let two : m ≡ excess = ap (λ (g : Given). getD (g .values) 1 0) e in
+    ap₂ Over one two
+
+pub beside-proper : (s : Site) (fs : List Flow) → besideProper (besideAnswer s fs) ≡ true
+unfolding besideIn
+beside-proper s fs =
+    at (isAsked s (length fs)) (loadVerdict (netOf s) (loaded (netOf s))) (answerFrom (netOf s) s (flowAt fs) (length fs))
+    (answer-proper (netOf s) s (flowAt fs) (length fs))
+  where
+    at : (t : Bool) (v : LoadVerdict) (a : AdmitAnswer) → admitProper a ≡ true → besideProper (besideWhere t v a) ≡ true
+    at true (over i m) a h = refl
+    at true holds a h = h
+    at false v a h = h
+
+pub beside-numbers : (set flow cell excess row position : ℕ)
+    → (map (λ (a : BesideAnswer). besideGiven a .number) (Over cell excess ∷ map Answered (answers set flow cell row position))
+    ≡ 5 ∷ 0 ∷ 18 ∷ 19 ∷ 2 ∷ 15 ∷ 16 ∷ 1 ∷ 24 ∷ 2 ∷ 3 ∷ 20 ∷ [])
+    × (map (λ (a : BesideAnswer). besideGiven a .values) (Over cell excess ∷ map Answered (answers set flow cell row position))
+    ≡ (cell ∷ excess ∷ []) ∷ (set ∷ []) ∷ [] ∷ [] ∷ (flow ∷ []) ∷ (flow ∷ []) ∷ (flow ∷ []) ∷ [] ∷ [] ∷ (cell ∷ []) ∷ (row ∷ []) ∷ (position ∷ []) ∷ [])
+beside-numbers set flow cell excess row position = (refl, refl)

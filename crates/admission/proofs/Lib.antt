@@ -3,10 +3,13 @@ pub mod Asking
 pub mod Suits
 pub mod Answer
 pub mod Arrays
+pub mod Rooms
 pub mod Listed
 pub mod Given
 pub mod OneFlow
 pub mod Meaning
+pub mod Beside
+pub mod BesideMeans
 pub mod Laden
 pub mod Desk
 pub mod Lent

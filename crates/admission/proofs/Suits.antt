@@ -23,7 +23,7 @@ use Rattle.site.specs.declared.Site.{Site}
 use Rattle.chainwords.specs.Chain.{Mirrored, chainIn, firstSplitIn}
 use Rattle.chainwords.proofs.Rows.{first-split-is}
 use Rattle.flowlist.specs.declared.Flow.{Flow}
-use Rattle.admission.specs.Admit.{isChained, isNested, answerWhere, answerIn}
+use Rattle.admission.specs.Admit.{isChained, isNested, answerWhere, answerFrom, answerIn}
 
 -- a word of ones has every cell
 everyone-is : (i : ℕ) → i < 32 → bitAt 4294967295 i ≡ everyone i
@@ -55,7 +55,7 @@ class-of s e = class-holds s everyone .0 (is-nested (classVerdict s everyone) e)
 -- on a site that is chained, all cells counted, the answer is the one with "19 site not chained"
 pub chained-unchanged : (s : Site) (f : ℕ → Flow) (n : ℕ) → Chained (netOf s) everyone
     → answerIn s f n ≡ answerWhere (isChained (chainVerdict (netOf s) everyone)) s f n
-unfolding answerIn
+unfolding answerFrom
 chained-unchanged s f n h =
     let now-in = class-holds (netOf s) everyone .1 (chained-class (netOf s) everyone h) in
     let then-on = chain-holds (netOf s) everyone .1 h in

@@ -8,7 +8,7 @@ use lib.Dec.{ltb}
 use lib.ListN.{length}
 use Rattle.laws.specs.Choice.{pick}
 use Rattle.laws.specs.Search.{first}
-use Rattle.theory.specs.Net.{everyone}
+use Rattle.theory.specs.Net.{Net, everyone}
 use Rattle.theory.specs.Verdict.{ChainVerdict, chained, broken, ClassVerdict, inClass, outside, classVerdict}
 use Rattle.site.specs.Record.{upTo, isFine, faultOf}
 use Rattle.site.specs.Reach.{netOf}
@@ -16,7 +16,7 @@ use Rattle.site.specs.declared.Site.{Site}
 use Rattle.shares.specs.Share.{shareOf}
 use Rattle.shares.specs.declared.ShareAnswer.{ShareAnswer}
 use Rattle.shares.specs.declared.ShareAnswer.the-variants as share
-use Rattle.admitting.specs.Best.{Flows, best}
+use Rattle.admitting.specs.Best.{Flows, idle, bestBeside, best}
 use Rattle.flowlist.specs.List.{flowAt}
 use Rattle.flowlist.specs.declared.Flow.{Flow}
 use Rattle.admission.specs.declared.AdmitAnswer.{AdmitAnswer}
@@ -82,21 +82,29 @@ abbrev pub isChained : ChainVerdict → Bool
 isChained chained = true
 isChained (broken a b c) = false
 
--- the first flow that is refused, or else the best set
-abbrev pub settledAt : Site → (ℕ → Flow) → ℕ → ℕ → AdmitAnswer
-settledAt s f n bad = pick (ltb bad n) (refusedIn (s .cells) (s .slots) (f bad) (bad + 1)) (Admitted (best (netOf s) (flowsAsked (s .slots) f n)))
+-- the first flow that is refused, or else the best set: on top of the loads of `start`, the site's problem with the loads that count
+abbrev pub settledOn : Net → Site → (ℕ → Flow) → ℕ → ℕ → AdmitAnswer
+settledOn start s f n bad =
+    pick (ltb bad n) (refusedIn (s .cells) (s .slots) (f bad) (bad + 1)) (Admitted (bestBeside start (flowsAsked (s .slots) f n)))
 
 -- "record faults first, then 18 over 16 flows", then 19 unless the site suits
-abbrev pub answerWhere : Bool → Site → (ℕ → Flow) → ℕ → AdmitAnswer
-answerWhere suits s f n =
+abbrev pub answerOn : Net → Bool → Site → (ℕ → Flow) → ℕ → AdmitAnswer
+answerOn start suits s f n =
     pick (isFine (faultOf s))
     (pick (ltb 16 n) TooMany
-    (pick suits (settledAt s f n (firstBadIn (s .cells) (s .slots) f n)) NotNested))
+    (pick suits (settledOn start s f n (firstBadIn (s .cells) (s .slots) f n)) NotNested))
     (Refused (faultOf s))
 
+-- "The site's own loads are set aside here: every cell starts at 0"
+abbrev pub answerWhere : Bool → Site → (ℕ → Flow) → ℕ → AdmitAnswer
+answerWhere suits s f n = answerOn (idle (netOf s)) suits s f n
+
 -- a site suits where it is in the class, "all cells counted as loaded"
-unfoldable pub answerIn : Site → (ℕ → Flow) → ℕ → AdmitAnswer
-answerIn s f n = answerWhere (isNested (classVerdict (netOf s) everyone)) s f n
+unfoldable pub answerFrom : Net → Site → (ℕ → Flow) → ℕ → AdmitAnswer
+answerFrom start s f n = answerOn start (isNested (classVerdict (netOf s) everyone)) s f n
+
+abbrev pub answerIn : Site → (ℕ → Flow) → ℕ → AdmitAnswer
+answerIn s f n = answerFrom (idle (netOf s)) s f n
 
 -- ---- the call, on a site and a list of flows
 

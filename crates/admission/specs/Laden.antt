@@ -1,6 +1,6 @@
 -- The site that a set of flows makes: the cells, slots, channels, reach and blocked positions of a site, and for loads the shares of the set, summed by cell.
 -- "The site's own loads are set aside."
-use Prim.Native.Nat.{ℕ}
+use Prim.Native.Nat.{ℕ, _+_}
 use mathlib.Core.Bool.{_&&_}
 use mathlib.Core.List.{List, [], _∷_}
 use mathlib.Core.Path.{_≡_}
@@ -10,7 +10,7 @@ use Rattle.laws.specs.Bits.{bitAt}
 use Rattle.laws.specs.Choice.{pick}
 use Rattle.laws.specs.Part.{listOf}
 use Rattle.laws.specs.Sum.{sum}
-use Rattle.site.specs.Record.{siteOf}
+use Rattle.site.specs.Record.{siteOf, loadAt}
 use Rattle.site.specs.declared.Site.{Site}
 use Rattle.shares.specs.Given.{shareGiven}
 use Rattle.shares.specs.Share.{shareOf}
@@ -21,6 +21,11 @@ use Rattle.admission.specs.Admit.{flowsOf}
 
 abbrev pub ladenSite : Site → List Flow → ℕ → Site
 ladenSite s fs x = siteOf (s .cells) (s .slots) (s .channels) (listOf (loadIn (flowsOf s fs) x) 32) (s .reach) (s .blocked) (s .rule)
+
+-- "on top of the loads that the site has": the shares of the set, summed by cell, and the site's own loads
+abbrev pub besideSite : Site → List Flow → ℕ → Site
+besideSite s fs x =
+    siteOf (s .cells) (s .slots) (s .channels) (listOf (λ i. loadIn (flowsOf s fs) x i + loadAt s i) 32) (s .reach) (s .blocked) (s .rule)
 
 -- W4: "Everything that takes a share follows". The public share of a flow: what `share_of` gives back for the site's slots and the flow's burst, period and
 -- repeats

@@ -1,20 +1,31 @@
 // Which of at most 16 flows a site admits: the best set of them whose shares, summed by cell, pass the load test.
 // The lent list is taken apart by `flowlist`; all else works on numbers and small arrays.
 ghost use mathlib.Core.Path.{_≡_};
+ghost use mathlib.Core.Bool.{true};
 ghost use Prim.Native.Nat.{_-_, _≤_};
 ghost use lib.ListN.{getD, replicate};
 ghost use lib.Seq.{sets};
 ghost use Rattle.laws.specs.Bits.{bitIn};
 ghost use Rattle.laws.specs.Part.{listOf};
-ghost use Rattle.theory.specs.Net.{everyone};
+ghost use Rattle.theory.specs.Net.{everyone, loaded, LoadTest};
 ghost use Rattle.theory.specs.Verdict.{classVerdict};
 ghost use Rattle.chainwords.specs.Chain.{Mirrored, chainIn};
+ghost use Rattle.site.specs.Record.{faultOf};
+ghost use Rattle.site.specs.Reach.{netOf};
+ghost use Rattle.site.specs.declared.Fault.the-variants.{Fine};
+ghost use Rattle.judges.specs.Judges.{loadAnswer};
+ghost use Rattle.judges.specs.declared.LoadAnswer.the-variants as load;
 ghost use Rattle.flowlist.specs.List.{zeroFlow};
-ghost use Rattle.admission.specs.Admit.{shareIn, amount, refusedIn, askedBy, firstBadIn, isNested, answerIn, admitAnswer};
+ghost use Rattle.admission.specs.Admit.{shareIn, amount, refusedIn, askedBy, firstBadIn, isNested, answerFrom, answerIn, admitAnswer};
+ghost use Rattle.admission.specs.Beside.{startFor, besideIn, besideAnswer};
+ghost use Rattle.admission.specs.Code.{leftIn, roomsFor};
 use chainwords::first_split;
+use demands::demand;
 use flowlist::Flow;
 use flowlist::FlowList;
 use flowlist::gather;
+use judges::LoadAnswer;
+use judges::load_test;
 use positions::open_count;
 use shares::Fragments;
 use shares::Repeats;
@@ -34,6 +45,12 @@ pub enum AdmitAnswer {
     BadFlow(usize),
     BigShare(usize),
     Refused(Fault),
+}
+
+// On top of the loads that the site has: what an admission answers; or the loads alone are over, in which cell and by how much.
+pub enum BesideAnswer {
+    Answered(AdmitAnswer),
+    Over(usize, usize),
 }
 
 // What the search takes of a flow: the place of its cell, and its share. Or the flow is refused.
@@ -148,9 +165,43 @@ fn nested(clash: &[u32; 32], cells: usize) -> bool
     cells <= first_split(clash, 4294967295, cells)
 }
 
-// The answer for a list of so many flows, of which the first 16 are here: for callers that have the flows by value.
-pub fn decide(site: Site, l: FlowList, count: usize) -> AdmitAnswer
-    ensures { λ r. ⌜ r ≡ answerIn site (λ k. getD (l .list) k zeroFlow) count ⌝ }
+// What is left of a room where so much of it is used.
+fn left_of(room: u32, used: u32) -> u32
+    ensures { λ r. ⌜ (r ≡ room - used) × (r ≤ room) ⌝ }
+{
+    if room < used {
+        return 0;
+    }
+    room - used
+}
+
+// What the loads leave of the room, cell by cell.
+fn rooms_beside(loads: &[u16; 32], clash: &[u32; 32], room: u32) -> [u32; 32]
+    ensures { λ r. ⌜ r ≡ sets (replicate 32 0) 0 (listOf (leftIn (now (loads .entry)) (now (clash .entry)) room) 32) ⌝ }
+{
+    let mut rooms = [0u32; 32];
+    let mut i = 0;
+    while i < 32 {
+        rooms[i] = left_of(room, demand(loads, clash[i], i));
+        i += 1;
+    }
+    rooms
+}
+
+// What each cell has of the room: what the loads leave, or all of it where they are set aside.
+fn rooms_of(loads: [u16; 32], clash: &[u32; 32], room: u32, beside: bool) -> [u32; 32]
+    ensures { λ r. ⌜ r ≡ roomsFor beside loads (now (clash .entry)) room ⌝ }
+{
+    if beside {
+        return rooms_beside(&loads, clash, room);
+    }
+    [room; 32]
+}
+
+// The answer for a list of so many flows, of which the first 16 are here: on top of the loads, which pass the load test, or with these set aside.
+fn decide_on(site: Site, l: FlowList, count: usize, beside: bool) -> AdmitAnswer
+    requires { ⌜ (beside ≡ true → faultOf site ≡ Fine → LoadTest (netOf site) (loaded (netOf site))) ⌝ }
+    ensures { λ r. ⌜ r ≡ answerFrom (startFor beside site) site (λ k. getD (l .list) k zeroFlow) count ⌝ }
 {
     let f = site.fault_in();
     let Fault::Fine = f else {
@@ -174,11 +225,48 @@ pub fn decide(site: Site, l: FlowList, count: usize) -> AdmitAnswer
     let n = site.slots as u32 * site.channels as u32;
     let blocked = site.blocked;
     let room = open_count(&blocked, n as usize) as u32;
+    let loads = site.loads;
+    let rooms = rooms_of(loads, &clash, room, beside);
     let own = asked.cells;
     let shares = asked.shares;
     let values = asked.values;
-    let set = bestset::best_set(room, &clash, &own, &shares, &values, count);
+    let set = bestset::best_set(&rooms, &clash, &own, &shares, &values, count);
     AdmitAnswer::Admitted(set)
+}
+
+// The answer with the site's loads set aside: for callers that have the flows by value.
+pub fn decide(site: Site, l: FlowList, count: usize) -> AdmitAnswer
+    ensures { λ r. ⌜ r ≡ answerIn site (λ k. getD (l .list) k zeroFlow) count ⌝ }
+{
+    decide_on(site, l, count, false)
+}
+
+// What is answered where the loads alone are over: what comes before 5, or 5 itself.
+fn barred(site: Site, l: FlowList, count: usize, cell: usize, excess: usize) -> BesideAnswer
+    requires { ⌜ loadAnswer site ≡ load.Over cell excess ⌝ }
+    ensures { λ r. ⌜ r ≡ besideIn site (λ k. getD (l .list) k zeroFlow) count ⌝ }
+{
+    if 16 < count {
+        return BesideAnswer::Answered(AdmitAnswer::TooMany);
+    }
+    let cells = site.cells;
+    let clash = site.clash_rows();
+    if !nested(&clash, cells as usize) {
+        return BesideAnswer::Answered(AdmitAnswer::NotNested);
+    }
+    BesideAnswer::Over(cell, excess)
+}
+
+// The answer on top of the site's loads: for callers that have the flows by value.
+pub fn decide_beside(site: Site, l: FlowList, count: usize) -> BesideAnswer
+    ensures { λ r. ⌜ r ≡ besideIn site (λ k. getD (l .list) k zeroFlow) count ⌝ }
+{
+    let test = load_test(site);
+    let LoadAnswer::Over(cell, excess) = test else {
+        let a = decide_on(site, l, count, true);
+        return BesideAnswer::Answered(a);
+    };
+    barred(site, l, count, cell, excess)
 }
 
 // The set of greatest value that the site carries, its own loads set aside; of equals, the set with the smallest number.
@@ -188,4 +276,13 @@ pub fn admit(site: Site, flows: &[Flow]) -> AdmitAnswer
     let count = flows.len();
     let l = gather(flows);
     decide(site, l, count)
+}
+
+// The set of greatest value that the site carries on top of its own loads; of equals, the set with the smallest number.
+pub fn admit_beside(site: Site, flows: &[Flow]) -> BesideAnswer
+    ensures { λ r. ⌜ r ≡ besideAnswer site (now (flows .entry)) ⌝ }
+{
+    let count = flows.len();
+    let l = gather(flows);
+    decide_beside(site, l, count)
 }

@@ -1,7 +1,7 @@
 -- The best set depends on the first flows alone, so many as there are:
 -- two lists that agree on these have the same loads in every cell and the same worths, set by set.
 -- Assumes nothing.
-use Prim.Native.Nat.{ℕ, _^_, _<_}
+use Prim.Native.Nat.{ℕ, _+_, _^_, _<_}
 use mathlib.Core.Path.{_≡_, ap, ap₂, fun-ext}
 use native.Mathlib.Omega.{arith}
 use lib.Dec.{eqb}
@@ -9,7 +9,7 @@ use lib.Pow.{pow-pos}
 use Rattle.laws.specs.Choice.{pick}
 use Rattle.theory.specs.Net.{Net, loaded}
 use Rattle.theory.specs.Verdict.{loadVerdict}
-use Rattle.admitting.specs.Best.{Flows, worth, loadIn, passes, allowed, best}
+use Rattle.admitting.specs.Best.{Flows, worth, loadIn, passes, allowedBeside, bestBeside}
 use Rattle.admitting.proofs.Sets.{total-eq}
 use Rattle.admitting.proofs.Best.{best-alike}
 
@@ -28,17 +28,18 @@ module _ (s : Net) (n : ℕ) (cell cell' share share' value value' : ℕ → ℕ
       total-eq (λ k. pick (eqb (cell k) i) (share k) 0) (λ k. pick (eqb (cell' k) i) (share' k) 0) n x
       (λ k l. ap₂ (λ (a b : ℕ). pick (eqb a i) b 0) (same-cell k l) (same-share k l)))
 
-  -- the problem with these loads
+  -- the problem with these loads on top of its own
   abbrev under : (ℕ → ℕ) → Net
-  under load = record { cells = s .cells; width = s .width; load = load; clash = s .clash; usable = s .usable }
+  under load = record { cells = s .cells; width = s .width; load = λ i. load i + s .load i; clash = s .clash; usable = s .usable }
 
-  same-allowed : (x : ℕ) → allowed s one x ≡ allowed s other x
-  unfolding allowed
+  same-allowed : (x : ℕ) → allowedBeside s one x ≡ allowedBeside s other x
+  unfolding allowedBeside
   same-allowed x = ap (λ (load : ℕ → ℕ). passes (loadVerdict (under load) (loaded (under load)))) (loads x)
 
-  pub best-flows : best s one ≡ best s other
-  unfolding best
+  pub best-flows : bestBeside s one ≡ bestBeside s other
+  unfolding bestBeside
   best-flows =
-      best-alike (allowed s one) (allowed s other) (worth one) (worth other) (2 ^ n) 0 0 (λ y _. same-allowed y) (λ y _. total-eq value value' n y same-value)
+      best-alike (allowedBeside s one) (allowedBeside s other) (worth one) (worth other) (2 ^ n) 0 0 (λ y _. same-allowed y)
+      (λ y _. total-eq value value' n y same-value)
       (omega arith)
       (omega (arith, pow-pos n))

@@ -1,9 +1,10 @@
 -- The definition finds the best set.
---     best-is       the answer is allowed, none is worth more, and none with the same worth has a smaller number
---     best-only     there is only one such set
+--     best-beside-is       on top of loads that pass: the answer is allowed, none is worth more, and none with the same worth has a smaller number
+--     best-beside-only     there is only one such set
+--     best-is, best-only     the same with the loads set aside: then the empty set always passes
 --     best-split, best-cut, best-alike     for searches: in two parts, a part in which nothing is better, another test with the same verdicts
 -- Assumes nothing.
-use mathlib.Core.Path.{_≡_, refl, sym, ap, _∙_}
+use mathlib.Core.Path.{_≡_, refl, sym, ap, subst, _∙_, fun-ext}
 use mathlib.Core.Bool.{Bool, true, false, _&&_, true≢false}
 use mathlib.Core.Logic.{⊎-elim, _↔_}
 use Prim.Native.Nat.{ℕ, zero, suc, _+_, _-_, _^_, _≤_, _<_}
@@ -17,7 +18,7 @@ use Rattle.laws.proofs.Choice.{cases}
 use Rattle.theory.specs.Net.{Net, loaded, LoadTest}
 use Rattle.theory.specs.Verdict.{LoadVerdict, holds, over, loadVerdict}
 use Rattle.theory.proofs.LoadLaws.{load-holds}
-use Rattle.admitting.specs.Best.{Flows, worth, laden, passes, allowed, better, bestOf, best, Best}
+use Rattle.admitting.specs.Best.{Flows, worth, beside, idle, laden, passes, allowedBeside, allowed, better, bestOf, bestBeside, best, BestBeside, Best}
 use Rattle.admitting.proofs.Sets.{total-none}
 
 -- ---- over any test and any worth
@@ -119,39 +120,60 @@ pass : (v : LoadVerdict) → passes v ≡ true → v ≡ holds
 pass holds e = refl
 pass (over i m) e = let z : _≡_ {A = ℕ} 0 1 = cc in absurd (omega arith)
 
-pub allowed-means : (s : Net) (f : Flows) (x : ℕ) → allowed s f x ≡ true ↔ LoadTest (laden s f x) (loaded (laden s f x))
-unfolding allowed
-allowed-means s f x = (
-  λ e. load-holds (laden s f x) (loaded (laden s f x)) .0 (pass (loadVerdict (laden s f x) (loaded (laden s f x))) e),
-  λ h. ap passes (load-holds (laden s f x) (loaded (laden s f x)) .1 h),
+pub beside-means : (s : Net) (f : Flows) (x : ℕ) → allowedBeside s f x ≡ true ↔ LoadTest (beside s f x) (loaded (beside s f x))
+unfolding allowedBeside
+beside-means s f x = (
+  λ e. load-holds (beside s f x) (loaded (beside s f x)) .0 (pass (loadVerdict (beside s f x) (loaded (beside s f x))) e),
+  λ h. ap passes (load-holds (beside s f x) (loaded (beside s f x)) .1 h),
 )
 
--- no cell is loaded by the empty set
-pub empty-allowed : (s : Net) (f : Flows) → allowed s f 0 ≡ true
-empty-allowed s f = allowed-means s f 0 .1
-    (λ i l e.
-    let none = total-none (λ k. pick (eqb (f .cell k) i) (f .share k) 0) (f .count) in
-    absurd (omega (arith, none, ltb-true 0 (laden s f 0 .load i) e)))
+pub allowed-means : (s : Net) (f : Flows) (x : ℕ) → allowed s f x ≡ true ↔ LoadTest (laden s f x) (loaded (laden s f x))
+allowed-means s f x = beside-means (idle s) f x
 
-pub best-is : (s : Net) (f : Flows) → Best s f (best s f)
-unfolding best
-best-is s f =
-    let start : Leads (allowed s f) (worth f) 0 0 = record {
+-- the empty set adds no load: it is allowed where the loads alone pass, and only there
+pub none-added : (s : Net) (f : Flows) → beside s f 0 ≡ s
+none-added s f =
+    ap (λ (load : ℕ → ℕ). record { cells = s .cells; width = s .width; load = load; clash = s .clash; usable = s .usable })
+    (fun-ext (λ i. let none = total-none (λ k. pick (eqb (f .cell k) i) (f .share k) 0) (f .count) in omega (arith, none)))
+
+pub empty-beside : (s : Net) (f : Flows) → allowedBeside s f 0 ≡ true ↔ LoadTest s (loaded s)
+empty-beside s f = (
+  λ e. subst (λ (n : Net). LoadTest n (loaded n)) (none-added s f) (beside-means s f 0 .0 e),
+  λ h. beside-means s f 0 .1 (subst (λ (n : Net). LoadTest n (loaded n)) (sym (none-added s f)) h),
+)
+
+-- where the loads are set aside no cell is loaded
+pub idle-passes : (s : Net) → LoadTest (idle s) (loaded (idle s))
+idle-passes s i l e = absurd (omega (arith, ltb-true 0 (idle s .load i) e))
+
+pub empty-allowed : (s : Net) (f : Flows) → allowed s f 0 ≡ true
+empty-allowed s f = empty-beside (idle s) f .1 (idle-passes s)
+
+pub best-beside-is : (s : Net) (f : Flows) → LoadTest s (loaded s) → BestBeside s f (bestBeside s f)
+unfolding bestBeside
+best-beside-is s f passed =
+    let start : Leads (allowedBeside s f) (worth f) 0 0 = record {
       before = omega arith;
-      good = empty-allowed s f;
+      good = empty-beside s f .1 passed;
       most = λ y l. absurd (omega arith);
       least = λ y l. absurd (omega arith);
     } in
     let z : 0 + 2 ^ f .count ≡ 2 ^ f .count = omega arith in
-    let l : Leads (allowed s f) (worth f) (2 ^ f .count) (bestOf (allowed s f) (worth f) (2 ^ f .count) 0 0) =
-    rw z at (best-leads (allowed s f) (worth f) (2 ^ f .count) 0 0 start) in record {
+    let l : Leads (allowedBeside s f) (worth f) (2 ^ f .count) (bestOf (allowedBeside s f) (worth f) (2 ^ f .count) 0 0) =
+    rw z at (best-leads (allowedBeside s f) (worth f) (2 ^ f .count) 0 0 start) in record {
       inside = omega (arith, l .before, pow-pos (f .count));
-      passed = allowed-means s f _ .0 (l .good);
-      most = λ y h p. l .most y h (allowed-means s f y .1 p);
-      least = λ y h p. l .least y h (allowed-means s f y .1 p);
+      passed = beside-means s f _ .0 (l .good);
+      most = λ y h p. l .most y h (beside-means s f y .1 p);
+      least = λ y h p. l .least y h (beside-means s f y .1 p);
     }
 
-pub best-only : (s : Net) (f : Flows) (x y : ℕ) → Best s f x → Best s f y → x ≡ y
-best-only s f x y p q =
+pub best-is : (s : Net) (f : Flows) → Best s f (best s f)
+best-is s f = best-beside-is (idle s) f (idle-passes s)
+
+pub best-beside-only : (s : Net) (f : Flows) (x y : ℕ) → BestBeside s f x → BestBeside s f y → x ≡ y
+best-beside-only s f x y p q =
     let e : worth f y ≡ worth f x = omega (arith, p .most y (q .inside) (q .passed), q .most x (p .inside) (p .passed)) in
     omega (arith, p .least y (q .inside) (q .passed) e, q .least x (p .inside) (p .passed) (sym e))
+
+pub best-only : (s : Net) (f : Flows) (x y : ℕ) → Best s f x → Best s f y → x ≡ y
+best-only s f = best-beside-only (idle s) f

@@ -2,7 +2,7 @@
 -- worth 5; on the second it finds the set that the paper says it finds.
 -- Assumes nothing.
 use mathlib.Core.Path.{_≡_, refl}
-use mathlib.Core.Bool.{false}
+use mathlib.Core.Bool.{true, false}
 use mathlib.Core.List.{[], _∷_}
 use Prim.Native.Nat.{_+_}
 use lib.Dec.{eqb}
@@ -12,7 +12,7 @@ use Rattle.laws.specs.Search.{firstOf}
 use Rattle.theory.specs.Net.{Net, unblocked}
 use Rattle.theory.specs.Verdict.{overloaded, lowestOver, loadVerdict}
 use Rattle.admitting.specs.Recurrence.{greatest, kept, keptBelow, recurrence}
-use Rattle.admitting.specs.Best.{Flows, worth, allowed, bestOf, best}
+use Rattle.admitting.specs.Best.{Flows, worth, allowedBeside, bestOf, bestBeside, best}
 
 -- "no clashes, two cells, N=2"
 abbrev bare : Net
@@ -24,7 +24,7 @@ three = record { count = 3; cell = λ k. getD (0 ∷ 1 ∷ 0 ∷ []) k 0; share 
 
 -- the set {2,3} worth 6: numbers 2 and 4
 pub desk : (best bare three ≡ 6) × (worth three 6 ≡ 6)
-unfolding best bestOf allowed sum firstOf overloaded lowestOver loadVerdict
+unfolding bestBeside bestOf allowedBeside sum firstOf overloaded lowestOver loadVerdict
 desk = (refl, refl)
 
 -- "and the recurrence stops at 5": it keeps flow 1 for the reward 1, which does not go with flow 3
@@ -48,7 +48,7 @@ nine = record {
 
 -- the set {2,3,4,8,9}, worth 177: 2 + 4 + 8 + 128 + 256
 pub table-two : (best row nine ≡ 398) × (worth nine 398 ≡ 177)
-unfolding best bestOf allowed sum firstOf overloaded lowestOver loadVerdict
+unfolding bestBeside bestOf allowedBeside sum firstOf overloaded lowestOver loadVerdict
 table-two = (refl, refl)
 
 -- Table II's line Opt, which is this recurrence: the same set, 177. So the recurrence is the paper's where the paper says what it finds, and stops at 5 where
@@ -56,3 +56,15 @@ table-two = (refl, refl)
 pub table-two-recurrence : recurrence row nine ≡ 398
 unfolding keptBelow kept greatest sum
 table-two-recurrence = refl
+
+-- "on top of the loads that the site has": two cells that clash, N=4, loads 1 and 1, flows (cell, share, value) 1,2,5; 2,1,3; 2,1,4. All three go where the
+-- loads are set aside; beside them cell 2 has room for 2, and the two flows in it are worth more than the one in cell 1
+abbrev running : Net
+running = record { cells = 2; width = 4; load = λ _. 1; clash = λ _ _. true; usable = unblocked }
+
+abbrev asking : Flows
+asking = record { count = 3; cell = λ k. getD (0 ∷ 1 ∷ 1 ∷ []) k 0; share = λ k. getD (2 ∷ 1 ∷ 1 ∷ []) k 0; value = λ k. getD (5 ∷ 3 ∷ 4 ∷ []) k 0 }
+
+pub desk-beside : (bestBeside running asking ≡ 6) × (best running asking ≡ 7)
+unfolding bestBeside bestOf allowedBeside sum firstOf overloaded lowestOver loadVerdict
+desk-beside = (refl, refl)

@@ -6,7 +6,7 @@ use lib.Dec.{ltb, leb, eqb}
 use Rattle.laws.specs.Choice.{pick}
 use Rattle.laws.specs.Sum.{sum}
 use Rattle.theory.specs.Net.{Net, demand, room}
-pub use Rattle.admitting.specs.Flows.{Flows, total, worth, loadIn, laden}
+pub use Rattle.admitting.specs.Flows.{Flows, total, worth, loadIn, beside, idle, laden}
 
 -- the greatest of f 0, .. f (n - 1)
 unfoldable pub greatest : (ℕ → ℕ) → ℕ → ℕ

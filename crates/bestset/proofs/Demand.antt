@@ -1,5 +1,5 @@
 -- The load test of a set of flows, flow by flow: a cell's demand is the sum of what the flows of the set add to it (`demand-flat`).
--- In the class a test of the loaded cells alone and one of all cells say the same (`allowed-everyone`), so that the cells that flows are in may be tested,
+-- In the class a test of the loaded cells alone and one of all cells say the same (`allowed-everyone`), so that every cell may be tested,
 -- loaded or not (`allowed-flat`).
 -- Assumes nothing.
 use mathlib.Core.Path.{_≡_, refl, sym, ap, _∙_}
@@ -8,16 +8,16 @@ use mathlib.Core.Logic.{_↔_}
 use Prim.Native.Nat.{ℕ, _+_, _≤_, _<_}
 use native.Mathlib.Omega.{arith}
 use lib.Dec.{ltb, eqb}
-use borrow.Author.Tests.{ltb-true, le-ltb, eq-eqb, ne-eqb, eqb-true}
+use borrow.Author.Tests.{le-ltb, eq-eqb, ne-eqb, eqb-true}
 use Rattle.laws.specs.Bits.{bitAt}
 use Rattle.laws.specs.Choice.{pick}
 use Rattle.laws.specs.Sum.{sum}
-use Rattle.laws.proofs.Sums.{sum-eq, sum-add, sum-none, sum-swap, sum-single, sum-some}
-use Rattle.theory.specs.Net.{Net, everyone, loaded, Class, LoadTest, room, lower}
+use Rattle.laws.proofs.Sums.{sum-eq, sum-add, sum-none, sum-swap, sum-single}
+use Rattle.theory.specs.Net.{Net, everyone, loaded, Class, LoadTest, room, lower, demand}
 use Rattle.theory.proofs.Exact.{covers-everyone, covers-loaded, test-plans, class-exact}
-use Rattle.admitting.specs.Best.{Flows, total, loadIn, laden, allowed}
+use Rattle.admitting.specs.Best.{Flows, total, loadIn, beside, allowedBeside}
 use Rattle.bestset.specs.Code.{weightAt}
-use Rattle.admitting.proofs.Best.{allowed-means}
+use Rattle.admitting.proofs.Best.{beside-means}
 
 gated-sum : (b : Bool) (g : ℕ → ℕ) (n : ℕ) → pick b (sum g n) 0 ≡ sum (λ k. pick b (g k) 0) n
 gated-sum true g n = refl
@@ -56,14 +56,18 @@ module _ (s : Net) (f : Flows) (x i : ℕ) where
       (λ t. pick (ltb (f .cell k) i) (pick (s .clash (f .cell k) i) (pick (bitAt x k) (pick t (f .share k) 0) 0) 0) 0)
       (eq-eqb (f .cell k) (f .cell k) refl)
 
-  lower-flat : lower (laden s f x) i ≡ sum below (f .count)
+  -- what the flows of the set bring to the lower clashing cells
+  abbrev pub lowerIn : ℕ
+  lowerIn = sum (λ j. pick (s .clash j i) (loadIn f x j) 0) i
+
+  lower-flat : lowerIn ≡ sum below (f .count)
   lower-flat =
       sum-eq (λ j. pick (s .clash j i) (loadIn f x j) 0) (λ j. sum (λ k. pick (s .clash j i) (brings j k) 0) (f .count)) i
       (λ j _. gated-sum (s .clash j i) (brings j) (f .count))
       ∙ sum-swap (λ j k. pick (s .clash j i) (brings j k) 0) i (f .count)
       ∙ sum-eq (λ k. sum (λ j. pick (s .clash j i) (brings j k) 0) i) below (f .count) (λ k _. by-flow k)
 
-  pub demand-flat : loadIn f x i + lower (laden s f x) i ≡ total (weightAt s f i) (f .count) x
+  pub demand-flat : loadIn f x i + lowerIn ≡ total (weightAt s f i) (f .count) x
   demand-flat =
       ap (λ (n : ℕ). loadIn f x i + n) lower-flat
       ∙ sym (sum-add (brings i) below (f .count))
@@ -72,31 +76,34 @@ module _ (s : Net) (f : Flows) (x i : ℕ) where
       join (bitAt x k) (eqb (f .cell k) i) (ltb (f .cell k) i) (s .clash (f .cell k) i) (f .share k)
       (λ e. let q : f .cell k ≡ i = eqb-true (f .cell k) i e in le-ltb (f .cell k) i (omega arith)))
 
--- what a flow brings to a cell, where it brings anything, it brings to its own
-own : (a b : Bool) (v : ℕ) → 0 < pick a (pick b v 0) 0 → b ≡ true
-own true true v h = refl
-own true false v h = absurd (omega arith)
-own false b v h = absurd (omega arith)
+gated-add : (b : Bool) (v w : ℕ) → pick b (v + w) 0 ≡ pick b v 0 + pick b w 0
+gated-add true v w = refl
+gated-add false v w = refl
+
+-- a cell's demand beside the loads is its demand by the loads, and what the flows of the set add
+module _ (s : Net) (f : Flows) (x i : ℕ) where
+  lower-beside : lower (beside s f x) i ≡ lowerIn s f x i + lower s i
+  lower-beside =
+      sum-eq (λ j. pick (s .clash j i) (loadIn f x j + s .load j) 0) (λ j. pick (s .clash j i) (loadIn f x j) 0 + pick (s .clash j i) (s .load j) 0) i
+      (λ j _. gated-add (s .clash j i) (loadIn f x j) (s .load j))
+      ∙ sum-add (λ j. pick (s .clash j i) (loadIn f x j) 0) (λ j. pick (s .clash j i) (s .load j) 0) i
+
+  pub demand-beside : demand (beside s f x) i ≡ demand s i + total (weightAt s f i) (f .count) x
+  demand-beside = omega (arith, lower-beside, demand-flat s f x i)
 
 module _ (s : Net) (f : Flows) (class : Class s everyone) (x : ℕ) where
   -- in the class a set is allowed exactly where no cell at all is over
-  pub allowed-everyone : allowed s f x ≡ true ↔ LoadTest (laden s f x) everyone
+  pub allowed-everyone : allowedBeside s f x ≡ true ↔ LoadTest (beside s f x) everyone
   allowed-everyone = (
     λ e.
-        let net = laden s f x in
-        class-exact net everyone (covers-everyone net) class .1 (test-plans net (loaded net) (covers-loaded net) (allowed-means s f x .0 e)),
-    λ h. allowed-means s f x .1 (λ i l _. h i l refl),
+        let net = beside s f x in
+        class-exact net everyone (covers-everyone net) class .1 (test-plans net (loaded net) (covers-loaded net) (beside-means s f x .0 e)),
+    λ h. beside-means s f x .1 (λ i l _. h i l refl),
   )
 
-  -- and exactly where no cell that a flow is in is over
-  pub allowed-flat : f .count ≤ 16 → ((k : ℕ) → k < 16 → f .cell k < s .cells)
-      → allowed s f x ≡ true ↔ ((j : ℕ) → j < 16 → total (weightAt s f (f .cell j)) (f .count) x ≤ room s)
-  allowed-flat few inside = (
-    λ e j l. omega (arith, demand-flat s f x (f .cell j), allowed-everyone .0 e (f .cell j) (inside j l) refl),
-    λ h. allowed-means s f x .1
-        (λ i l e.
-        let some = sum-some (λ k. pick (bitAt x k) (pick (eqb (f .cell k) i) (f .share k) 0) 0) (f .count) (ltb-true 0 (loadIn f x i) e) in
-        let k = some .0 in
-        let here : f .cell k ≡ i = eqb-true (f .cell k) i (own (bitAt x k) (eqb (f .cell k) i) (f .share k) (some .2)) in
-        omega (arith, demand-flat s f x i, rw here at (h k (omega (arith, some .1))))),
+  -- that is, where what the flows of the set add fits beside the loads in every cell
+  pub allowed-flat : allowedBeside s f x ≡ true ↔ ((i : ℕ) → i < s .cells → demand s i + total (weightAt s f i) (f .count) x ≤ room s)
+  allowed-flat = (
+    λ e i l. omega (arith, demand-beside s f x i, allowed-everyone .0 e i l refl),
+    λ h. allowed-everyone .1 (λ i l _. omega (arith, demand-beside s f x i, h i l)),
   )

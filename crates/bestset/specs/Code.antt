@@ -1,14 +1,15 @@
--- What the arrays of the search stand for: what each flow adds to the demand in the cell of each flow, and where a search stands. No answer is defined here.
+-- What the arrays of the search stand for: what each flow adds to the demand of each cell, how much room each cell has, and where a search stands.
+-- No answer is defined here.
 use Prim.Native.Nat.{ℕ, _+_, _*_, _/_, _%_, _^_, _≤_, _<_}
 use mathlib.Core.Path.{_≡_}
-use mathlib.Core.Bool.{Bool, _&&_, _||_, not}
+use mathlib.Core.Bool.{Bool, false, _&&_, _||_, not}
 use mathlib.Core.List.{List}
 use lib.Dec.{ltb, eqb}
 use lib.ListN.{getD}
 use Rattle.laws.specs.Bits.{bitIn}
 use Rattle.laws.specs.Choice.{pick}
 use Rattle.laws.specs.Sum.{sum, any}
-use Rattle.theory.specs.Net.{Net, everyone, Class, room}
+use Rattle.theory.specs.Net.{Net, everyone, Class, room, demand}
 use Rattle.admitting.specs.Best.{Flows, total, worth, bestOf}
 
 -- the flows that three arrays state
@@ -27,55 +28,57 @@ weighed clash c share i = pick (counts clash c i) share 0
 abbrev pub weightAt : Net → Flows → ℕ → ℕ → ℕ
 weightAt s f i k = weighed (s .clash) (f .cell k) (f .share k) i
 
--- the same for the flows of the arrays: what flow k adds in the cell of flow j
+-- the same for the flows of the arrays: what flow k adds in cell i
 abbrev pub addedIn : List ℕ → List ℕ → List ℕ → ℕ → ℕ → ℕ
-addedIn rows cell share k j = weighed (bitIn rows) (getD cell k 0) (getD share k 0) (getD cell j 0)
+addedIn rows cell share k i = weighed (bitIn rows) (getD cell k 0) (getD share k 0) i
 
--- and by the place in a table that has 16 numbers to a flow
+-- and by the place in a table that has 32 numbers to a flow
 abbrev pub weighedAt : List ℕ → List ℕ → List ℕ → ℕ → ℕ
-weighedAt rows cell share m = addedIn rows cell share (m / 16) (m % 16)
+weighedAt rows cell share m = addedIn rows cell share (m / 32) (m % 32)
 
--- what flow k adds in the cell of flow j, read from that table
+-- what flow k adds in cell i, read from that table
 abbrev pub entry : List ℕ → ℕ → ℕ → ℕ
-entry weights j k = getD weights (k * 16 + j) 0
+entry weights i k = getD weights (k * 32 + i) 0
 
 -- the value of a set of the 16 flows
 abbrev pub valueIn : List ℕ → ℕ → ℕ
 valueIn values x = total (λ k. getD values k 0) 16 x
 
--- whether the demands of a set all fit
-unfoldable pub roomFor : List ℕ → ℕ → ℕ → Bool
-roomFor weights room x = not (any (λ j. ltb room (total (entry weights j) 16 x)) 16)
+-- whether the demands of a set all fit, each in the room of its cell
+unfoldable pub roomFor : List ℕ → List ℕ → ℕ → Bool
+roomFor weights rooms x = not (any (λ i. ltb (getD rooms i 0) (total (entry weights i) 16 x)) 32)
 
--- what the flows of x add to the demand in the cell of flow j
+-- what the flows of x add to the demand of cell i
 abbrev pub demandIn : List ℕ → List ℕ → List ℕ → ℕ → ℕ → ℕ → ℕ
-demandIn rows cell share n x j = total (λ k. addedIn rows cell share k j) n x
+demandIn rows cell share n x i = total (λ k. addedIn rows cell share k i) n x
 
--- whether a set of the first n flows fits the room, in the cell of each of 16 flows
-unfoldable pub fitsIn : ℕ → List ℕ → List ℕ → List ℕ → ℕ → ℕ → Bool
-fitsIn room rows cell share n x = not (any (λ j. ltb room (demandIn rows cell share n x j)) 16)
+-- whether a set of the first n flows fits the room of each cell
+unfoldable pub fitsIn : List ℕ → List ℕ → List ℕ → List ℕ → ℕ → ℕ → Bool
+fitsIn rooms rows cell share n x = not (any (λ i. ltb (getD rooms i 0) (demandIn rows cell share n x i)) 32)
 
--- the best of the sets that fit, by a plain search over all sets: for a problem that the arrays state, `best` (proofs/Problem.antt)
-unfoldable pub bestIn : ℕ → List ℕ → List ℕ → List ℕ → List ℕ → ℕ → ℕ
-bestIn room rows cell share value n = bestOf (fitsIn room rows cell share n) (worth (flowsIn cell share value n)) (2 ^ n) 0 0
+-- the best of the sets that fit, by a plain search over all sets: for a problem that the arrays state, `bestBeside` (proofs/Problem.antt)
+unfoldable pub bestIn : List ℕ → List ℕ → List ℕ → List ℕ → List ℕ → ℕ → ℕ
+bestIn rooms rows cell share value n = bestOf (fitsIn rooms rows cell share n) (worth (flowsIn cell share value n)) (2 ^ n) 0 0
 
--- The arrays state this problem: its room, its clashes, and cells that are its own. And the problem is in the class, so that a cell that is not loaded is over
--- only where a loaded one is.
-pub record Stands (s : Net) (room' : ℕ) (rows cell : List ℕ) : Type 0 where
-  pub room-is : room' ≡ room s
+-- The arrays state this problem: what its loads leave of its room in each cell, its clashes, of which none is with a spare cell, and cells that are its own.
+-- And the problem is in the class, so that a cell that is not loaded is over only where a loaded one is.
+pub record Stands (s : Net) (rooms rows cell : List ℕ) : Type 0 where
+  pub rooms-are : (i : ℕ) → i < s .cells → getD rooms i 0 + demand s i ≡ room s
   pub clash-is : bitIn rows ≡ s .clash
+  pub none-past : (a i : ℕ) → a < s .cells → s .cells ≤ i → i < 32 → s .clash a i ≡ false
+  pub few-cells : s .cells ≤ 32
   pub inside : (k : ℕ) → k < 16 → getD cell k 0 < s .cells
   pub class : Class s everyone
 
 -- Where a search stands: the flows from k on are decided, the set is allowed, and the flows below k are still to come.
-pub record Ready (k set worth rest room : ℕ) (used weights values : List ℕ) (best best-worth : ℕ) : Type 0 where
+pub record Ready (k set worth rest : ℕ) (rooms used weights values : List ℕ) (best best-worth : ℕ) : Type 0 where
   pub flows : k ≤ 16
   pub above : set % 2 ^ k ≡ 0
   pub most : set + 2 ^ k ≤ 65536
-  pub room-most : room ≤ 65535
+  pub room-most : (i : ℕ) → i < 32 → getD rooms i 0 ≤ 65535
   pub small : worth + rest ≤ 1048560
   pub worth-is : worth ≡ valueIn values set
   pub rest-is : rest ≡ sum (λ j. getD values j 0) k
-  pub used-is : (j : ℕ) → j < 16 → getD used j 0 ≡ total (entry weights j) 16 set
-  pub used-most : (j : ℕ) → j < 16 → getD used j 0 ≤ room
+  pub used-is : (i : ℕ) → i < 32 → getD used i 0 ≡ total (entry weights i) 16 set
+  pub used-most : (i : ℕ) → i < 32 → getD used i 0 ≤ getD rooms i 0
   pub best-is : best-worth ≡ valueIn values best

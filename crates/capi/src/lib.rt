@@ -22,6 +22,8 @@ ghost use Rattle.planner.specs.Plan.{planAnswer, planTable};
 ghost use Rattle.planner.specs.Given.{planGiven};
 ghost use Rattle.search.specs.Search.{searchAnswer, searchTable};
 ghost use Rattle.search.specs.Given.{searchGiven};
+ghost use Rattle.finder.specs.Find.{findAnswer, findTable, overFullAnswer};
+ghost use Rattle.finder.specs.Given.{findGiven, overFullGiven};
 ghost use Rattle.handheld.specs.Change.{changeAnswer, changeSite, changeTable, changedOf};
 ghost use Rattle.handheld.specs.Given.{changeGiven};
 ghost use Rattle.checker.specs.Check.{checkAnswer};
@@ -45,8 +47,11 @@ ghost use Rattle.planfile.specs.Write.{planWritten, planOut};
 ghost use Rattle.planfile.specs.Given.{planWrittenGiven};
 ghost use Rattle.sheet.specs.Read.{readSheet};
 ghost use Rattle.sheet.specs.Write.{sheetWritten, sheetOut};
+ghost use Rattle.tidying.specs.Tidy.{tidyAnswer, tidyOut};
+ghost use Rattle.tidying.specs.Given.{tidyGiven};
 ghost use Rattle.admission.specs.Admit.{admitAnswer};
-ghost use Rattle.admission.specs.Given.{admitGiven};
+ghost use Rattle.admission.specs.Beside.{besideAnswer};
+ghost use Rattle.admission.specs.Given.{admitGiven, besideGiven};
 ghost use Rattle.told.specs.Told.{told, toldRenumbered};
 ghost use Rattle.toldfiles.specs.Files.{toldEdited, toldChanged, toldSiteRead, toldPlanRead, toldSheetRead};
 
@@ -135,6 +140,21 @@ pub extern "C" fn dugg_search(site: Site, limit: u64, table: &mut [u8]) -> Answe
     ensures { λ _. ⌜ now (table .exit) ≡ searchTable site limit (now (table .entry)) ⌝ }
 {
     told::search_answer(search::search(site, limit, table))
+}
+
+#[no_mangle]
+pub extern "C" fn dugg_find(site: Site, limit: u64, table: &mut [u8]) -> Answer
+    ensures { λ r. ⌜ r ≡ told (findGiven (findAnswer site limit (now (table .entry)))) ⌝ }
+    ensures { λ _. ⌜ now (table .exit) ≡ findTable site limit (now (table .entry)) ⌝ }
+{
+    told::find_answer(finder::find(site, limit, table))
+}
+
+#[no_mangle]
+pub extern "C" fn dugg_over_full(site: Site, cells: u32) -> Answer
+    ensures { λ r. ⌜ r ≡ told (overFullGiven (overFullAnswer site cells)) ⌝ }
+{
+    told::over_full_answer(finder::over_full(site, cells))
 }
 
 // The change of a load by value, with its answer as a C caller gets it.
@@ -301,8 +321,23 @@ pub extern "C" fn dugg_write_sheet(site: Site, out: &mut [u8]) -> Answer
 }
 
 #[no_mangle]
+pub extern "C" fn dugg_tidy(sheet: &[u8], out: &mut [u8]) -> Answer
+    ensures { λ r. ⌜ r ≡ told (tidyGiven (tidyAnswer (now (sheet .entry)) (now (out .entry)))) ⌝ }
+    ensures { λ _. ⌜ now (out .exit) ≡ tidyOut (now (sheet .entry)) (now (out .entry)) ⌝ }
+{
+    toldfiles::tidy_answer(tidying::tidy(sheet, out))
+}
+
+#[no_mangle]
 pub extern "C" fn dugg_admit(site: Site, flows: &[Flow]) -> Answer
     ensures { λ r. ⌜ r ≡ told (admitGiven (admitAnswer site (now (flows .entry)))) ⌝ }
 {
     told::admit_answer(admission::admit(site, flows))
+}
+
+#[no_mangle]
+pub extern "C" fn dugg_admit_beside(site: Site, flows: &[Flow]) -> Answer
+    ensures { λ r. ⌜ r ≡ told (besideGiven (besideAnswer site (now (flows .entry)))) ⌝ }
+{
+    told::beside_answer(admission::admit_beside(site, flows))
 }

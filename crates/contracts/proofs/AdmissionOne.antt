@@ -4,8 +4,10 @@ use mathlib.Core.Path.{_≡_, refl}
 use mathlib.Core.List.{List}
 use Prim.Native.Nat.{ℕ}
 use Rattle.admission.specs.Admit.{admitAnswer, answerIn, shareIn}
+use Rattle.admission.specs.Beside.{besideAnswer, besideIn}
 use Rattle.admission.specs.declared.AdmitAnswer.{AdmitAnswer}
-use Rattle.contracts.specs.AdmissionSays.{Admit, Decide, ShareIn}
+use Rattle.admission.specs.declared.BesideAnswer.{BesideAnswer}
+use Rattle.contracts.specs.AdmissionSays.{Admit, AdmitBeside, Decide, DecideBeside, ShareIn}
 use Rattle.flowlist.specs.List.{zeroFlow}
 use Rattle.flowlist.specs.declared.Flow.{Flow}
 use Rattle.flowlist.specs.declared.FlowList.{FlowList}
@@ -33,12 +35,32 @@ decide-one site l count = (
   λ q says. says .answer,
 )
 
+-- admission::decide_beside
+pub decideBeside-one : (site : Site) (l : FlowList) (count : ℕ)
+    → (r : BesideAnswer) × (DecideBeside site l count r)
+    × ((q : BesideAnswer) → DecideBeside site l count q → (q ≡ r))
+decideBeside-one site l count = (
+  besideIn site (λ k. getD (l .list) k zeroFlow) count,
+  record { answer = refl },
+  λ q says. says .answer,
+)
+
 -- admission::admit
 pub admit-one : (site : Site) (flows : List Flow)
     → (r : AdmitAnswer) × (Admit site flows r)
     × ((q : AdmitAnswer) → Admit site flows q → (q ≡ r))
 admit-one site flows = (
   admitAnswer site flows,
+  record { answer = refl },
+  λ q says. says .answer,
+)
+
+-- admission::admit_beside
+pub admitBeside-one : (site : Site) (flows : List Flow)
+    → (r : BesideAnswer) × (AdmitBeside site flows r)
+    × ((q : BesideAnswer) → AdmitBeside site flows q → (q ≡ r))
+admitBeside-one site flows = (
+  besideAnswer site flows,
   record { answer = refl },
   λ q says. says .answer,
 )

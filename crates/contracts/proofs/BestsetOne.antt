@@ -7,11 +7,11 @@ use Rattle.bestset.specs.Code.{bestIn}
 use Rattle.contracts.specs.BestsetSays.{BestsetBestSet}
 
 -- bestset::best_set
-pub bestsetBestSet-one : (room : ℕ) (clash : List ℕ) (cell : List ℕ) (share : List ℕ) (value : List ℕ) (count : ℕ)
-    → (r : ℕ) × (BestsetBestSet room clash cell share value count r)
-    × ((q : ℕ) → BestsetBestSet room clash cell share value count q → (q ≡ r))
-bestsetBestSet-one room clash cell share value count = (
-  bestIn room clash cell share value count,
+pub bestsetBestSet-one : (rooms : List ℕ) (clash : List ℕ) (cell : List ℕ) (share : List ℕ) (value : List ℕ) (count : ℕ)
+    → (r : ℕ) × (BestsetBestSet rooms clash cell share value count r)
+    × ((q : ℕ) → BestsetBestSet rooms clash cell share value count q → (q ≡ r))
+bestsetBestSet-one rooms clash cell share value count = (
+  bestIn rooms clash cell share value count,
   record { answer = refl },
   λ q says. says .answer,
 )

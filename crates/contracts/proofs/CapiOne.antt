@@ -4,13 +4,16 @@ use mathlib.Core.Path.{_≡_, refl}
 use mathlib.Core.List.{List}
 use Prim.Native.Nat.{ℕ}
 use Rattle.admission.specs.Admit.{admitAnswer}
-use Rattle.admission.specs.Given.{admitGiven}
+use Rattle.admission.specs.Beside.{besideAnswer}
+use Rattle.admission.specs.Given.{admitGiven, besideGiven}
 use Rattle.checker.specs.Check.{checkAnswer}
 use Rattle.checker.specs.Given.{checkGiven}
-use Rattle.contracts.specs.CapiSays.{DuggAdmit, DuggCarry, DuggChain, DuggChangeLoad, DuggCheck, DuggCheckWords, DuggClash, DuggClass, DuggClearReach}
-use Rattle.contracts.specs.CapiSays.{DuggFault, DuggHeaviest, DuggLeast, DuggLoadTest, DuggMend, DuggPlan, DuggPlanWords, DuggReadPlan, DuggReadSheet}
-use Rattle.contracts.specs.CapiSays.{DuggReadSite, DuggRenumber, DuggSearch, DuggSetLoad, DuggSetReach, DuggShare, DuggShareRepeated, DuggToBytes}
-use Rattle.contracts.specs.CapiSays.{DuggToWords, DuggWritePlan, DuggWriteSheet, DuggWriteSite}
+use Rattle.contracts.specs.CapiSays.{DuggAdmit, DuggAdmitBeside, DuggCarry, DuggChain, DuggChangeLoad, DuggCheck, DuggCheckWords, DuggClash, DuggClass}
+use Rattle.contracts.specs.CapiSays.{DuggClearReach, DuggFault, DuggFind, DuggHeaviest, DuggLeast, DuggLoadTest, DuggMend, DuggOverFull, DuggPlan}
+use Rattle.contracts.specs.CapiSays.{DuggPlanWords, DuggReadPlan, DuggReadSheet, DuggReadSite, DuggRenumber, DuggSearch, DuggSetLoad, DuggSetReach}
+use Rattle.contracts.specs.CapiSays.{DuggShare, DuggShareRepeated, DuggTidy, DuggToBytes, DuggToWords, DuggWritePlan, DuggWriteSheet, DuggWriteSite}
+use Rattle.finder.specs.Find.{findAnswer, findTable, overFullAnswer}
+use Rattle.finder.specs.Given.{findGiven, overFullGiven}
 use Rattle.flowlist.specs.declared.Flow.{Flow}
 use Rattle.handheld.specs.Change.{changeAnswer, changeSite, changeTable}
 use Rattle.handheld.specs.Given.{changeGiven}
@@ -42,6 +45,8 @@ use Rattle.site.specs.Record.{faultOf}
 use Rattle.site.specs.declared.Site.{Site}
 use Rattle.sitefile.specs.Read.{readSite}
 use Rattle.sitefile.specs.Write.{siteOut, siteWritten}
+use Rattle.tidying.specs.Given.{tidyGiven}
+use Rattle.tidying.specs.Tidy.{tidyAnswer, tidyOut}
 use Rattle.told.specs.Told.{told, toldRenumbered}
 use Rattle.told.specs.declared.Answer.{Answer}
 use Rattle.told.specs.declared.RenumberedC.{RenumberedC}
@@ -174,6 +179,27 @@ duggSearch-one site limit table = (
   searchTable site limit table,
   record { answer = refl; table-after = refl },
   λ q table″ says. (says .answer, says .table-after),
+)
+
+-- capi::dugg_find
+pub duggFind-one : (site : Site) (limit : ℕ) (table : List ℕ)
+    → (r : Answer) × (table′ : List ℕ) × (DuggFind site limit table r table′)
+    × ((q : Answer) (table″ : List ℕ) → DuggFind site limit table q table″ → (q ≡ r) × (table″ ≡ table′))
+duggFind-one site limit table = (
+  told (findGiven (findAnswer site limit table)),
+  findTable site limit table,
+  record { answer = refl; table-after = refl },
+  λ q table″ says. (says .answer, says .table-after),
+)
+
+-- capi::dugg_over_full
+pub duggOverFull-one : (site : Site) (cells : ℕ)
+    → (r : Answer) × (DuggOverFull site cells r)
+    × ((q : Answer) → DuggOverFull site cells q → (q ≡ r))
+duggOverFull-one site cells = (
+  told (overFullGiven (overFullAnswer site cells)),
+  record { answer = refl },
+  λ q says. says .answer,
 )
 
 -- capi::dugg_change_load
@@ -358,12 +384,33 @@ duggWriteSheet-one site out = (
   λ q out″ says. (says .answer, says .out-after),
 )
 
+-- capi::dugg_tidy
+pub duggTidy-one : (sheet : List ℕ) (out : List ℕ)
+    → (r : Answer) × (out′ : List ℕ) × (DuggTidy sheet out r out′)
+    × ((q : Answer) (out″ : List ℕ) → DuggTidy sheet out q out″ → (q ≡ r) × (out″ ≡ out′))
+duggTidy-one sheet out = (
+  told (tidyGiven (tidyAnswer sheet out)),
+  tidyOut sheet out,
+  record { answer = refl; out-after = refl },
+  λ q out″ says. (says .answer, says .out-after),
+)
+
 -- capi::dugg_admit
 pub duggAdmit-one : (site : Site) (flows : List Flow)
     → (r : Answer) × (DuggAdmit site flows r)
     × ((q : Answer) → DuggAdmit site flows q → (q ≡ r))
 duggAdmit-one site flows = (
   told (admitGiven (admitAnswer site flows)),
+  record { answer = refl },
+  λ q says. says .answer,
+)
+
+-- capi::dugg_admit_beside
+pub duggAdmitBeside-one : (site : Site) (flows : List Flow)
+    → (r : Answer) × (DuggAdmitBeside site flows r)
+    × ((q : Answer) → DuggAdmitBeside site flows q → (q ≡ r))
+duggAdmitBeside-one site flows = (
+  told (besideGiven (besideAnswer site flows)),
   record { answer = refl },
   λ q says. says .answer,
 )

@@ -1,11 +1,13 @@
 -- Every call of the product has one answer: crate by crate. Made by tools/surface from the source. Assumes nothing.
-use Rattle.contracts.proofs.AdmissionOne.{admit-one, decide-one, shareIn-one}
-use Rattle.contracts.proofs.CapiOne.{duggAdmit-one, duggCarry-one, duggChain-one, duggChangeLoad-one, duggCheck-one, duggCheckWords-one, duggClash-one}
-use Rattle.contracts.proofs.CapiOne.{duggClass-one, duggClearReach-one, duggFault-one, duggHeaviest-one, duggLeast-one, duggLoadTest-one, duggMend-one}
-use Rattle.contracts.proofs.CapiOne.{duggPlan-one, duggPlanWords-one, duggReadPlan-one, duggReadSheet-one, duggReadSite-one, duggRenumber-one}
-use Rattle.contracts.proofs.CapiOne.{duggSearch-one, duggSetLoad-one, duggSetReach-one, duggShare-one, duggShareRepeated-one, duggToBytes-one}
-use Rattle.contracts.proofs.CapiOne.{duggToWords-one, duggWritePlan-one, duggWriteSheet-one, duggWriteSite-one}
+use Rattle.contracts.proofs.AdmissionOne.{admit-one, admitBeside-one, decide-one, decideBeside-one, shareIn-one}
+use Rattle.contracts.proofs.CapiOne.{duggAdmit-one, duggAdmitBeside-one, duggCarry-one, duggChain-one, duggChangeLoad-one, duggCheck-one}
+use Rattle.contracts.proofs.CapiOne.{duggCheckWords-one, duggClash-one, duggClass-one, duggClearReach-one, duggFault-one, duggFind-one, duggHeaviest-one}
+use Rattle.contracts.proofs.CapiOne.{duggLeast-one, duggLoadTest-one, duggMend-one, duggOverFull-one, duggPlan-one, duggPlanWords-one, duggReadPlan-one}
+use Rattle.contracts.proofs.CapiOne.{duggReadSheet-one, duggReadSite-one, duggRenumber-one, duggSearch-one, duggSetLoad-one, duggSetReach-one}
+use Rattle.contracts.proofs.CapiOne.{duggShare-one, duggShareRepeated-one, duggTidy-one, duggToBytes-one, duggToWords-one, duggWritePlan-one}
+use Rattle.contracts.proofs.CapiOne.{duggWriteSheet-one, duggWriteSite-one}
 use Rattle.contracts.proofs.CheckerOne.{check-one}
+use Rattle.contracts.proofs.FinderOne.{find-one, overFull-one}
 use Rattle.contracts.proofs.FlowsheetOne.{readFlows-one}
 use Rattle.contracts.proofs.HandheldOne.{changeLoad-one, changedLoad-one}
 use Rattle.contracts.proofs.HeaviestOne.{heaviest-one}
@@ -14,12 +16,15 @@ use Rattle.contracts.proofs.MenderOne.{mend-one, mendOnly-one}
 use Rattle.contracts.proofs.NumberingOne.{carry-one, renumber-one}
 use Rattle.contracts.proofs.PlanfileOne.{readPlan-one, writePlan-one}
 use Rattle.contracts.proofs.PlannerOne.{plan-one}
+use Rattle.contracts.proofs.ResizeOne.{setBlocked-one, setChannels-one, setRule-one, setSlots-one}
+use Rattle.contracts.proofs.RoomsOne.{roomOf-one}
 use Rattle.contracts.proofs.SearchOne.{search-one}
 use Rattle.contracts.proofs.SharesOne.{defaultRepeats-one, share-one, shareOf-one}
 use Rattle.contracts.proofs.SheetOne.{readSheet-one, writeSheet-one}
 use Rattle.contracts.proofs.SiteOne.{ruleOk-one, siteClash-one, siteClashRows-one, siteClearReach-one, siteFaultIn-one, siteSetLoad-one}
 use Rattle.contracts.proofs.SiteOne.{siteSetReach-one, siteZeros-one, sizeOk-one, within-one}
 use Rattle.contracts.proofs.SitefileOne.{readSite-one, writeSite-one}
+use Rattle.contracts.proofs.TidyingOne.{changesMade-one, tidy-one}
 use Rattle.contracts.proofs.WordtableOne.{checkWords-one, planWords-one, toBytes-one, toWords-one}
 use Rattle.contracts.specs.Every.{EveryCall}
 
@@ -35,6 +40,10 @@ every-call = record {
   siteSetLoad = siteSetLoad-one;
   siteSetReach = siteSetReach-one;
   siteClearReach = siteClearReach-one;
+  setSlots = setSlots-one;
+  setChannels = setChannels-one;
+  setRule = setRule-one;
+  setBlocked = setBlocked-one;
   loadTest = loadTest-one;
   chain = chain-one;
   inClass = inClass-one;
@@ -56,9 +65,14 @@ every-call = record {
   checkWords = checkWords-one;
   toWords = toWords-one;
   toBytes = toBytes-one;
+  find = find-one;
+  overFull = overFull-one;
+  roomOf = roomOf-one;
   shareIn = shareIn-one;
   decide = decide-one;
+  decideBeside = decideBeside-one;
   admit = admit-one;
+  admitBeside = admitBeside-one;
   readFlows = readFlows-one;
   readSite = readSite-one;
   writeSite = writeSite-one;
@@ -66,6 +80,8 @@ every-call = record {
   writePlan = writePlan-one;
   readSheet = readSheet-one;
   writeSheet = writeSheet-one;
+  tidy = tidy-one;
+  changesMade = changesMade-one;
   duggFault = duggFault-one;
   duggClash = duggClash-one;
   duggSetLoad = duggSetLoad-one;
@@ -78,6 +94,8 @@ every-call = record {
   duggHeaviest = duggHeaviest-one;
   duggPlan = duggPlan-one;
   duggSearch = duggSearch-one;
+  duggFind = duggFind-one;
+  duggOverFull = duggOverFull-one;
   duggChangeLoad = duggChangeLoad-one;
   duggCheck = duggCheck-one;
   duggPlanWords = duggPlanWords-one;
@@ -95,5 +113,7 @@ every-call = record {
   duggWritePlan = duggWritePlan-one;
   duggReadSheet = duggReadSheet-one;
   duggWriteSheet = duggWriteSheet-one;
+  duggTidy = duggTidy-one;
   duggAdmit = duggAdmit-one;
+  duggAdmitBeside = duggAdmitBeside-one;
 }

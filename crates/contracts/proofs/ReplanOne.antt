@@ -1,25 +1,13 @@
 -- For any arguments one answer and one content of what is lent meet the contract, and no other, in crate `replan`: by its equalities alone.
 -- Made by tools/surface from the source. Assumes nothing.
 use mathlib.Core.Path.{_≡_, refl}
-use mathlib.Core.Bool.{Bool}
 use mathlib.Core.List.{List}
 use Prim.Native.Nat.{_*_, ℕ}
-use Rattle.contracts.specs.ReplanSays.{ReplanIsPlan, ReplanPlanFrom}
+use Rattle.contracts.specs.ReplanSays.{ReplanPlanFrom}
 use Rattle.planner.specs.Plan.{answerOf, leaves}
 use Rattle.planner.specs.declared.PlanAnswer.{PlanAnswer}
 use Rattle.site.specs.Reach.{isOpen, netBy}
 use Rattle.theory.specs.Greedy.{greedy}
-use Rattle.theory.specs.Plan.{isPlan}
-
--- replan::is_plan
-pub replanIsPlan-one : (table : List ℕ) (cells : ℕ) (slots : ℕ) (channels : ℕ) (loads : List ℕ) (clash : List ℕ) (blocked : List ℕ)
-    → (r : Bool) × (ReplanIsPlan table cells slots channels loads clash blocked r)
-    × ((q : Bool) → ReplanIsPlan table cells slots channels loads clash blocked q → (q ≡ r))
-replanIsPlan-one table cells slots channels loads clash blocked = (
-  isPlan (netBy cells (slots * channels) loads clash (isOpen blocked)) table,
-  record { answer = refl },
-  λ q says. says .answer,
-)
 
 -- replan::plan_from
 pub replanPlanFrom-one : (table : List ℕ) (first : ℕ) (cells : ℕ) (slots : ℕ) (channels : ℕ) (loads : List ℕ) (clash : List ℕ) (blocked : List ℕ)

@@ -6,7 +6,7 @@ use Prim.Native.Nat.{_+_, ℕ}
 use Rattle.contracts.specs.SayNumberingSays.{SayNumberingPutAnew, SayNumberingPutCarry, SayNumberingPutRenumber}
 use Rattle.numbering.specs.declared.CarryAnswer.{CarryAnswer}
 use Rattle.numbering.specs.declared.RenumberAnswer.{RenumberAnswer}
-use Rattle.say_numbering.specs.Anew.{anewSaid, anewTable}
+use Rattle.say_numbering.specs.Anew.{anewSaid}
 use Rattle.say_numbering.specs.Said.{carrySaid, renumberSaid}
 use Rattle.site.specs.declared.Site.{Site}
 use lib.ListN.{length}
@@ -35,13 +35,12 @@ sayNumberingPutCarry-one out at reply = (
 )
 
 -- say_numbering::put_anew
-pub sayNumberingPutAnew-one : (site : Site) (table : List ℕ) (out : List ℕ) (at : ℕ)
-    → (r : ℕ) × (table′ : List ℕ) × (out′ : List ℕ) × (SayNumberingPutAnew site table out at r table′ out′)
-    × ((q : ℕ) (table″ : List ℕ) (out″ : List ℕ) → SayNumberingPutAnew site table out at q table″ out″ → (q ≡ r) × (table″ ≡ table′) × (out″ ≡ out′))
-sayNumberingPutAnew-one site table out at = (
-  at + length (anewSaid site table),
-  anewTable site table,
-  sets out at (anewSaid site table),
-  record { answer = refl; table-after = refl; out-after = refl },
-  λ q table″ out″ says. (says .answer, says .table-after, says .out-after),
+pub sayNumberingPutAnew-one : (out : List ℕ) (at : ℕ) (site : Site)
+    → (r : ℕ) × (out′ : List ℕ) × (SayNumberingPutAnew out at site r out′)
+    × ((q : ℕ) (out″ : List ℕ) → SayNumberingPutAnew out at site q out″ → (q ≡ r) × (out″ ≡ out′))
+sayNumberingPutAnew-one out at site = (
+  at + length (anewSaid site),
+  sets out at (anewSaid site),
+  record { answer = refl; out-after = refl },
+  λ q out″ says. (says .answer, says .out-after),
 )

@@ -3,11 +3,21 @@
 use mathlib.Core.Path.{_≡_, refl}
 use mathlib.Core.List.{List}
 use Prim.Native.Nat.{_+_, ℕ}
-use Rattle.contracts.specs.SayRuleSays.{SayRulePutRule, SayRulePutThirds}
-use Rattle.say_rule.specs.Said.{ruleSaid, thirdsSaid}
+use Rattle.contracts.specs.SayRuleSays.{SayRulePutRule, SayRulePutThirds, SayRuleThirdOf}
+use Rattle.say_rule.specs.Said.{ruleSaid, thirdOf, thirdsSaid}
 use Rattle.site.specs.declared.Site.{Site}
 use lib.ListN.{length}
 use lib.Seq.{sets}
+
+-- say_rule::third_of
+pub sayRuleThirdOf-one : (reach : List ℕ) (a : ℕ) (b : ℕ)
+    → (r : ℕ) × (SayRuleThirdOf reach a b r)
+    × ((q : ℕ) → SayRuleThirdOf reach a b q → (q ≡ r))
+sayRuleThirdOf-one reach a b = (
+  thirdOf reach a b,
+  record { answer = refl },
+  λ q says. says .answer,
+)
 
 -- say_rule::put_rule
 pub sayRulePutRule-one : (out : List ℕ) (at : ℕ) (site : Site)

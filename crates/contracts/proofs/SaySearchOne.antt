@@ -3,12 +3,22 @@
 use mathlib.Core.Path.{_≡_, refl}
 use mathlib.Core.List.{List}
 use Prim.Native.Nat.{_+_, ℕ}
-use Rattle.contracts.specs.SaySearchSays.{SaySearchPutOn, SaySearchPutSearch, SaySearchPutSearched}
-use Rattle.say_search.specs.Said.{onSaid, searchSaid, searchedSaid, searchedTable}
+use Rattle.contracts.specs.SaySearchSays.{SaySearchPutOn, SaySearchPutSearch, SaySearchTriesPhrase}
+use Rattle.phrases.specs.declared.Phrase.{Phrase}
+use Rattle.say_search.specs.Said.{onSaid, searchSaid, triesPhrase}
 use Rattle.search.specs.declared.SearchAnswer.{SearchAnswer}
-use Rattle.site.specs.declared.Site.{Site}
 use lib.ListN.{length}
 use lib.Seq.{sets}
+
+-- say_search::tries_phrase
+pub saySearchTriesPhrase-one : (row : ℕ) (tries : ℕ)
+    → (r : Phrase) × (SaySearchTriesPhrase row tries r)
+    × ((q : Phrase) → SaySearchTriesPhrase row tries q → (q ≡ r))
+saySearchTriesPhrase-one row tries = (
+  triesPhrase row tries,
+  record { answer = refl },
+  λ q says. says .answer,
+)
 
 -- say_search::put_search
 pub saySearchPutSearch-one : (out : List ℕ) (at : ℕ) (reply : SearchAnswer)
@@ -30,16 +40,4 @@ saySearchPutOn-one out at tries = (
   sets out at (onSaid tries),
   record { answer = refl; out-after = refl },
   λ q out″ says. (says .answer, says .out-after),
-)
-
--- say_search::put_searched
-pub saySearchPutSearched-one : (out : List ℕ) (at : ℕ) (site : Site) (table : List ℕ)
-    → (r : ℕ) × (out′ : List ℕ) × (table′ : List ℕ) × (SaySearchPutSearched out at site table r out′ table′)
-    × ((q : ℕ) (out″ : List ℕ) (table″ : List ℕ) → SaySearchPutSearched out at site table q out″ table″ → (q ≡ r) × (out″ ≡ out′) × (table″ ≡ table′))
-saySearchPutSearched-one out at site table = (
-  at + length (searchedSaid site table),
-  sets out at (searchedSaid site table),
-  searchedTable site table,
-  record { answer = refl; out-after = refl; table-after = refl },
-  λ q out″ table″ says. (says .answer, says .out-after, says .table-after),
 )

@@ -3,12 +3,33 @@
 use mathlib.Core.Path.{_≡_, refl}
 use mathlib.Core.List.{List}
 use Prim.Native.Nat.{_+_, ℕ}
-use Rattle.contracts.specs.SayWhySays.{SayWhyPutWhy}
+use Rattle.contracts.specs.SayWhySays.{SayWhyFewest, SayWhyLeastNumber, SayWhyPutWhy}
+use Rattle.judges.specs.declared.LeastAnswer.{LeastAnswer}
 use Rattle.planner.specs.Plan.{planTable}
 use Rattle.site.specs.declared.Site.{Site}
-use Rattle.why.specs.Said.{whySaid}
+use Rattle.why.specs.Said.{fewest, leastNumber, whySaid}
 use lib.ListN.{length}
 use lib.Seq.{sets}
+
+-- say_why::least_number
+pub sayWhyLeastNumber-one : (reply : LeastAnswer)
+    → (r : ℕ) × (SayWhyLeastNumber reply r)
+    × ((q : ℕ) → SayWhyLeastNumber reply q → (q ≡ r))
+sayWhyLeastNumber-one reply = (
+  leastNumber reply,
+  record { answer = refl },
+  λ q says. says .answer,
+)
+
+-- say_why::fewest
+pub sayWhyFewest-one : (n : ℕ) (f : ℕ)
+    → (r : ℕ) × (SayWhyFewest n f r)
+    × ((q : ℕ) → SayWhyFewest n f q → (q ≡ r))
+sayWhyFewest-one n f = (
+  fewest n f,
+  record { answer = refl },
+  λ q says. says .answer,
+)
 
 -- say_why::put_why
 pub sayWhyPutWhy-one : (site : Site) (table : List ℕ) (out : List ℕ)

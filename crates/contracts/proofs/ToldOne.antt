@@ -2,13 +2,18 @@
 -- Made by tools/surface from the source. Assumes nothing.
 use mathlib.Core.Path.{_≡_, refl}
 use Prim.Native.Nat.{ℕ}
-use Rattle.admission.specs.Given.{admitGiven}
+use Rattle.admission.specs.Given.{admitGiven, besideGiven}
 use Rattle.admission.specs.declared.AdmitAnswer.{AdmitAnswer}
+use Rattle.admission.specs.declared.BesideAnswer.{BesideAnswer}
 use Rattle.checker.specs.Given.{checkGiven}
 use Rattle.checker.specs.declared.CheckAnswer.{CheckAnswer}
-use Rattle.contracts.specs.ToldSays.{ToldAdmitAnswer, ToldCarryAnswer, ToldChainAnswer, ToldChangeAnswer, ToldCheckAnswer, ToldClashAnswer}
-use Rattle.contracts.specs.ToldSays.{ToldClassAnswer, ToldFaultAnswer, ToldFormAnswer, ToldGive, ToldHeaviestAnswer, ToldLeastAnswer, ToldLoadAnswer}
-use Rattle.contracts.specs.ToldSays.{ToldMendAnswer, ToldPlanAnswer, ToldRenumberAnswer, ToldRenumberedSite, ToldSearchAnswer, ToldShareAnswer}
+use Rattle.contracts.specs.ToldSays.{ToldAdmitAnswer, ToldBesideAnswer, ToldCarryAnswer, ToldChainAnswer, ToldChangeAnswer, ToldCheckAnswer}
+use Rattle.contracts.specs.ToldSays.{ToldClashAnswer, ToldClassAnswer, ToldFaultAnswer, ToldFindAnswer, ToldFormAnswer, ToldGive, ToldHeaviestAnswer}
+use Rattle.contracts.specs.ToldSays.{ToldLeastAnswer, ToldLoadAnswer, ToldMendAnswer, ToldOverFullAnswer, ToldPlanAnswer, ToldRenumberAnswer}
+use Rattle.contracts.specs.ToldSays.{ToldRenumberedSite, ToldSearchAnswer, ToldShareAnswer}
+use Rattle.finder.specs.Given.{findGiven, overFullGiven}
+use Rattle.finder.specs.declared.FindAnswer.{FindAnswer}
+use Rattle.finder.specs.declared.OverFullAnswer.{OverFullAnswer}
 use Rattle.handheld.specs.Given.{changeGiven}
 use Rattle.handheld.specs.declared.ChangeAnswer.{ChangeAnswer}
 use Rattle.heaviest.specs.Given.{heaviestGiven}
@@ -139,6 +144,26 @@ toldSearchAnswer-one said = (
   λ q says. says .answer,
 )
 
+-- told::find_answer
+pub toldFindAnswer-one : (said : FindAnswer)
+    → (r : Answer) × (ToldFindAnswer said r)
+    × ((q : Answer) → ToldFindAnswer said q → (q ≡ r))
+toldFindAnswer-one said = (
+  told (findGiven said),
+  record { answer = refl },
+  λ q says. says .answer,
+)
+
+-- told::over_full_answer
+pub toldOverFullAnswer-one : (said : OverFullAnswer)
+    → (r : Answer) × (ToldOverFullAnswer said r)
+    × ((q : Answer) → ToldOverFullAnswer said q → (q ≡ r))
+toldOverFullAnswer-one said = (
+  told (overFullGiven said),
+  record { answer = refl },
+  λ q says. says .answer,
+)
+
 -- told::change_answer
 pub toldChangeAnswer-one : (said : ChangeAnswer)
     → (r : Answer) × (ToldChangeAnswer said r)
@@ -215,6 +240,16 @@ pub toldAdmitAnswer-one : (said : AdmitAnswer)
     × ((q : Answer) → ToldAdmitAnswer said q → (q ≡ r))
 toldAdmitAnswer-one said = (
   told (admitGiven said),
+  record { answer = refl },
+  λ q says. says .answer,
+)
+
+-- told::beside_answer
+pub toldBesideAnswer-one : (said : BesideAnswer)
+    → (r : Answer) × (ToldBesideAnswer said r)
+    × ((q : Answer) → ToldBesideAnswer said q → (q ≡ r))
+toldBesideAnswer-one said = (
+  told (besideGiven said),
   record { answer = refl },
   λ q says. says .answer,
 )

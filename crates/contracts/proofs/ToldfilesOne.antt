@@ -2,7 +2,7 @@
 -- Made by tools/surface from the source. Assumes nothing.
 use mathlib.Core.Path.{_≡_, refl}
 use Rattle.contracts.specs.ToldfilesSays.{ToldfilesChangedSite, ToldfilesEditedAnswer, ToldfilesPlanRead, ToldfilesPlanWritten, ToldfilesReadAnswer}
-use Rattle.contracts.specs.ToldfilesSays.{ToldfilesSheetAnswer, ToldfilesSheetRead, ToldfilesSiteRead, ToldfilesWrittenAnswer}
+use Rattle.contracts.specs.ToldfilesSays.{ToldfilesSheetAnswer, ToldfilesSheetRead, ToldfilesSiteRead, ToldfilesTidyAnswer, ToldfilesWrittenAnswer}
 use Rattle.handheld.specs.declared.Changed.{Changed}
 use Rattle.planfile.specs.Given.{planWrittenGiven}
 use Rattle.planfile.specs.declared.PlanRead.{PlanRead}
@@ -15,6 +15,8 @@ use Rattle.sheet.specs.declared.SheetAnswer.{SheetAnswer}
 use Rattle.sheet.specs.declared.SheetRead.{SheetRead}
 use Rattle.site.specs.declared.Edited.{Edited}
 use Rattle.sitefile.specs.declared.SiteRead.{SiteRead}
+use Rattle.tidying.specs.Given.{tidyGiven}
+use Rattle.tidying.specs.declared.TidyAnswer.{TidyAnswer}
 use Rattle.told.specs.Told.{told}
 use Rattle.told.specs.declared.Answer.{Answer}
 use Rattle.toldfiles.specs.Files.{toldChanged, toldEdited, toldPlanRead, toldSheetRead, toldSiteRead}
@@ -57,6 +59,16 @@ pub toldfilesSheetAnswer-one : (said : SheetAnswer)
     × ((q : Answer) → ToldfilesSheetAnswer said q → (q ≡ r))
 toldfilesSheetAnswer-one said = (
   told (sheetGiven said),
+  record { answer = refl },
+  λ q says. says .answer,
+)
+
+-- toldfiles::tidy_answer
+pub toldfilesTidyAnswer-one : (said : TidyAnswer)
+    → (r : Answer) × (ToldfilesTidyAnswer said r)
+    × ((q : Answer) → ToldfilesTidyAnswer said q → (q ≡ r))
+toldfilesTidyAnswer-one said = (
+  told (tidyGiven said),
   record { answer = refl },
   λ q says. says .answer,
 )

@@ -3,11 +3,13 @@
 use mathlib.Core.Path.{_≡_, refl}
 use mathlib.Core.List.{List, _++_}
 use Prim.Native.Nat.{_*_, ℕ}
-use Rattle.contracts.specs.WordformsSays.{WordformsGatherWords, WordformsScatter}
+use Rattle.contracts.specs.WordformsSays.{WordformsGatherWords, WordformsLayRow, WordformsScatter}
+use Rattle.laws.specs.Part.{listOf}
+use Rattle.laws.specs.Sum.{bit}
 use Rattle.theory.specs.Greedy.{reserved}
 use Rattle.wordforms.specs.Words.{bytesOf, sendsAt}
 use Rattle.words.specs.Words.{wordsOf}
-use lib.ListN.{drop}
+use lib.ListN.{drop, length}
 use lib.Seq.{sets}
 
 -- wordforms::gather_words
@@ -18,6 +20,16 @@ wordformsGatherWords-one words table n cells = (
   sets words 0 (wordsOf cells n (reserved n table)),
   record { words-after = refl },
   λ words″ says. says .words-after,
+)
+
+-- wordforms::lay_row
+pub wordformsLayRow-one : (row : List ℕ) (words : List ℕ) (i : ℕ)
+    → (row′ : List ℕ) × (WordformsLayRow row words i row′)
+    × ((row″ : List ℕ) → WordformsLayRow row words i row″ → (row″ ≡ row′))
+wordformsLayRow-one row words i = (
+  listOf (λ k. bit (sendsAt words i k)) (length row),
+  record { row-after = refl },
+  λ row″ says. says .row-after,
 )
 
 -- wordforms::scatter

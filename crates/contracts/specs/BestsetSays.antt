@@ -6,5 +6,5 @@ use Prim.Native.Nat.{ℕ}
 use Rattle.bestset.specs.Code.{bestIn}
 
 -- bestset::best_set
-pub record BestsetBestSet (room : ℕ) (clash : List ℕ) (cell : List ℕ) (share : List ℕ) (value : List ℕ) (count : ℕ) (r : ℕ) : Type 0 where
-  pub answer : r ≡ bestIn room clash cell share value count
+pub record BestsetBestSet (rooms : List ℕ) (clash : List ℕ) (cell : List ℕ) (share : List ℕ) (value : List ℕ) (count : ℕ) (r : ℕ) : Type 0 where
+  pub answer : r ≡ bestIn rooms clash cell share value count

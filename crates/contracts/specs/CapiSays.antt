@@ -4,9 +4,12 @@ use mathlib.Core.Path.{_≡_}
 use mathlib.Core.List.{List}
 use Prim.Native.Nat.{ℕ}
 use Rattle.admission.specs.Admit.{admitAnswer}
-use Rattle.admission.specs.Given.{admitGiven}
+use Rattle.admission.specs.Beside.{besideAnswer}
+use Rattle.admission.specs.Given.{admitGiven, besideGiven}
 use Rattle.checker.specs.Check.{checkAnswer}
 use Rattle.checker.specs.Given.{checkGiven}
+use Rattle.finder.specs.Find.{findAnswer, findTable, overFullAnswer}
+use Rattle.finder.specs.Given.{findGiven, overFullGiven}
 use Rattle.flowlist.specs.declared.Flow.{Flow}
 use Rattle.handheld.specs.Change.{changeAnswer, changeSite, changeTable}
 use Rattle.handheld.specs.Given.{changeGiven}
@@ -38,6 +41,8 @@ use Rattle.site.specs.Record.{faultOf}
 use Rattle.site.specs.declared.Site.{Site}
 use Rattle.sitefile.specs.Read.{readSite}
 use Rattle.sitefile.specs.Write.{siteOut, siteWritten}
+use Rattle.tidying.specs.Given.{tidyGiven}
+use Rattle.tidying.specs.Tidy.{tidyAnswer, tidyOut}
 use Rattle.told.specs.Told.{told, toldRenumbered}
 use Rattle.told.specs.declared.Answer.{Answer}
 use Rattle.told.specs.declared.RenumberedC.{RenumberedC}
@@ -99,6 +104,15 @@ pub record DuggPlan (site : Site) (table : List ℕ) (r : Answer) (table′ : Li
 pub record DuggSearch (site : Site) (limit : ℕ) (table : List ℕ) (r : Answer) (table′ : List ℕ) : Type 0 where
   pub answer : r ≡ told (searchGiven (searchAnswer site limit table))
   pub table-after : table′ ≡ searchTable site limit table
+
+-- capi::dugg_find
+pub record DuggFind (site : Site) (limit : ℕ) (table : List ℕ) (r : Answer) (table′ : List ℕ) : Type 0 where
+  pub answer : r ≡ told (findGiven (findAnswer site limit table))
+  pub table-after : table′ ≡ findTable site limit table
+
+-- capi::dugg_over_full
+pub record DuggOverFull (site : Site) (cells : ℕ) (r : Answer) : Type 0 where
+  pub answer : r ≡ told (overFullGiven (overFullAnswer site cells))
 
 -- capi::dugg_change_load
 pub record DuggChangeLoad (site : Site) (cell : ℕ) (load : ℕ) (table : List ℕ) (r : Answer) (site′ : Site) (table′ : List ℕ) : Type 0 where
@@ -180,6 +194,15 @@ pub record DuggWriteSheet (site : Site) (out : List ℕ) (r : Answer) (out′ : 
   pub answer : r ≡ told (writtenGiven (sheetWritten site out))
   pub out-after : out′ ≡ sheetOut site out
 
+-- capi::dugg_tidy
+pub record DuggTidy (sheet : List ℕ) (out : List ℕ) (r : Answer) (out′ : List ℕ) : Type 0 where
+  pub answer : r ≡ told (tidyGiven (tidyAnswer sheet out))
+  pub out-after : out′ ≡ tidyOut sheet out
+
 -- capi::dugg_admit
 pub record DuggAdmit (site : Site) (flows : List Flow) (r : Answer) : Type 0 where
   pub answer : r ≡ told (admitGiven (admitAnswer site flows))
+
+-- capi::dugg_admit_beside
+pub record DuggAdmitBeside (site : Site) (flows : List Flow) (r : Answer) : Type 0 where
+  pub answer : r ≡ told (besideGiven (besideAnswer site flows))

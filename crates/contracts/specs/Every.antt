@@ -5,13 +5,16 @@ use mathlib.Core.Bool.{Bool}
 use mathlib.Core.List.{List}
 use Prim.Native.Nat.{ℕ}
 use Rattle.admission.specs.declared.AdmitAnswer.{AdmitAnswer}
+use Rattle.admission.specs.declared.BesideAnswer.{BesideAnswer}
 use Rattle.checker.specs.declared.CheckAnswer.{CheckAnswer}
-use Rattle.contracts.specs.AdmissionSays.{Admit, Decide, ShareIn}
-use Rattle.contracts.specs.CapiSays.{DuggAdmit, DuggCarry, DuggChain, DuggChangeLoad, DuggCheck, DuggCheckWords, DuggClash, DuggClass, DuggClearReach}
-use Rattle.contracts.specs.CapiSays.{DuggFault, DuggHeaviest, DuggLeast, DuggLoadTest, DuggMend, DuggPlan, DuggPlanWords, DuggReadPlan, DuggReadSheet}
-use Rattle.contracts.specs.CapiSays.{DuggReadSite, DuggRenumber, DuggSearch, DuggSetLoad, DuggSetReach, DuggShare, DuggShareRepeated, DuggToBytes}
-use Rattle.contracts.specs.CapiSays.{DuggToWords, DuggWritePlan, DuggWriteSheet, DuggWriteSite}
+use Rattle.cleaning.specs.declared.Tidied.{Tidied}
+use Rattle.contracts.specs.AdmissionSays.{Admit, AdmitBeside, Decide, DecideBeside, ShareIn}
+use Rattle.contracts.specs.CapiSays.{DuggAdmit, DuggAdmitBeside, DuggCarry, DuggChain, DuggChangeLoad, DuggCheck, DuggCheckWords, DuggClash, DuggClass}
+use Rattle.contracts.specs.CapiSays.{DuggClearReach, DuggFault, DuggFind, DuggHeaviest, DuggLeast, DuggLoadTest, DuggMend, DuggOverFull, DuggPlan}
+use Rattle.contracts.specs.CapiSays.{DuggPlanWords, DuggReadPlan, DuggReadSheet, DuggReadSite, DuggRenumber, DuggSearch, DuggSetLoad, DuggSetReach}
+use Rattle.contracts.specs.CapiSays.{DuggShare, DuggShareRepeated, DuggTidy, DuggToBytes, DuggToWords, DuggWritePlan, DuggWriteSheet, DuggWriteSite}
 use Rattle.contracts.specs.CheckerSays.{Check}
+use Rattle.contracts.specs.FinderSays.{Find, OverFull}
 use Rattle.contracts.specs.FlowsheetSays.{ReadFlows}
 use Rattle.contracts.specs.HandheldSays.{ChangeLoad, ChangedLoad}
 use Rattle.contracts.specs.HeaviestSays.{Heaviest}
@@ -20,12 +23,17 @@ use Rattle.contracts.specs.MenderSays.{Mend, MendOnly}
 use Rattle.contracts.specs.NumberingSays.{Carry, Renumber}
 use Rattle.contracts.specs.PlanfileSays.{ReadPlan, WritePlan}
 use Rattle.contracts.specs.PlannerSays.{Plan}
+use Rattle.contracts.specs.ResizeSays.{SetBlocked, SetChannels, SetRule, SetSlots}
+use Rattle.contracts.specs.RoomsSays.{RoomOf}
 use Rattle.contracts.specs.SearchSays.{Search}
 use Rattle.contracts.specs.SharesSays.{DefaultRepeats, Share, ShareOf}
 use Rattle.contracts.specs.SheetSays.{ReadSheet, WriteSheet}
 use Rattle.contracts.specs.SiteSays.{RuleOk, SiteClash, SiteClashRows, SiteClearReach, SiteFaultIn, SiteSetLoad, SiteSetReach, SiteZeros, SizeOk, Within}
 use Rattle.contracts.specs.SitefileSays.{ReadSite, WriteSite}
+use Rattle.contracts.specs.TidyingSays.{ChangesMade, Tidy}
 use Rattle.contracts.specs.WordtableSays.{CheckWords, PlanWords, ToBytes, ToWords}
+use Rattle.finder.specs.declared.FindAnswer.{FindAnswer}
+use Rattle.finder.specs.declared.OverFullAnswer.{OverFullAnswer}
 use Rattle.flowlist.specs.declared.Flow.{Flow}
 use Rattle.flowlist.specs.declared.FlowList.{FlowList}
 use Rattle.flowsheet.specs.declared.FlowsRead.{FlowsRead}
@@ -43,6 +51,7 @@ use Rattle.planfile.specs.declared.PlanRead.{PlanRead}
 use Rattle.planfile.specs.declared.PlanWritten.{PlanWritten}
 use Rattle.planner.specs.declared.PlanAnswer.{PlanAnswer}
 use Rattle.records.specs.declared.Written.{Written}
+use Rattle.rooms.specs.declared.RoomAnswer.{RoomAnswer}
 use Rattle.search.specs.declared.SearchAnswer.{SearchAnswer}
 use Rattle.shares.specs.declared.Fragments.{Fragments}
 use Rattle.shares.specs.declared.Repeats.{Repeats}
@@ -54,6 +63,7 @@ use Rattle.site.specs.declared.Edited.{Edited}
 use Rattle.site.specs.declared.Fault.{Fault}
 use Rattle.site.specs.declared.Site.{Site}
 use Rattle.sitefile.specs.declared.SiteRead.{SiteRead}
+use Rattle.tidying.specs.declared.TidyAnswer.{TidyAnswer}
 use Rattle.told.specs.declared.Answer.{Answer}
 use Rattle.told.specs.declared.RenumberedC.{RenumberedC}
 use Rattle.toldfiles.specs.declared.Blocked.{Blocked}
@@ -101,6 +111,22 @@ pub record EveryCall : Type 0 where
   pub siteClearReach : (self : Site) (from : ℕ) (to : ℕ)
       → (r : Edited) × (SiteClearReach self from to r)
       × ((q : Edited) → SiteClearReach self from to q → (q ≡ r))
+  -- resize::set_slots
+  pub setSlots : (site : Site) (slots : ℕ)
+      → (r : Edited) × (SetSlots site slots r)
+      × ((q : Edited) → SetSlots site slots q → (q ≡ r))
+  -- resize::set_channels
+  pub setChannels : (site : Site) (channels : ℕ)
+      → (r : Edited) × (SetChannels site channels r)
+      × ((q : Edited) → SetChannels site channels q → (q ≡ r))
+  -- resize::set_rule
+  pub setRule : (site : Site) (rule : ℕ)
+      → (r : Edited) × (SetRule site rule r)
+      × ((q : Edited) → SetRule site rule q → (q ≡ r))
+  -- resize::set_blocked
+  pub setBlocked : (site : Site) (blocked : List ℕ)
+      → (r : Edited) × (SetBlocked site blocked r)
+      × ((q : Edited) → SetBlocked site blocked q → (q ≡ r))
   -- judges::load_test
   pub loadTest : (site : Site)
       → (r : LoadAnswer) × (LoadTest site r)
@@ -185,6 +211,18 @@ pub record EveryCall : Type 0 where
   pub toBytes : (site : Site) (words : List ℕ) (table : List ℕ)
       → (r : FormAnswer) × (table′ : List ℕ) × (ToBytes site words table r table′)
       × ((q : FormAnswer) (table″ : List ℕ) → ToBytes site words table q table″ → (q ≡ r) × (table″ ≡ table′))
+  -- finder::find
+  pub find : (site : Site) (limit : ℕ) (table : List ℕ)
+      → (r : FindAnswer) × (table′ : List ℕ) × (Find site limit table r table′)
+      × ((q : FindAnswer) (table″ : List ℕ) → Find site limit table q table″ → (q ≡ r) × (table″ ≡ table′))
+  -- finder::over_full
+  pub overFull : (site : Site) (cells : ℕ)
+      → (r : OverFullAnswer) × (OverFull site cells r)
+      × ((q : OverFullAnswer) → OverFull site cells q → (q ≡ r))
+  -- rooms::room_of
+  pub roomOf : (site : Site) (cell : ℕ)
+      → (r : RoomAnswer) × (RoomOf site cell r)
+      × ((q : RoomAnswer) → RoomOf site cell q → (q ≡ r))
   -- admission::share_in
   pub shareIn : (slots : ℕ) (f : Flow)
       → (r : ShareAnswer) × (ShareIn slots f r)
@@ -193,10 +231,18 @@ pub record EveryCall : Type 0 where
   pub decide : (site : Site) (l : FlowList) (count : ℕ)
       → (r : AdmitAnswer) × (Decide site l count r)
       × ((q : AdmitAnswer) → Decide site l count q → (q ≡ r))
+  -- admission::decide_beside
+  pub decideBeside : (site : Site) (l : FlowList) (count : ℕ)
+      → (r : BesideAnswer) × (DecideBeside site l count r)
+      × ((q : BesideAnswer) → DecideBeside site l count q → (q ≡ r))
   -- admission::admit
   pub admit : (site : Site) (flows : List Flow)
       → (r : AdmitAnswer) × (Admit site flows r)
       × ((q : AdmitAnswer) → Admit site flows q → (q ≡ r))
+  -- admission::admit_beside
+  pub admitBeside : (site : Site) (flows : List Flow)
+      → (r : BesideAnswer) × (AdmitBeside site flows r)
+      × ((q : BesideAnswer) → AdmitBeside site flows q → (q ≡ r))
   -- flowsheet::read_flows
   pub readFlows : (bytes : List ℕ)
       → (r : FlowsRead) × (ReadFlows bytes r)
@@ -225,6 +271,14 @@ pub record EveryCall : Type 0 where
   pub writeSheet : (site : Site) (out : List ℕ)
       → (r : Written) × (out′ : List ℕ) × (WriteSheet site out r out′)
       × ((q : Written) (out″ : List ℕ) → WriteSheet site out q out″ → (q ≡ r) × (out″ ≡ out′))
+  -- tidying::tidy
+  pub tidy : (sheet : List ℕ) (out : List ℕ)
+      → (r : TidyAnswer) × (out′ : List ℕ) × (Tidy sheet out r out′)
+      × ((q : TidyAnswer) (out″ : List ℕ) → Tidy sheet out q out″ → (q ≡ r) × (out″ ≡ out′))
+  -- tidying::changes_made
+  pub changesMade : (sheet : List ℕ) (kind : ℕ)
+      → (r : Tidied) × (ChangesMade sheet kind r)
+      × ((q : Tidied) → ChangesMade sheet kind q → (q ≡ r))
   -- capi::dugg_fault
   pub duggFault : (site : Site)
       → (r : Answer) × (DuggFault site r)
@@ -273,6 +327,14 @@ pub record EveryCall : Type 0 where
   pub duggSearch : (site : Site) (limit : ℕ) (table : List ℕ)
       → (r : Answer) × (table′ : List ℕ) × (DuggSearch site limit table r table′)
       × ((q : Answer) (table″ : List ℕ) → DuggSearch site limit table q table″ → (q ≡ r) × (table″ ≡ table′))
+  -- capi::dugg_find
+  pub duggFind : (site : Site) (limit : ℕ) (table : List ℕ)
+      → (r : Answer) × (table′ : List ℕ) × (DuggFind site limit table r table′)
+      × ((q : Answer) (table″ : List ℕ) → DuggFind site limit table q table″ → (q ≡ r) × (table″ ≡ table′))
+  -- capi::dugg_over_full
+  pub duggOverFull : (site : Site) (cells : ℕ)
+      → (r : Answer) × (DuggOverFull site cells r)
+      × ((q : Answer) → DuggOverFull site cells q → (q ≡ r))
   -- capi::dugg_change_load
   pub duggChangeLoad : (site : Site) (cell : ℕ) (load : ℕ) (table : List ℕ)
       → (r : Answer) × (site′ : Site) × (table′ : List ℕ) × (DuggChangeLoad site cell load table r site′ table′)
@@ -342,7 +404,15 @@ pub record EveryCall : Type 0 where
   pub duggWriteSheet : (site : Site) (out : List ℕ)
       → (r : Answer) × (out′ : List ℕ) × (DuggWriteSheet site out r out′)
       × ((q : Answer) (out″ : List ℕ) → DuggWriteSheet site out q out″ → (q ≡ r) × (out″ ≡ out′))
+  -- capi::dugg_tidy
+  pub duggTidy : (sheet : List ℕ) (out : List ℕ)
+      → (r : Answer) × (out′ : List ℕ) × (DuggTidy sheet out r out′)
+      × ((q : Answer) (out″ : List ℕ) → DuggTidy sheet out q out″ → (q ≡ r) × (out″ ≡ out′))
   -- capi::dugg_admit
   pub duggAdmit : (site : Site) (flows : List Flow)
       → (r : Answer) × (DuggAdmit site flows r)
       × ((q : Answer) → DuggAdmit site flows q → (q ≡ r))
+  -- capi::dugg_admit_beside
+  pub duggAdmitBeside : (site : Site) (flows : List Flow)
+      → (r : Answer) × (DuggAdmitBeside site flows r)
+      × ((q : Answer) → DuggAdmitBeside site flows q → (q ≡ r))

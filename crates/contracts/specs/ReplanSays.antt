@@ -1,18 +1,12 @@
 -- The equalities that the contracts of crate `replan` state: r is the answer, and x′ what a lent x holds afterwards.
 -- Made by tools/surface from the source.
 use mathlib.Core.Path.{_≡_}
-use mathlib.Core.Bool.{Bool}
 use mathlib.Core.List.{List}
 use Prim.Native.Nat.{_*_, ℕ}
 use Rattle.planner.specs.Plan.{answerOf, leaves}
 use Rattle.planner.specs.declared.PlanAnswer.{PlanAnswer}
 use Rattle.site.specs.Reach.{isOpen, netBy}
 use Rattle.theory.specs.Greedy.{greedy}
-use Rattle.theory.specs.Plan.{isPlan}
-
--- replan::is_plan
-pub record ReplanIsPlan (table : List ℕ) (cells : ℕ) (slots : ℕ) (channels : ℕ) (loads : List ℕ) (clash : List ℕ) (blocked : List ℕ) (r : Bool) : Type 0 where
-  pub answer : r ≡ isPlan (netBy cells (slots * channels) loads clash (isOpen blocked)) table
 
 -- replan::plan_from
 pub record ReplanPlanFrom (table : List ℕ) (first : ℕ) (cells : ℕ) (slots : ℕ) (channels : ℕ) (loads : List ℕ) (clash : List ℕ) (blocked : List ℕ)

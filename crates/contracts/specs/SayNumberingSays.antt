@@ -5,7 +5,7 @@ use mathlib.Core.List.{List}
 use Prim.Native.Nat.{_+_, ℕ}
 use Rattle.numbering.specs.declared.CarryAnswer.{CarryAnswer}
 use Rattle.numbering.specs.declared.RenumberAnswer.{RenumberAnswer}
-use Rattle.say_numbering.specs.Anew.{anewSaid, anewTable}
+use Rattle.say_numbering.specs.Anew.{anewSaid}
 use Rattle.say_numbering.specs.Said.{carrySaid, renumberSaid}
 use Rattle.site.specs.declared.Site.{Site}
 use lib.ListN.{length}
@@ -22,7 +22,6 @@ pub record SayNumberingPutCarry (out : List ℕ) (at : ℕ) (reply : CarryAnswer
   pub out-after : out′ ≡ sets out at (carrySaid reply)
 
 -- say_numbering::put_anew
-pub record SayNumberingPutAnew (site : Site) (table : List ℕ) (out : List ℕ) (at : ℕ) (r : ℕ) (table′ : List ℕ) (out′ : List ℕ) : Type 0 where
-  pub answer : r ≡ at + length (anewSaid site table)
-  pub out-after : out′ ≡ sets out at (anewSaid site table)
-  pub table-after : table′ ≡ anewTable site table
+pub record SayNumberingPutAnew (out : List ℕ) (at : ℕ) (site : Site) (r : ℕ) (out′ : List ℕ) : Type 0 where
+  pub answer : r ≡ at + length (anewSaid site)
+  pub out-after : out′ ≡ sets out at (anewSaid site)

@@ -3,10 +3,14 @@
 use mathlib.Core.Path.{_≡_}
 use mathlib.Core.List.{List}
 use Prim.Native.Nat.{_+_, ℕ}
-use Rattle.say_rule.specs.Said.{ruleSaid, thirdsSaid}
+use Rattle.say_rule.specs.Said.{ruleSaid, thirdOf, thirdsSaid}
 use Rattle.site.specs.declared.Site.{Site}
 use lib.ListN.{length}
 use lib.Seq.{sets}
+
+-- say_rule::third_of
+pub record SayRuleThirdOf (reach : List ℕ) (a : ℕ) (b : ℕ) (r : ℕ) : Type 0 where
+  pub answer : r ≡ thirdOf reach a b
 
 -- say_rule::put_rule
 pub record SayRulePutRule (out : List ℕ) (at : ℕ) (site : Site) (r : ℕ) (out′ : List ℕ) : Type 0 where

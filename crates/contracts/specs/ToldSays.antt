@@ -2,10 +2,14 @@
 -- Made by tools/surface from the source.
 use mathlib.Core.Path.{_≡_}
 use Prim.Native.Nat.{ℕ}
-use Rattle.admission.specs.Given.{admitGiven}
+use Rattle.admission.specs.Given.{admitGiven, besideGiven}
 use Rattle.admission.specs.declared.AdmitAnswer.{AdmitAnswer}
+use Rattle.admission.specs.declared.BesideAnswer.{BesideAnswer}
 use Rattle.checker.specs.Given.{checkGiven}
 use Rattle.checker.specs.declared.CheckAnswer.{CheckAnswer}
+use Rattle.finder.specs.Given.{findGiven, overFullGiven}
+use Rattle.finder.specs.declared.FindAnswer.{FindAnswer}
+use Rattle.finder.specs.declared.OverFullAnswer.{OverFullAnswer}
 use Rattle.handheld.specs.Given.{changeGiven}
 use Rattle.handheld.specs.declared.ChangeAnswer.{ChangeAnswer}
 use Rattle.heaviest.specs.Given.{heaviestGiven}
@@ -76,6 +80,14 @@ pub record ToldPlanAnswer (said : PlanAnswer) (r : Answer) : Type 0 where
 pub record ToldSearchAnswer (said : SearchAnswer) (r : Answer) : Type 0 where
   pub answer : r ≡ told (searchGiven said)
 
+-- told::find_answer
+pub record ToldFindAnswer (said : FindAnswer) (r : Answer) : Type 0 where
+  pub answer : r ≡ told (findGiven said)
+
+-- told::over_full_answer
+pub record ToldOverFullAnswer (said : OverFullAnswer) (r : Answer) : Type 0 where
+  pub answer : r ≡ told (overFullGiven said)
+
 -- told::change_answer
 pub record ToldChangeAnswer (said : ChangeAnswer) (r : Answer) : Type 0 where
   pub answer : r ≡ told (changeGiven said)
@@ -107,6 +119,10 @@ pub record ToldShareAnswer (said : ShareAnswer) (r : Answer) : Type 0 where
 -- told::admit_answer
 pub record ToldAdmitAnswer (said : AdmitAnswer) (r : Answer) : Type 0 where
   pub answer : r ≡ told (admitGiven said)
+
+-- told::beside_answer
+pub record ToldBesideAnswer (said : BesideAnswer) (r : Answer) : Type 0 where
+  pub answer : r ≡ told (besideGiven said)
 
 -- told::renumbered_site
 pub record ToldRenumberedSite (e : Renumbered) (r : RenumberedC) : Type 0 where

@@ -13,6 +13,8 @@ use Rattle.sheet.specs.declared.SheetAnswer.{SheetAnswer}
 use Rattle.sheet.specs.declared.SheetRead.{SheetRead}
 use Rattle.site.specs.declared.Edited.{Edited}
 use Rattle.sitefile.specs.declared.SiteRead.{SiteRead}
+use Rattle.tidying.specs.Given.{tidyGiven}
+use Rattle.tidying.specs.declared.TidyAnswer.{TidyAnswer}
 use Rattle.told.specs.Told.{told}
 use Rattle.told.specs.declared.Answer.{Answer}
 use Rattle.toldfiles.specs.Files.{toldChanged, toldEdited, toldPlanRead, toldSheetRead, toldSiteRead}
@@ -34,6 +36,10 @@ pub record ToldfilesPlanWritten (said : PlanWritten) (r : Answer) : Type 0 where
 -- toldfiles::sheet_answer
 pub record ToldfilesSheetAnswer (said : SheetAnswer) (r : Answer) : Type 0 where
   pub answer : r ≡ told (sheetGiven said)
+
+-- toldfiles::tidy_answer
+pub record ToldfilesTidyAnswer (said : TidyAnswer) (r : Answer) : Type 0 where
+  pub answer : r ≡ told (tidyGiven said)
 
 -- toldfiles::edited_answer
 pub record ToldfilesEditedAnswer (e : Edited) (r : EditedSite) : Type 0 where

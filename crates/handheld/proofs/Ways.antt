@@ -19,8 +19,8 @@ use Rattle.site.proofs.Reach.{clash-sym}
 use Rattle.planner.specs.Plan.{planAnswer, planTable}
 use Rattle.planner.specs.Loop.{PlannedTo}
 use Rattle.planner.specs.declared.PlanAnswer.{PlanAnswer}
-use Rattle.replan.specs.Code.{EitherWay}
-use Rattle.replan.proofs.Runs.{plan-front}
+use Rattle.rowwords.specs.Code.{EitherWay}
+use Rattle.rowwords.proofs.Runs.{plan-front}
 use Rattle.handheld.specs.Change.{tableIsPlan, changeOf, inOrder, changeTable, changedOf}
 use Rattle.handheld.specs.declared.Changed.{Changed}
 use Rattle.handheld.specs.declared.ChangeAnswer.{ChangeAnswer}

@@ -1,6 +1,6 @@
 // One load changes on the handheld: the record is edited where it stands, and the table that is lent with it is planned anew from that cell on.
 // It must be the greedy plan of the unedited site, which is tested in place: there is no second record and no second table.
-// The local room is that of crate `replan`, 12 kilobytes.
+// The local room is that of crate `plantest`, 12 kilobytes.
 use planner::PlanAnswer;
 use site::Fault;
 use site::Site;
@@ -61,7 +61,7 @@ pub fn changed_load(site: Site, cell: usize, load: u16, table: &mut [u8]) -> Cha
     let clash = site.clash_rows();
     let blocked = site.blocked;
     let new = edited.site;
-    if !replan::is_plan(table, cells, slots, channels, &loads, &clash, &blocked) {
+    if !plantest::is_plan(table, cells, slots, channels, &loads, &clash, &blocked) {
         return Changed {
             site: site,
             answer: ChangeAnswer::NotPlan,

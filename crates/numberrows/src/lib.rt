@@ -29,7 +29,7 @@ fn misses(near: u32, row: u32, a: usize) -> bool
 }
 
 // Whether the cells of `near` are all in one another's rows.
-fn close(rows: &[u32; 32], near: u32) -> bool
+pub fn all_clash(rows: &[u32; 32], near: u32) -> bool
     ensures { λ r. ⌜ r ≡ closeIn (now (rows .entry)) near ⌝ }
 {
     let mut rest = near;
@@ -49,7 +49,7 @@ fn fits(rows: &[u32; 32], left: u32, i: usize) -> bool
     ensures { λ r. ⌜ r ≡ fitIn (now (rows .entry)) left i ⌝ }
 {
     if has(left, i) {
-        return close(rows, rows[i] & left);
+        return all_clash(rows, rows[i] & left);
     }
     false
 }
@@ -101,7 +101,7 @@ pub fn number_cells(rows: &[u32; 32], cells: usize) -> Numbers
 }
 
 // The index of the cell that the number at a names.
-fn cell_at(numbers: &[u16; 32], a: usize) -> usize
+pub fn cell_at(numbers: &[u16; 32], a: usize) -> usize
     requires { ⌜ (a < 32) × (0 < getD (now numbers) a 0) × (indexAt (now numbers) a < 32) ⌝ }
     ensures { λ r. ⌜ (r ≡ indexAt (now (numbers .entry)) a) × (r < 32) ⌝ }
 {

@@ -25,7 +25,7 @@ use Rattle.judges.proofs.Meaning.{holds-means}
 use Rattle.planner.specs.Plan.{planAnswer}
 use Rattle.planner.specs.Given.{planGiven}
 use Rattle.planner.proofs.Meaning.{done-means}
-use Rattle.admitting.specs.Best.{worth, loadIn, laden, allowed}
+use Rattle.admitting.specs.Best.{worth, loadIn, idle, laden, allowed}
 use Rattle.admitting.proofs.Best.{allowed-means, empty-allowed, best-is}
 use Rattle.bestset.proofs.Carry.{best-planned, best-of-carried}
 use Rattle.flowlist.specs.List.{flowAt}
@@ -41,16 +41,16 @@ use Rattle.admission.proofs.Meaning.{set-means, many-means, outside-means, flow
 use Rattle.admission.proofs.Suits.{chained-unchanged}
 use Rattle.admission.proofs.OneFlow.{sends-shared}
 use Rattle.admission.proofs.Laden.{laden-net, laden-fine, laden-allowed, allowed-most, laden-shares}
-use Rattle.promises.specs.Numbers.{done, doneWith, refused}
-use Rattle.promises.specs.Demands.{Accepted, LongEnough}
-use Rattle.promises.proofs.Numbers.{accepted-number, load-number, plan-number}
+use Rattle.demanded.specs.Numbers.{done, doneWith, refused}
+use Rattle.demanded.specs.Demands.{Accepted, LongEnough}
+use Rattle.demanded.proofs.Numbers.{accepted-number, load-number, plan-number}
 
 -- ---- the set that is answered
 
 module _ (s : Site) (fs : List Flow) (x : ℕ) (e : admitGiven (admitAnswer s fs) ≡ doneWith (x ∷ [])) where
   -- where it is answered, and which it is
   went : Settled s fs × (x ≡ admitted s fs)
-  went = set-means s fs x .0 (done-set (admitAnswer s fs) x e)
+  went = set-means (idle (netOf s)) s fs x .0 (done-set (admitAnswer s fs) x e)
 
   settled : Settled s fs
   settled = went .0
@@ -148,7 +148,7 @@ module _ (s : Site) (fs : List Flow) where
       at (BadFlow flow) e = refl
       at (BigShare flow) e = refl
       at (Refused f) e =
-          let h = fault-means s fs f .0 e in
+          let h = fault-means (idle (netOf s)) s fs f .0 e in
           let fine : isFine f ≡ true = ap isFine (h .0 ∙ accepted-number s .0 ok) in
           absurd (true≢false (sym fine ∙ h .1))
 
@@ -164,11 +164,11 @@ module _ (s : Site) (fs : List Flow) where
       between (admitAnswer s fs) (omega (arith, same)) (omega (arith, same))
 
   pub admit-fault : (Accepted s → ⊥) → admitGiven (admitAnswer s fs) ≡ faultGiven (faultOf s)
-  admit-fault n = ap admitGiven (fault-means s fs (faultOf s) .1 (refl, no-fine (faultOf s) (λ e. n (accepted-number s .1 e))))
+  admit-fault n = ap admitGiven (fault-means (idle (netOf s)) s fs (faultOf s) .1 (refl, no-fine (faultOf s) (λ e. n (accepted-number s .1 e))))
 
   pub eighteen : admitGiven (admitAnswer s fs) ≡ refused 18 [] ↔ (Accepted s × (16 < length fs))
   eighteen =
-      let m = many-means s fs in (
+      let m = many-means (idle (netOf s)) s fs in (
         λ e. let h = m .0 (answer-of TooMany refl refl (own (refused 18 []) (omega arith) (omega arith) e) e) in (accepted-number s .1 (h .0), h .1),
         λ h. ap admitGiven (m .1 (accepted-number s .0 (h .0), h .1)),
       )
@@ -176,7 +176,7 @@ module _ (s : Site) (fs : List Flow) where
   -- W9: "refusal 19 is given exactly outside it", "all cells counted as loaded"
   pub nineteen : admitGiven (admitAnswer s fs) ≡ refused 19 [] ↔ (Accepted s × (length fs ≤ 16) × (Class (netOf s) everyone → ⊥))
   nineteen =
-      let m = outside-means s fs in (
+      let m = outside-means (idle (netOf s)) s fs in (
         λ e. let h = m .0 (answer-of NotNested refl refl (own (refused 19 []) (omega arith) (omega arith) e) e) in (accepted-number s .1 (h .0), h .1, h .2),
         λ h. ap admitGiven (m .1 (accepted-number s .0 (h .0), h .1, h .2)),
       )
@@ -189,21 +189,21 @@ module _ (s : Site) (fs : List Flow) where
   -- a flow's 2 looks as the record's does, so this is about an accepted record
   pub flow-two : Accepted s → (n : ℕ) → admitGiven (admitAnswer s fs) ≡ refused 2 (n ∷ []) ↔ ((k : ℕ) × (n ≡ k + 1) × Stops s fs k two)
   flow-two ok n =
-      let m = flow-means s fs two n in
+      let m = flow-means (idle (netOf s)) s fs two n in
       (λ e. m .0 (answer-of (BadCell n) refl refl (not-record ok) e), λ h. ap admitGiven (m .1 h))
 
   pub flow-fifteen : (n : ℕ) → admitGiven (admitAnswer s fs) ≡ refused 15 (n ∷ []) ↔ ((k : ℕ) × (n ≡ k + 1) × Stops s fs k fifteen)
   flow-fifteen n =
-      let m = flow-means s fs fifteen n in
+      let m = flow-means (idle (netOf s)) s fs fifteen n in
       (λ e. m .0 (answer-of (BadFlow n) refl refl (own (refused 15 (n ∷ [])) (omega arith) (omega arith) e) e), λ h. ap admitGiven (m .1 h))
 
   pub flow-sixteen : (n : ℕ) → admitGiven (admitAnswer s fs) ≡ refused 16 (n ∷ []) ↔ ((k : ℕ) × (n ≡ k + 1) × Stops s fs k sixteen)
   flow-sixteen n =
-      let m = flow-means s fs sixteen n in
+      let m = flow-means (idle (netOf s)) s fs sixteen n in
       (λ e. m .0 (answer-of (BigShare n) refl refl (own (refused 16 (n ∷ [])) (omega arith) (omega arith) e) e), λ h. ap admitGiven (m .1 h))
 
   -- a set is answered wherever nothing is refused, and only there
   pub admitted-answer : (x : ℕ) → admitGiven (admitAnswer s fs) ≡ doneWith (x ∷ []) ↔ (Settled s fs × (x ≡ admitted s fs))
   admitted-answer x =
-      let m = set-means s fs x in
+      let m = set-means (idle (netOf s)) s fs x in
       (λ e. m .0 (done-set (admitAnswer s fs) x e), λ h. ap admitGiven (m .1 h))

@@ -66,12 +66,12 @@ use Rattle.sitefile.specs.Read.{readSite}
 use Rattle.sitefile.specs.Write.{siteWritten, siteOut}
 use Rattle.sitefile.proofs.Before.{same-bytes, same-read, same-refused}
 use Rattle.sitefile.specs.declared.SiteRead.{SiteRead}
-use Rattle.promises.specs.Numbers.{done, doneWith, refused}
-use Rattle.promises.specs.Demands.{Accepted, LongEnough, WordsEnough, openPositions}
-use Rattle.promises.proofs.Numbers.{accepted-number, plan-number, load-number}
-use Rattle.promises.proofs.Names.{over-names}
+use Rattle.demanded.specs.Numbers.{done, doneWith, refused}
+use Rattle.demanded.specs.Demands.{Accepted, LongEnough, WordsEnough, openPositions}
+use Rattle.demanded.proofs.Numbers.{accepted-number, plan-number, load-number}
+use Rattle.demanded.proofs.Names.{over-names}
 use Rattle.promises.proofs.Demand1.{fault-number, site-write-leaves}
-use Rattle.promises.proofs.Demand2.{check-is-valid}
+use Rattle.demanded.proofs.Demand2.{check-is-valid}
 use Rattle.promises.proofs.Words.{check-words-same, byte-is, valid-enough, room-for}
 use Rattle.promises.proofs.Mending.{mended-checks}
 

@@ -29,7 +29,7 @@ use Rattle.flowlist.specs.declared.Flow.{Flow}
 use Rattle.flowsheet.specs.Format.{flowSheet}
 use Rattle.inputs.specs.Files.{byKind, houseFile, inputOf}
 use Rattle.inputs.specs.declared.Input.the-variants.{SiteFile, PlanFile, RangeSheet, FlowSheet}
-use Rattle.promises.specs.Numbers.{done}
+use Rattle.demanded.specs.Numbers.{done}
 
 -- a head of length 10 and kind 5: W11, "A rule 2 site file begins with kind 5"
 by-rule : (a b c d e f g h l m : ℕ) (r : List ℕ) → inputOf (10 ∷ 0 ∷ 5 ∷ 0 ∷ a ∷ b ∷ c ∷ d ∷ e ∷ f ∷ g ∷ h ∷ l ∷ m ∷ r) ≡ SiteFile

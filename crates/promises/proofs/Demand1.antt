@@ -42,7 +42,7 @@ use Rattle.planfile.specs.Read.{bodyIn, planReadAnswer, planReadOf, readPlan, p
 use Rattle.planfile.specs.Write.{planFile, planWritten, planOut}
 use Rattle.planfile.specs.declared.PlanWritten.the-variants as plan
 use Rattle.planbits.proofs.Bits.{length-bits}
-use Rattle.promises.specs.Numbers.{doneWith}
+use Rattle.demanded.specs.Numbers.{doneWith}
 use Rattle.promises.specs.Leaves.{PlannerLeaves, ReaderLeaves, WriterLeaves}
 
 -- ---- the planner

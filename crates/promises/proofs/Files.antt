@@ -34,9 +34,9 @@ use Rattle.planfile.specs.declared.PlanRead.{PlanRead}
 use Rattle.planfile.specs.declared.PlanWritten.the-variants as plan
 use Rattle.planfile.proofs.Given.{written-apart}
 use Rattle.planfile.proofs.Trip.{calls-written-read, calls-read-written}
-use Rattle.promises.specs.Numbers.{done, doneWith}
-use Rattle.promises.specs.Demands.{Accepted}
-use Rattle.promises.proofs.Numbers.{accepted-number}
+use Rattle.demanded.specs.Numbers.{done, doneWith}
+use Rattle.demanded.specs.Demands.{Accepted}
+use Rattle.demanded.proofs.Numbers.{accepted-number}
 use Rattle.promises.proofs.Demand1.{wrote-fine, site-write-leaves}
 
 -- what a writer that is done was given

@@ -18,7 +18,7 @@ use Rattle.flowsheet.specs.declared.FlowsRead.{FlowsRead}
 use Rattle.flowsheet.specs.declared.FlowsAnswer.the-variants.{Done, BadLine, TooMany}
 use Rattle.flowsheet.proofs.Given.{flows-apart}
 use Rattle.flowsheet.proofs.Answers.{first-told, over-told, flows-given, bad-first, over-is, accepted-is, none-beside}
-use Rattle.promises.specs.Numbers.{done, refused}
+use Rattle.demanded.specs.Numbers.{done, refused}
 
 module _ (b : List ℕ) where
   -- 17 gives the first line that is not so, from 1.

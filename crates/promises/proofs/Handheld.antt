@@ -36,11 +36,11 @@ use Rattle.handheld.proofs.Meaning.{plan-means, not-plan, fresh, lower-rows, ne
 use Rattle.contracts.specs.SiteSays.{SiteSetLoad}
 use Rattle.contracts.specs.PlannerSays.{Plan}
 use Rattle.contracts.specs.HandheldSays.{ChangeLoad}
-use Rattle.promises.specs.Numbers.{done, refused}
-use Rattle.promises.specs.Demands.{LongEnough}
+use Rattle.demanded.specs.Numbers.{done, refused}
+use Rattle.demanded.specs.Demands.{LongEnough}
 use Rattle.promises.specs.Untouched.{Idle, RefusedElse}
 use Rattle.promises.specs.Handheld.{IsThePlan, EditDone, OneLoadChanges}
-use Rattle.promises.proofs.Numbers.{plan-number}
+use Rattle.demanded.proofs.Numbers.{plan-number}
 use Rattle.promises.proofs.Demand1.{plan-leaves}
 
 -- a number that is neither 0 nor 5

@@ -22,11 +22,11 @@ use Rattle.heaviest.specs.Given.{heaviestGiven}
 use Rattle.heaviest.specs.declared.HeaviestAnswer.the-variants as heaviest
 use Rattle.heaviest.proofs.Mutual.{heaviest-is, heaviest-only}
 use Rattle.heaviest.proofs.Meaning.{done-fine, done-is-fine, done-means, done-mutual, done-fits, done-enough, done-class}
-use Rattle.promises.specs.Numbers.{done, doneWith}
+use Rattle.demanded.specs.Numbers.{done, doneWith}
 use Rattle.site.specs.Alike.{Alike}
-use Rattle.promises.specs.Demands.{Accepted, DefinitionOne, openPositions}
-use Rattle.promises.proofs.Numbers.{accepted-number, class-number, least-number, enough-number, heaviest-number}
-use Rattle.promises.proofs.Demand2.{valid-is-definition-one, check-is-valid, planned-checks}
+use Rattle.demanded.specs.Demands.{Accepted, DefinitionOne, openPositions}
+use Rattle.demanded.proofs.Numbers.{accepted-number, class-number, least-number, enough-number, heaviest-number}
+use Rattle.demanded.proofs.Demand2.{valid-is-definition-one, check-is-valid, planned-checks}
 
 -- What the call answers, exactly: of an accepted site, its heaviest set of cells that clash with one another, and what their loads come to.
 pub heaviest-exact : (s : Site) (load cells : ℕ) → heaviestGiven (heaviestOf s) ≡ doneWith (load ∷ cells ∷ [])

@@ -41,9 +41,20 @@ use Rattle.search.specs.Given.{searchGiven, searchProper}
 use Rattle.search.specs.declared.SearchAnswer.{SearchAnswer}
 use Rattle.search.specs.declared.SearchAnswer.the-variants as search
 use Rattle.search.proofs.Given.{search-proper}
+use Rattle.finder.specs.Find.{findAnswer, overFullAnswer}
+use Rattle.finder.specs.Given.{findGiven, findProper, overFullGiven, overFullProper}
+use Rattle.finder.specs.declared.FindAnswer.{FindAnswer}
+use Rattle.finder.specs.declared.FindAnswer.the-variants as find
+use Rattle.finder.specs.declared.OverFullAnswer.{OverFullAnswer}
+use Rattle.finder.specs.declared.OverFullAnswer.the-variants as over
+use Rattle.finder.proofs.Given.{find-proper, over-proper}
+use Rattle.tidying.specs.Tidy.{tidyAnswer}
+use Rattle.tidying.specs.Given.{tidyGiven}
+use Rattle.tidying.specs.declared.TidyAnswer.{TidyAnswer}
+use Rattle.tidying.specs.declared.TidyAnswer.the-variants as tidy
 use Rattle.told.specs.Told.{numbered, told}
 use Rattle.told.specs.declared.Answer.{Answer}
-use Rattle.promises.specs.Numbers.{done, doneWith, refused}
+use Rattle.demanded.specs.Numbers.{done, doneWith, refused}
 
 numberIn : Answer → ℕ
 numberIn a = a .number
@@ -53,6 +64,9 @@ valueIn a = getD (a .value) 0 0
 
 flagIn : Answer → ℕ
 flagIn a = getD (a .value) 1 0
+
+lastIn : Answer → ℕ
+lastIn a = getD (a .value) 2 0
 
 least-told : (a : LeastAnswer) (n k : ℕ) → leastProper a ≡ true → told (leastGiven a) ≡ numbered 0 n k 0 → leastGiven a ≡ doneWith (n ∷ k ∷ [])
 unfolding told numberIn valueIn flagIn
@@ -208,3 +222,77 @@ pub search-in-c : (s : Site) (limit : ℕ) (t : List ℕ) (v n : ℕ)
     → told (searchGiven (searchAnswer s limit t)) ≡ numbered 0 v n 0 ↔ searchGiven (searchAnswer s limit t) ≡ doneWith (v ∷ n ∷ [])
 unfolding told
 search-in-c s limit t v n = (search-told (searchAnswer s limit t) v n (search-proper s limit t), ap told)
+
+-- ---- `find`: 0 carries the verdict, the way, and the tries or the set; `over_full`: 0 carries 1 or 0, and the load
+
+find-told : (a : FindAnswer) (v way x : ℕ) → findProper a ≡ true → told (findGiven a) ≡ numbered 0 v way x → findGiven a ≡ doneWith (v ∷ way ∷ x ∷ [])
+unfolding told numberIn valueIn flagIn lastIn
+find-told find.Greedy v way x p e = let z : 0 ≡ v = ap valueIn e in let y : 0 ≡ way = ap flagIn e in let u : 0 ≡ x = ap lastIn e in cc
+find-told find.Renumbered v way x p e = let z : 0 ≡ v = ap valueIn e in let y : 2 ≡ way = ap flagIn e in let u : 0 ≡ x = ap lastIn e in cc
+find-told (find.Searched m) v way x p e = let z : 0 ≡ v = ap valueIn e in let y : 3 ≡ way = ap flagIn e in let u : m ≡ x = ap lastIn e in cc
+find-told (find.Full m) v way x p e = let z : 1 ≡ v = ap valueIn e in let y : 1 ≡ way = ap flagIn e in let u : m ≡ x = ap lastIn e in cc
+find-told find.FullInClass v way x p e = let z : 1 ≡ v = ap valueIn e in let y : 2 ≡ way = ap flagIn e in let u : 0 ≡ x = ap lastIn e in cc
+find-told (find.FullSearched m) v way x p e = let z : 1 ≡ v = ap valueIn e in let y : 3 ≡ way = ap flagIn e in let u : m ≡ x = ap lastIn e in cc
+find-told (find.NotKnown m) v way x p e = let z : 2 ≡ v = ap valueIn e in let y : 3 ≡ way = ap flagIn e in let u : m ≡ x = ap lastIn e in cc
+find-told find.TableShort v way x p e = let z : _≡_ {A = ℕ} 4 0 = ap numberIn e in absurd (omega arith)
+find-told (find.Refused Fine) v way x p e = absurd (false≢true p)
+find-told (find.Refused Size) v way x p e = let z : _≡_ {A = ℕ} 1 0 = ap numberIn e in absurd (omega arith)
+find-told (find.Refused Rule) v way x p e = let z : _≡_ {A = ℕ} 24 0 = ap numberIn e in absurd (omega arith)
+find-told (find.Refused (Load i)) v way x p e = let z : _≡_ {A = ℕ} 2 0 = ap numberIn e in absurd (omega arith)
+find-told (find.Refused (Reach i)) v way x p e = let z : _≡_ {A = ℕ} 3 0 = ap numberIn e in absurd (omega arith)
+find-told (find.Refused (Blocked i)) v way x p e = let z : _≡_ {A = ℕ} 20 0 = ap numberIn e in absurd (omega arith)
+
+-- `dugg_find` gives 0 and these values exactly where `find` answers with them
+pub find-in-c : (s : Site) (limit : ℕ) (t : List ℕ) (v way x : ℕ)
+    → told (findGiven (findAnswer s limit t)) ≡ numbered 0 v way x ↔ findGiven (findAnswer s limit t) ≡ doneWith (v ∷ way ∷ x ∷ [])
+unfolding told
+find-in-c s limit t v way x = (find-told (findAnswer s limit t) v way x (find-proper s limit t), ap told)
+
+over-told : (a : OverFullAnswer) (is load : ℕ) → overFullProper a ≡ true → told (overFullGiven a) ≡ numbered 0 is load 0
+    → overFullGiven a ≡ doneWith (is ∷ load ∷ [])
+unfolding told numberIn valueIn flagIn
+over-told (over.Over m) is load p e = let z : 1 ≡ is = ap valueIn e in let y : m ≡ load = ap flagIn e in cc
+over-told (over.Within m) is load p e = let z : 0 ≡ is = ap valueIn e in let y : m ≡ load = ap flagIn e in cc
+over-told (over.Refused Fine) is load p e = absurd (false≢true p)
+over-told (over.Refused Size) is load p e = let z : _≡_ {A = ℕ} 1 0 = ap numberIn e in absurd (omega arith)
+over-told (over.Refused Rule) is load p e = let z : _≡_ {A = ℕ} 24 0 = ap numberIn e in absurd (omega arith)
+over-told (over.Refused (Load i)) is load p e = let z : _≡_ {A = ℕ} 2 0 = ap numberIn e in absurd (omega arith)
+over-told (over.Refused (Reach i)) is load p e = let z : _≡_ {A = ℕ} 3 0 = ap numberIn e in absurd (omega arith)
+over-told (over.Refused (Blocked i)) is load p e = let z : _≡_ {A = ℕ} 20 0 = ap numberIn e in absurd (omega arith)
+
+pub over-full-in-c : (s : Site) (cells is load : ℕ)
+    → told (overFullGiven (overFullAnswer s cells)) ≡ numbered 0 is load 0 ↔ overFullGiven (overFullAnswer s cells) ≡ doneWith (is ∷ load ∷ [])
+unfolding told
+over-full-in-c s cells is load = (over-told (overFullAnswer s cells) is load (over-proper s cells), ap told)
+
+-- ---- `tidy`: 0 and 13 carry a number of bytes, 17 a line
+
+tidy-zero : (a : TidyAnswer) (n : ℕ) → told (tidyGiven a) ≡ numbered 0 n 0 0 → tidyGiven a ≡ doneWith (n ∷ [])
+unfolding told numberIn valueIn
+tidy-zero (tidy.Done m) n e = let y : m ≡ n = ap valueIn e in cc
+tidy-zero (tidy.OutShort m) n e = let z : _≡_ {A = ℕ} 13 0 = ap numberIn e in absurd (omega arith)
+tidy-zero (tidy.BadLine l) n e = let z : _≡_ {A = ℕ} 17 0 = ap numberIn e in absurd (omega arith)
+
+tidy-thirteen : (a : TidyAnswer) (n : ℕ) → told (tidyGiven a) ≡ numbered 13 n 0 0 → tidyGiven a ≡ refused 13 (n ∷ [])
+unfolding told numberIn valueIn
+tidy-thirteen (tidy.Done m) n e = let z : _≡_ {A = ℕ} 0 13 = ap numberIn e in absurd (omega arith)
+tidy-thirteen (tidy.OutShort m) n e = let y : m ≡ n = ap valueIn e in cc
+tidy-thirteen (tidy.BadLine l) n e = let z : _≡_ {A = ℕ} 17 13 = ap numberIn e in absurd (omega arith)
+
+tidy-seventeen : (a : TidyAnswer) (l : ℕ) → told (tidyGiven a) ≡ numbered 17 l 0 0 → tidyGiven a ≡ refused 17 (l ∷ [])
+unfolding told numberIn valueIn
+tidy-seventeen (tidy.Done m) l e = let z : _≡_ {A = ℕ} 0 17 = ap numberIn e in absurd (omega arith)
+tidy-seventeen (tidy.OutShort m) l e = let z : _≡_ {A = ℕ} 13 17 = ap numberIn e in absurd (omega arith)
+tidy-seventeen (tidy.BadLine m) l e = let y : m ≡ l = ap valueIn e in cc
+
+-- `dugg_tidy` gives 0 and the bytes, 13 and the bytes needed, 17 and the line exactly where `tidy` answers with them
+pub tidy-in-c : (s out : List ℕ) (x : ℕ)
+    → (told (tidyGiven (tidyAnswer s out)) ≡ numbered 0 x 0 0 ↔ tidyGiven (tidyAnswer s out) ≡ doneWith (x ∷ []))
+    × (told (tidyGiven (tidyAnswer s out)) ≡ numbered 13 x 0 0 ↔ tidyGiven (tidyAnswer s out) ≡ refused 13 (x ∷ []))
+    × (told (tidyGiven (tidyAnswer s out)) ≡ numbered 17 x 0 0 ↔ tidyGiven (tidyAnswer s out) ≡ refused 17 (x ∷ []))
+unfolding told
+tidy-in-c s out x = (
+  (tidy-zero (tidyAnswer s out) x, ap told),
+  (tidy-thirteen (tidyAnswer s out) x, ap told),
+  (tidy-seventeen (tidyAnswer s out) x, ap told),
+)

@@ -27,11 +27,11 @@ use Rattle.why.proofs.Numbers.{same-demand}
 use Rattle.why.proofs.Sizes.{fewest-exact}
 use Rattle.checker.specs.Check.{checkAnswer}
 use Rattle.checker.specs.Given.{checkGiven}
-use Rattle.promises.specs.Numbers.{done, doneWith}
-use Rattle.promises.specs.Demands.{Accepted, LongEnough, openPositions, Easier}
-use Rattle.promises.proofs.Numbers.{accepted-number, least-number, enough-number}
-use Rattle.promises.proofs.Demand2.{load-is-C1, judge-is-nested}
-use Rattle.promises.proofs.Demand3.{demand-three-calls, nested-exact, holds-plans}
+use Rattle.demanded.specs.Numbers.{done, doneWith}
+use Rattle.demanded.specs.Demands.{Accepted, LongEnough, openPositions, Easier}
+use Rattle.demanded.proofs.Numbers.{accepted-number, least-number, enough-number}
+use Rattle.demanded.proofs.Demand2.{load-is-C1, judge-is-nested}
+use Rattle.demanded.proofs.Demand3.{demand-three-calls, nested-exact, holds-plans}
 
 -- ---- sites with the same cells, loads, reach and rule
 

@@ -1,19 +1,14 @@
 -- The laws of crate `promises`, module by module.
-pub mod Faults
-pub mod Desk
-pub mod Numbers
 pub mod Demand1
-pub mod Demand2
-pub mod Names
-pub mod Demand3
 pub mod Least
 pub mod Heaviest
-pub mod Spare
 pub mod Files
 pub mod Called
 pub mod Sheets
+pub mod Tidied
 pub mod FlowSheets
 pub mod Admission
+pub mod Beside
 pub mod Words
 pub mod Mending
 pub mod Blocked
@@ -26,3 +21,4 @@ pub mod Top
 pub mod Numbered
 pub mod Handheld
 pub mod Searched
+pub mod Finder

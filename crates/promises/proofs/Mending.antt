@@ -44,11 +44,11 @@ use Rattle.mender.proofs.Ends.{refused-ends, short-ends}
 use Rattle.mender.proofs.Room.{any-room}
 use Rattle.say_changes.specs.Said.{changesSaid, allSaid}
 use Rattle.say_changes.proofs.Said.{said-all}
-use Rattle.promises.specs.Numbers.{done, doneWith, refused}
-use Rattle.promises.specs.Demands.{Accepted, LongEnough}
-use Rattle.promises.proofs.Numbers.{accepted-number}
-use Rattle.promises.proofs.Demand2.{check-is-valid, load-is-C1, judge-is-nested}
-use Rattle.promises.proofs.Demand3.{chained-nested}
+use Rattle.demanded.specs.Numbers.{done, doneWith, refused}
+use Rattle.demanded.specs.Demands.{Accepted, LongEnough}
+use Rattle.demanded.proofs.Numbers.{accepted-number}
+use Rattle.demanded.proofs.Demand2.{check-is-valid, load-is-C1, judge-is-nested}
+use Rattle.demanded.proofs.Demand3.{chained-nested}
 
 no-more : (b : Bool) → not b ≡ true → b ≡ false
 no-more true e = sym e

@@ -31,13 +31,13 @@ use Rattle.contracts.specs.PlannerSays.{Plan}
 use Rattle.numbering.proofs.Given.{renumber-apart, renumber-proper}
 use Rattle.numbering.proofs.Ways.{renumber-refused, renumber-none, renumber-done}
 use Rattle.numbering.proofs.Meaning.{none-exactly, renumber-site, carried-rest, plans-exactly, planned-back}
-use Rattle.promises.specs.Numbers.{done, refused}
-use Rattle.promises.specs.Demands.{Accepted, LongEnough, DefinitionOne, NestedSite}
+use Rattle.demanded.specs.Numbers.{done, refused}
+use Rattle.demanded.specs.Demands.{Accepted, LongEnough, DefinitionOne, NestedSite}
 use Rattle.promises.specs.Untouched.{Refused}
 use Rattle.promises.specs.Numbered.{NoneNumbers, FindTheNumbering}
-use Rattle.promises.proofs.Numbers.{accepted-number, plan-number}
-use Rattle.promises.proofs.Demand2.{valid-is-definition-one}
-use Rattle.promises.proofs.Top.{nested-site}
+use Rattle.demanded.proofs.Numbers.{accepted-number, plan-number}
+use Rattle.demanded.proofs.Demand2.{valid-is-definition-one}
+use Rattle.demanded.proofs.Own.{nested-site}
 
 module _ (s : Site) where
   pub renumber-number : renumberGiven (renumberOf s .answer) ≡ done ↔ renumberOf s .answer ≡ Renumber.Done

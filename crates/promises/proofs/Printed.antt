@@ -45,10 +45,10 @@ use Rattle.say_refusals.specs.declared.Sentence.the-variants.{Refusal}
 use Rattle.verdicts.specs.Lines.{verdictLines, unchangedRow, mendedRow, blockedRow}
 use Rattle.verdicts.specs.Said.{line, reachNamed, waySentence, blockedSentence, clashSentence, changesSentence, faultSaid, checkSaid, planSaid, mendSaid}
 use Rattle.verdicts.specs.Said.{validLine, plannedLine, unchangedLine, mendedLine}
-use Rattle.promises.specs.Numbers.{done}
-use Rattle.promises.specs.Demands.{Accepted, LongEnough}
-use Rattle.promises.proofs.Numbers.{check-number}
-use Rattle.promises.proofs.Demand2.{check-is-valid, planned-checks}
+use Rattle.demanded.specs.Numbers.{done}
+use Rattle.demanded.specs.Demands.{Accepted, LongEnough}
+use Rattle.demanded.proofs.Numbers.{check-number}
+use Rattle.demanded.proofs.Demand2.{check-is-valid, planned-checks}
 use Rattle.promises.proofs.Mending.{mended-checks, unchanged-valid}
 
 -- ---- how words begin

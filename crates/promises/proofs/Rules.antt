@@ -56,14 +56,14 @@ use Rattle.sitefile.proofs.Before.{rule-bytes, rule-reasons, rule-read, old-rea
 use Rattle.sitefile.proofs.FileTrip.{accepted}
 use Rattle.sitefile.proofs.Reasons.{first-refused, accept}
 use Rattle.planfile.specs.Read.{planReadAnswer, planReadOf, readPlan}
-use Rattle.promises.specs.Numbers.{done, doneWith, refused}
-use Rattle.promises.specs.Demands.{Accepted, LongEnough, Easier}
-use Rattle.promises.specs.Desk.{withZeros, P3ruled, allClash}
+use Rattle.demanded.specs.Numbers.{done, doneWith, refused}
+use Rattle.demanded.specs.Demands.{Accepted, LongEnough, Easier}
+use Rattle.desktable.specs.Desk.{withZeros, P3ruled, allClash}
 use Rattle.promises.specs.Rules.{under, SaysClash, plainSite}
-use Rattle.promises.proofs.Numbers.{accepted-number}
-use Rattle.promises.proofs.Faults.{usedWords, usedTo, pastIn, faultIn, fault-in}
+use Rattle.demanded.proofs.Numbers.{accepted-number}
+use Rattle.desktable.proofs.Faults.{usedWords, usedTo, pastIn, faultIn, fault-in}
 use Rattle.promises.proofs.Demand1.{site-write-leaves}
-use Rattle.promises.proofs.Demand3.{demand-three-calls}
+use Rattle.demanded.proofs.Demand3.{demand-three-calls}
 use Rattle.promises.proofs.Files.{site-read-written}
 
 -- a record that is accepted is accepted under either rule

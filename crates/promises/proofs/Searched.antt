@@ -22,11 +22,11 @@ use Rattle.search.specs.declared.SearchAnswer.the-variants.{Plan, Full, Limit, 
 use Rattle.search.proofs.Right as right
 use Rattle.search.proofs.Meaning.{too-many-means}
 use Rattle.search.proofs.Given.{search-apart, search-proper}
-use Rattle.promises.specs.Numbers.{refused}
-use Rattle.promises.specs.Demands.{Accepted, LongEnough, DefinitionOne}
+use Rattle.demanded.specs.Numbers.{refused}
+use Rattle.demanded.specs.Demands.{Accepted, LongEnough, DefinitionOne}
 use Rattle.promises.specs.Searched.{planAfter, noneAfter, limitAt, triesFor, Searchable, NoTable, SearchWhereGreedyGivesUp}
-use Rattle.promises.proofs.Numbers.{accepted-number}
-use Rattle.promises.proofs.Demand2.{valid-is-definition-one}
+use Rattle.demanded.proofs.Numbers.{accepted-number}
+use Rattle.demanded.proofs.Demand2.{valid-is-definition-one}
 
 module _ (s : Site) (limit : ℕ) (t : List ℕ) where
   abbrev said : SearchAnswer

@@ -34,10 +34,10 @@ use Rattle.sheet.proofs.Given.{sheet-apart, sheet-proper}
 use Rattle.sheet.proofs.Trip.{fine-fits, written-then-read}
 use Rattle.sheet.proofs.Answers.{bad-first, first-told, no-bad-line, sheet-read, refused-zeros, accepted-is, sheet-accepted}
 use Rattle.sheet.proofs.Answers.{fault-is, fault-one, fault-twenty-four, fault-three, fault-twenty, marks-reach}
-use Rattle.promises.specs.Numbers.{done, doneWith, refused}
-use Rattle.promises.specs.Demands.{Accepted}
+use Rattle.demanded.specs.Numbers.{done, doneWith, refused}
+use Rattle.demanded.specs.Demands.{Accepted}
 use Rattle.promises.specs.Leaves.{WriterLeaves}
-use Rattle.promises.proofs.Numbers.{accepted-number}
+use Rattle.demanded.proofs.Numbers.{accepted-number}
 use Rattle.promises.proofs.Demand1.{file-left, wrote-fine}
 
 -- ---- the writer: 1, 24, 2, 3, 20, then 13; nothing written on a refusal, nothing past the sheet

@@ -21,6 +21,11 @@ use Rattle.search.specs.Given.{searchGiven}
 use Rattle.search.specs.declared.SearchAnswer.{SearchAnswer}
 use Rattle.search.specs.declared.SearchAnswer.the-variants as search
 use Rattle.search.proofs.Right.{withTries, not-written}
+use Rattle.finder.specs.Find.{findAnswer, findTable}
+use Rattle.finder.specs.Given.{findGiven}
+use Rattle.finder.specs.declared.FindAnswer.{FindAnswer}
+use Rattle.finder.specs.declared.FindAnswer.the-variants as find
+use Rattle.finder.proofs.Right as finder
 use Rattle.numbering.proofs.Ways.{carry-refused, carry-none, carry-short}
 use Rattle.told.specs.Told.{told}
 use Rattle.toldfiles.specs.Files.{toldPlanRead}
@@ -28,6 +33,7 @@ use Rattle.promises.specs.Untouched.{Idle, Refused, RefusedElse, IdleIfN
 use Rattle.promises.proofs.Demand1.{plan-leaves, plan-read-leaves, site-write-leaves, plan-write-leaves}
 use Rattle.promises.proofs.Words.{plan-words-leaves, forms-leave}
 use Rattle.promises.proofs.Sheets.{sheet-write-leaves}
+use Rattle.promises.proofs.Tidied.{tidy-leaves}
 use Rattle.promises.proofs.Mending.{refused-untouched}
 use Rattle.promises.proofs.Handheld.{change-untouched, change-no-room}
 
@@ -78,6 +84,21 @@ no-tries (search.Refused f) z = refl
 pub search-untouched : (s : Site) (limit : ℕ) (t : List ℕ) → Refused (searchGiven (searchAnswer s limit t) .number) → searchTable s limit t ≡ t
 search-untouched s limit t z = not-written s t limit (no-tries (searchAnswer s limit t) z)
 
+-- a verdict has the number 0
+no-verdict : (a : FindAnswer) → Refused (findGiven a .number) → finder.isVerdict a ≡ false
+no-verdict find.Greedy z = absurd (z refl)
+no-verdict find.Renumbered z = absurd (z refl)
+no-verdict (find.Searched n) z = absurd (z refl)
+no-verdict (find.Full x) z = absurd (z refl)
+no-verdict find.FullInClass z = absurd (z refl)
+no-verdict (find.FullSearched n) z = absurd (z refl)
+no-verdict (find.NotKnown n) z = absurd (z refl)
+no-verdict find.TableShort z = refl
+no-verdict (find.Refused f) z = refl
+
+pub find-untouched : (s : Site) (limit : ℕ) (t : List ℕ) → Refused (findGiven (findAnswer s limit t) .number) → findTable s limit t ≡ t
+find-untouched s limit t z = finder.not-written s limit t (no-verdict (findAnswer s limit t) z)
+
 pub idle-if-no-room : IdleIfNoRoom
 unfolding told
 idle-if-no-room = record {
@@ -105,10 +126,12 @@ untouched = record {
   mend-only = λ site table table′ r says z. says .table-after ∙ refused-untouched site table _ (rw (says .answer) at z) .0;
   carry = λ site from to to′ r says z. says .to-after ∙ carry-untouched site from to (rw (says .answer) at z);
   search = λ site limit table table′ r says z. says .table-after ∙ search-untouched site limit table (rw (says .answer) at z);
+  find = λ site limit table table′ r says z. says .table-after ∙ find-untouched site limit table (rw (says .answer) at z);
   write-site = λ site out out′ r says z. says .out-after ∙ site-write-leaves site out .if-refused (rw (says .answer) at z);
   read-plan = λ bytes table table′ r says z. says .table-after ∙ plan-read-leaves bytes table .if-refused (rw (says .answer) at z);
   write-plan = λ site table out out′ r says z. says .out-after ∙ plan-write-leaves site table out .if-refused (rw (says .answer) at z);
   write-sheet = λ site out out′ r says z. says .out-after ∙ sheet-write-leaves site out .if-refused (rw (says .answer) at z);
+  tidy = λ sheet out out′ r says z. says .out-after ∙ tidy-leaves sheet out .if-refused (rw (says .answer) at z);
 }
 
 -- ---- in C
@@ -126,8 +149,10 @@ untouched-in-c = record {
       let u = refused-untouched site table changes (rw (says .answer) at z) in (says .table-after ∙ u .0, says .changes-after ∙ u .1);
   carry = λ site from to to′ r says z. says .to-after ∙ carry-untouched site from to (rw (says .answer) at z);
   search = λ site limit table table′ r says z. says .table-after ∙ search-untouched site limit table (rw (says .answer) at z);
+  find = λ site limit table table′ r says z. says .table-after ∙ find-untouched site limit table (rw (says .answer) at z);
   write-site = λ site out out′ r says z. says .out-after ∙ site-write-leaves site out .if-refused (rw (says .answer) at z);
   read-plan = λ bytes table table′ r says z. says .table-after ∙ plan-read-leaves bytes table .if-refused (rw (says .answer) at z);
   write-plan = λ site table out out′ r says z. says .out-after ∙ plan-write-leaves site table out .if-refused (rw (says .answer) at z);
   write-sheet = λ site out out′ r says z. says .out-after ∙ sheet-write-leaves site out .if-refused (rw (says .answer) at z);
+  tidy = λ sheet out out′ r says z. says .out-after ∙ tidy-leaves sheet out .if-refused (rw (says .answer) at z);
 }

@@ -44,12 +44,12 @@ use Rattle.wordtable.proofs.Ways.{table-short, words-short}
 use Rattle.wordtable.proofs.Same.{bytes-at, check-bytes, check-table, plan-answer-same, plan-words-are, plan-kept-long}
 use Rattle.wordtable.proofs.Same.{there-and-back, back-and-there, check-above, bytes-above}
 use Rattle.wordtable.proofs.Plain.{word-plain, word-low, byte-plain}
-use Rattle.promises.specs.Numbers.{done, refused}
+use Rattle.demanded.specs.Numbers.{done, refused}
 use Rattle.promises.specs.Leaves.{PlannerLeaves, ReaderLeaves}
-use Rattle.promises.specs.Demands.{Accepted, LongEnough, WordsEnough, Easier}
-use Rattle.promises.proofs.Numbers.{accepted-number}
+use Rattle.demanded.specs.Demands.{Accepted, LongEnough, WordsEnough, Easier}
+use Rattle.demanded.proofs.Numbers.{accepted-number}
 use Rattle.promises.proofs.Demand1.{plan-left}
-use Rattle.promises.proofs.Demand3.{demand-three-calls}
+use Rattle.demanded.proofs.Demand3.{demand-three-calls}
 
 -- ---- the two forms say the same, for every record; of the refusals only 4 is about what is lent
 

@@ -16,8 +16,8 @@ use Rattle.handheld.specs.declared.ChangeAnswer.{ChangeAnswer}
 use Rattle.contracts.specs.SiteSays.{SiteSetLoad}
 use Rattle.contracts.specs.PlannerSays.{Plan}
 use Rattle.contracts.specs.HandheldSays.{ChangeLoad}
-use Rattle.promises.specs.Numbers.{done, refused}
-use Rattle.promises.specs.Demands.{LongEnough}
+use Rattle.demanded.specs.Numbers.{done, refused}
+use Rattle.demanded.specs.Demands.{LongEnough}
 use Rattle.promises.specs.Untouched.{Idle}
 
 -- "The table must first be the greedy plan of the unedited site": the planner, lent it, is done and leaves it as it is

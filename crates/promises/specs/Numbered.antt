@@ -16,8 +16,8 @@ use Rattle.numbering.specs.declared.Renumbered.{Renumbered}
 use Rattle.numbering.specs.declared.CarryAnswer.{CarryAnswer}
 use Rattle.contracts.specs.NumberingSays.{Renumber, Carry}
 use Rattle.contracts.specs.PlannerSays.{Plan}
-use Rattle.promises.specs.Numbers.{done, refused}
-use Rattle.promises.specs.Demands.{Accepted, LongEnough, DefinitionOne, NestedSite}
+use Rattle.demanded.specs.Numbers.{done, refused}
+use Rattle.demanded.specs.Demands.{Accepted, LongEnough, DefinitionOne, NestedSite}
 use Rattle.promises.specs.Untouched.{Refused}
 
 -- no permutation of the cells "puts it in W9's class whatever the loads"

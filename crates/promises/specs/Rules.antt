@@ -12,7 +12,7 @@ use Rattle.sitefile.specs.Reasons.{loadsAt, reachAt, lastAt}
 use Rattle.reachpairs.specs.Pairs.{reachOfBody}
 use Rattle.blockbits.specs.Reasons.{blockedOr}
 use Rattle.sitefile.specs.Read.{loadsOfBody}
-use Rattle.promises.specs.Numbers.{doneWith}
+use Rattle.demanded.specs.Numbers.{doneWith}
 
 -- a site with another rule, and nothing else changed
 abbrev pub under : ℕ → Site → Site

@@ -12,8 +12,8 @@ use Rattle.site.specs.declared.Site.{Site}
 use Rattle.search.specs.Given.{searchGiven}
 use Rattle.search.specs.declared.SearchAnswer.{SearchAnswer}
 use Rattle.contracts.specs.SearchSays.{Search}
-use Rattle.promises.specs.Numbers.{doneWith, refused}
-use Rattle.promises.specs.Demands.{Accepted, LongEnough, DefinitionOne}
+use Rattle.demanded.specs.Numbers.{doneWith, refused}
+use Rattle.demanded.specs.Demands.{Accepted, LongEnough, DefinitionOne}
 
 -- "the answer is a plan, "none exists" or "limit met", with the tries made"
 abbrev pub planAfter : ℕ → Given

@@ -32,8 +32,8 @@ use Rattle.contracts.specs.PlannerSays.{Plan}
 use Rattle.contracts.specs.CheckerSays.{Check}
 use Rattle.contracts.specs.SitefileSays.{ReadSite, WriteSite}
 use Rattle.contracts.specs.PlanfileSays.{ReadPlan, WritePlan}
-use Rattle.promises.specs.Numbers.{done, doneWith, runGiven}
-use Rattle.promises.specs.Demands.{Accepted, LongEnough, DefinitionOne, Easier, ChainedSite, NestedSite, ClaimOne, greedySchedule}
+use Rattle.demanded.specs.Numbers.{done, doneWith, runGiven}
+use Rattle.demanded.specs.Demands.{Accepted, LongEnough, DefinitionOne, Easier, ChainedSite, NestedSite, ClaimOne, greedySchedule}
 use Rattle.promises.specs.Untouched.{IdleIfNoRoom, Untouched, UntouchedInC}
 
 -- That every function ends, and stays within what it is lent, is the prover's own. That no call of the product asks anything of its caller (a `requires`) is

@@ -19,11 +19,15 @@ use Rattle.numbering.specs.Given.{carryGiven}
 use Rattle.numbering.specs.declared.CarryAnswer.{CarryAnswer}
 use Rattle.search.specs.Given.{searchGiven}
 use Rattle.search.specs.declared.SearchAnswer.{SearchAnswer}
+use Rattle.finder.specs.Given.{findGiven}
+use Rattle.finder.specs.declared.FindAnswer.{FindAnswer}
 use Rattle.records.specs.Given.{readGiven, writtenGiven}
 use Rattle.records.specs.declared.Written.{Written}
 use Rattle.planfile.specs.Given.{planWrittenGiven}
 use Rattle.planfile.specs.declared.PlanRead.{PlanRead}
 use Rattle.planfile.specs.declared.PlanWritten.{PlanWritten}
+use Rattle.tidying.specs.Given.{tidyGiven}
+use Rattle.tidying.specs.declared.TidyAnswer.{TidyAnswer}
 use Rattle.told.specs.declared.Answer.{Answer}
 use Rattle.toldfiles.specs.declared.PlanReadC.{PlanReadC}
 use Rattle.contracts.specs.PlannerSays.{Plan}
@@ -32,9 +36,11 @@ use Rattle.contracts.specs.WordtableSays.{PlanWords, ToWords, ToBytes}
 use Rattle.contracts.specs.MenderSays.{Mend, MendOnly}
 use Rattle.contracts.specs.NumberingSays.{Carry}
 use Rattle.contracts.specs.SearchSays.{Search}
+use Rattle.contracts.specs.FinderSays.{Find}
 use Rattle.contracts.specs.SitefileSays.{WriteSite}
 use Rattle.contracts.specs.PlanfileSays.{ReadPlan, WritePlan}
 use Rattle.contracts.specs.SheetSays.{WriteSheet}
+use Rattle.contracts.specs.TidyingSays.{Tidy}
 use Rattle.contracts.specs.CapiSays.{
   DuggPlan,
   DuggChangeLoad,
@@ -44,10 +50,12 @@ use Rattle.contracts.specs.CapiSays.{
   DuggMend,
   DuggCarry,
   DuggSearch,
+  DuggFind,
   DuggWriteSite,
   DuggReadPlan,
   DuggWritePlan,
   DuggWriteSheet,
+  DuggTidy,
 }
 
 -- the first n are 0, and the others as they were
@@ -95,11 +103,14 @@ pub record Untouched : Type 0 where
   pub carry : (site : Site) (from to to′ : List ℕ) (r : CarryAnswer) → Carry site from to r to′ → Refused (carryGiven r .number) → to′ ≡ to
   pub search : (site : Site) (limit : ℕ) (table table′ : List ℕ) (r : SearchAnswer) → Search site limit table r table′
       → Refused (searchGiven r .number) → table′ ≡ table
+  pub find : (site : Site) (limit : ℕ) (table table′ : List ℕ) (r : FindAnswer) → Find site limit table r table′
+      → Refused (findGiven r .number) → table′ ≡ table
   pub write-site : (site : Site) (out out′ : List ℕ) (r : Written) → WriteSite site out r out′ → Refused (writtenGiven r .number) → out′ ≡ out
   pub read-plan : (bytes table table′ : List ℕ) (r : PlanRead) → ReadPlan bytes table r table′ → Refused (readGiven (r .answer) .number) → table′ ≡ table
   pub write-plan : (site : Site) (table out out′ : List ℕ) (r : PlanWritten) → WritePlan site table out r out′
       → Refused (planWrittenGiven r .number) → out′ ≡ out
   pub write-sheet : (site : Site) (out out′ : List ℕ) (r : Written) → WriteSheet site out r out′ → Refused (writtenGiven r .number) → out′ ≡ out
+  pub tidy : (sheet out out′ : List ℕ) (r : TidyAnswer) → Tidy sheet out r out′ → Refused (tidyGiven r .number) → out′ ≡ out
 
 pub record UntouchedInC : Type 0 where
   pub plan : (site : Site) (table table′ : List ℕ) (r : Answer) → DuggPlan site table r table′ → RefusedElse (r .number) → table′ ≡ table
@@ -112,7 +123,9 @@ pub record UntouchedInC : Type 0 where
       → Refused (r .number) → (table′ ≡ table) × (changes′ ≡ changes)
   pub carry : (site : Site) (from to to′ : List ℕ) (r : Answer) → DuggCarry site from to r to′ → Refused (r .number) → to′ ≡ to
   pub search : (site : Site) (limit : ℕ) (table table′ : List ℕ) (r : Answer) → DuggSearch site limit table r table′ → Refused (r .number) → table′ ≡ table
+  pub find : (site : Site) (limit : ℕ) (table table′ : List ℕ) (r : Answer) → DuggFind site limit table r table′ → Refused (r .number) → table′ ≡ table
   pub write-site : (site : Site) (out out′ : List ℕ) (r : Answer) → DuggWriteSite site out r out′ → Refused (r .number) → out′ ≡ out
   pub read-plan : (bytes table table′ : List ℕ) (r : PlanReadC) → DuggReadPlan bytes table r table′ → Refused (r .answer .number) → table′ ≡ table
   pub write-plan : (site : Site) (table out out′ : List ℕ) (r : Answer) → DuggWritePlan site table out r out′ → Refused (r .number) → out′ ≡ out
   pub write-sheet : (site : Site) (out out′ : List ℕ) (r : Answer) → DuggWriteSheet site out r out′ → Refused (r .number) → out′ ≡ out
+  pub tidy : (sheet out out′ : List ℕ) (r : Answer) → DuggTidy sheet out r out′ → Refused (r .number) → out′ ≡ out

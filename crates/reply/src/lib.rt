@@ -63,6 +63,11 @@ pub fn no(text: &[u8], end: usize) {
     put(STATUS, b"1", 1);
 }
 
+// Not known.
+pub fn unknown() {
+    put(STATUS, b"3", 1);
+}
+
 // Used wrongly, and the text that says how.
 pub fn wrong(text: &[u8], end: usize) {
     message(text, end);

@@ -13,13 +13,15 @@ use Rattle.site.specs.Record.{siteOf, upTo, sizeOk, ruleOk, rowBad, extraLoad, 
 use Rattle.site.specs.Reach.{reaches, clashIn}
 use Rattle.site.specs.declared.Site.{Site}
 use Rattle.shares.specs.Share.{roundedUp, shareOf}
-use Rattle.admitting.specs.Best.{allowed, bestOf, best}
+use Rattle.admitting.specs.Best.{allowedBeside, bestOf, bestBeside}
 use Rattle.flowlist.specs.declared.Flow.{Flow}
-use Rattle.admission.specs.Admit.{badIn, refusedIn, firstBadIn, answerIn}
+use Rattle.admission.specs.Admit.{badIn, refusedIn, firstBadIn, answerFrom, answerIn}
+use Rattle.admission.specs.Beside.{besideIn}
+use Rattle.verdicts.specs.Lines.{verdictLines}
 use Rattle.say_refusals.specs.Lines.{refusalMeanings, refusalHeads}
 use Rattle.say_refusals.specs.Said.{meaning, refusedLine}
 use Rattle.say_flows.specs.Lines.{admitLines, nineteenLines}
-use Rattle.say_flows.specs.Said.{listSaid, nineteenSaid, admitSaid}
+use Rattle.say_flows.specs.Said.{listSaid, nineteenSaid, admitSaid, besideSaid}
 
 -- what is said of an admission
 abbrev said : Site → (ℕ → Flow) → ℕ → List ℕ
@@ -54,7 +56,7 @@ taken :
     ∷ bytes "the loads of the site are set aside\nflow 1: cell 3, share 6, value 10, taken\nflow 2: cell 4, share 16, value 30, taken\nworth 40\n" ∷ []
 unfolding firstOf sum overloaded lowestOver loadVerdict second splits splitOf firstSplit classVerdict upTo sizeOk ruleOk rowBad extraLoad badRow extraBlocked
     faultOf
-    reaches clashIn roundedUp shareOf allowed bestOf best badIn refusedIn firstBadIn answerIn admitLines listSaid spoken decimal digitsOf
+    reaches clashIn roundedUp shareOf allowedBeside bestOf bestBeside badIn refusedIn firstBadIn answerFrom admitLines listSaid spoken decimal digitsOf
 taken = refl
 
 -- each refusal: 2, 15 and 16 with the flow's number, 18 alone, 19 with the three cells, and a record's own
@@ -74,5 +76,21 @@ refused :
     ∷ []
 unfolding firstOf sum second splits splitOf firstSplit classVerdict upTo sizeOk ruleOk rowBad extraLoad badRow extraBlocked faultOf reaches clashIn roundedUp
     shareOf
-    badIn refusedIn firstBadIn answerIn nineteenLines nineteenSaid refusalMeanings refusalHeads meaning refusedLine spoken decimal digitsOf
+    badIn refusedIn firstBadIn answerFrom nineteenLines nineteenSaid refusalMeanings refusalHeads meaning refusedLine spoken decimal digitsOf
 refused = refl
+
+-- on top of the loads: two cells that clash, 16 slots, loads 4 and 4. Of two flows of shares 6 and 8 cell 2 has room for the one that is worth more;
+-- and with loads 4 and 13 the loads alone are over, by 1 in cell 2
+abbrev besides : Site → (ℕ → Flow) → ℕ → List ℕ
+besides s f n = besideSaid s f n (besideIn s f n)
+
+beside :
+    besides (siteOf 2 16 1 (4 ∷ 4 ∷ []) (2 ∷ []) [] 1) (pair (flow 1 3 8 1 10) (flow 2 4 8 1 30)) 2
+    ∷ besides (siteOf 2 16 1 (4 ∷ 13 ∷ []) (2 ∷ []) [] 1) (pair (flow 1 3 8 1 10) (flow 2 4 8 1 30)) 2 ∷ []
+    ≡ bytes "on top of the loads of the site\nflow 1: cell 1, share 6, value 10, not taken\nflow 2: cell 2, share 8, value 30, taken\nworth 30\n"
+    ∷ bytes "refused 5, cell 2: no room for 1 of its fragments; duggfrask why says what that means\n" ∷ []
+unfolding firstOf sum overloaded lowestOver loadVerdict second splits splitOf firstSplit classVerdict upTo sizeOk ruleOk rowBad extraLoad badRow extraBlocked
+    faultOf
+    reaches clashIn roundedUp shareOf allowedBeside bestOf bestBeside badIn refusedIn firstBadIn answerFrom besideIn admitLines listSaid spoken decimal digitsOf
+    verdictLines
+beside = refl

@@ -15,9 +15,9 @@ use lib.ListN.{getD}
 use Rattle.laws.specs.Bits.{bitAt, bitIn}
 use Rattle.laws.specs.Choice.{pick}
 use Rattle.laws.proofs.Lowest.{bit-all}
-use Rattle.theory.specs.Net.{everyone}
+use Rattle.theory.specs.Net.{Net, everyone, loaded}
 use Rattle.theory.specs.Named.{Splits, FirstSplits}
-use Rattle.theory.specs.Verdict.{ClassVerdict, inClass, outside, second, splitOf, firstSplit, classVerdict}
+use Rattle.theory.specs.Verdict.{LoadVerdict, holds, over, loadVerdict, ClassVerdict, inClass, outside, second, splitOf, firstSplit, classVerdict}
 use Rattle.theory.proofs.ClassLaws.{class-names}
 use Rattle.site.specs.Record.{upTo, faultOf, isFine}
 use Rattle.site.specs.Reach.{clashOf, netOf}
@@ -30,11 +30,14 @@ use Rattle.chainwords.specs.Chain.{gapIn, splitIn, firstSplitIn}
 use Rattle.chainwords.proofs.Rows.{first-split-is, split-is, second-is}
 use Rattle.shares.specs.declared.ShareAnswer.{ShareAnswer}
 use Rattle.shares.specs.declared.ShareAnswer.the-variants as share
+use Rattle.admitting.specs.Best.{idle}
 use Rattle.flowlist.specs.declared.Flow.{Flow}
-use Rattle.admission.specs.Admit.{shareIn, shareRefused, refusedIn, firstBadIn, isNested, settledAt, answerIn}
+use Rattle.admission.specs.Admit.{shareIn, shareRefused, refusedIn, firstBadIn, isNested, settledOn, answerFrom, answerIn}
+use Rattle.admission.specs.Beside.{isAsked, besideWhere, besideIn}
 use Rattle.admission.specs.declared.AdmitAnswer.{AdmitAnswer}
 use Rattle.admission.specs.declared.AdmitAnswer.the-variants.{Admitted, TooMany, NotNested, BadCell, BadFlow, BigShare, Refused}
-use Rattle.say_flows.specs.Said.{splitLine, splitSaid, nineteenSaid, admitSaid}
+use Rattle.admission.specs.declared.BesideAnswer.the-variants.{Answered}
+use Rattle.say_flows.specs.Said.{splitLine, splitSaid, nineteenSaid, admitSaid, besideSaid}
 
 -- ---- what the searches find
 
@@ -129,19 +132,34 @@ triple : (v : ClassVerdict) → isNested v ≡ false → (a b i : ℕ) × (v ≡
 triple inClass h = absurd (true≢false h)
 triple (outside a b i) h = (a, b, i, refl)
 
-module _ (s : Site) (f : ℕ → Flow) (n : ℕ) where
-  parts : answerIn s f n ≡ NotNested → (isFine (faultOf s) ≡ true) × (isNested (classVerdict (netOf s) everyone) ≡ false)
-  unfolding answerIn
+module _ (start : Net) (s : Site) (f : ℕ → Flow) (n : ℕ) where
+  parts : answerFrom start s f n ≡ NotNested → (isFine (faultOf s) ≡ true) × (isNested (classVerdict (netOf s) everyone) ≡ false)
+  unfolding answerFrom
   parts e =
       let bad = firstBadIn (s .cells) (s .slots) f n in
-      went (faultOf s) (ltb 16 n) (isNested (classVerdict (netOf s) everyone)) (settledAt s f n bad)
+      went (faultOf s) (ltb 16 n) (isNested (classVerdict (netOf s) everyone)) (settledOn start s f n bad)
       (settled-not (ltb bad n) (refusedIn (s .cells) (s .slots) (f bad) (bad + 1)) _ (refused-not (s .cells) (s .slots) (f bad) (bad + 1))) e
 
-  -- W9: "refusal 19 is given exactly outside it": the text names the first a, b, i that show it when all cells count
-  pub nineteen-said : answerIn s f n ≡ NotNested
-      → (a b i : ℕ) × FirstSplits (netOf s) everyone a b i × (admitSaid s f n NotNested ≡ splitLine (a + 1) (b + 1) (i + 1))
+  names-split : answerFrom start s f n ≡ NotNested → (a b i : ℕ) × FirstSplits (netOf s) everyone a b i × (nineteenSaid s ≡ splitLine (a + 1) (b + 1) (i + 1))
   unfolding nineteenSaid
-  nineteen-said e =
+  names-split e =
       let p = parts e in
       let t = triple (classVerdict (netOf s) everyone) (p .1) in
       (t .0, t .1, t .2, class-names (netOf s) everyone (t .0) (t .1) (t .2) (t .3), simp (p .0, t .3))
+
+module _ (s : Site) (f : ℕ → Flow) (n : ℕ) where
+  -- W9: "refusal 19 is given exactly outside it": the text names the first a, b, i that show it when all cells count
+  pub nineteen-said : answerIn s f n ≡ NotNested
+      → (a b i : ℕ) × FirstSplits (netOf s) everyone a b i × (admitSaid s f n NotNested ≡ splitLine (a + 1) (b + 1) (i + 1))
+  nineteen-said e = names-split (idle (netOf s)) s f n e
+
+  -- the same on top of the loads
+  pub nineteen-beside : besideIn s f n ≡ Answered NotNested
+      → (a b i : ℕ) × FirstSplits (netOf s) everyone a b i × (besideSaid s f n (Answered NotNested) ≡ splitLine (a + 1) (b + 1) (i + 1))
+  unfolding besideIn
+  nineteen-beside e = names-split (netOf s) s f n (at (isAsked s n) (loadVerdict (netOf s) (loaded (netOf s))) (answerFrom (netOf s) s f n) e)
+    where
+      at : (t : Bool) (v : LoadVerdict) (a : AdmitAnswer) → besideWhere t v a ≡ Answered NotNested → a ≡ NotNested
+      at true (over j m) a h = let z : _≡_ {A = ℕ} 0 1 = cc in absurd (omega arith)
+      at true holds a h = cc
+      at false v a h = cc

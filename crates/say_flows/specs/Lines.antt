@@ -9,6 +9,7 @@ admitLines =
     ∷ "flow @1: cell @2, share @3, value @4, taken\n"
     ∷ "flow @1: cell @2, share @3, value @4, not taken\n"
     ∷ "worth @1\n"
+    ∷ "on top of the loads of the site\n"
     ∷ []
 
 -- a longer one has a table of its own. Up to its second colon it is the sentence of number 19, as crate `say_refusals` has it
@@ -31,6 +32,9 @@ leftRow = 2
 
 abbrev pub worthRow : ℕ
 worthRow = 3
+
+abbrev pub besideRow : ℕ
+besideRow = 4
 
 abbrev pub nineteenRow : ℕ
 nineteenRow = 0

@@ -14,19 +14,22 @@ use Rattle.admitting.specs.Best.{worth}
 use Rattle.admission.specs.Admit.{shareIn, amount, flowsAsked}
 use Rattle.admission.specs.declared.AdmitAnswer.{AdmitAnswer}
 use Rattle.admission.specs.declared.AdmitAnswer.the-variants as admit
+use Rattle.admission.specs.declared.BesideAnswer.{BesideAnswer}
+use Rattle.admission.specs.declared.BesideAnswer.the-variants as beside
+use Rattle.planner.specs.declared.PlanAnswer.the-variants as plan
 use Rattle.phrases.specs.Phrases.{phrase}
 use Rattle.phrases.specs.declared.Phrase.{Phrase}
 use Rattle.phrases.specs.declared.Phrase.the-variants.{Row}
 use Rattle.say_refusals.specs.Said.{refusedLine}
 use Rattle.say_refusals.specs.declared.Place.the-variants as place
-use Rattle.verdicts.specs.Said.{faultSaid}
-use Rattle.say_flows.specs.Lines.{admitLines, nineteenLines, asideRow, takenRow, leftRow, worthRow, nineteenRow}
+use Rattle.verdicts.specs.Said.{faultSaid, planSaid}
+use Rattle.say_flows.specs.Lines.{admitLines, nineteenLines, asideRow, takenRow, leftRow, worthRow, besideRow, nineteenRow}
 
 -- ---- the flows
 
--- "The site's own loads are set aside here: every cell starts at 0"
-abbrev pub asidePhrase : Phrase
-asidePhrase = Row asideRow 0 0 0 0
+-- whether the loads count: "The site's own loads are set aside here: every cell starts at 0", or "on top of the loads that the site has"
+abbrev pub startPhrase : ℕ → Phrase
+startPhrase row = Row row 0 0 0 0
 
 -- the flow at place k: it is taken where its bit is in the set
 abbrev pub flowPhrase : (slots set : ℕ) → Flow → ℕ → Phrase
@@ -58,14 +61,22 @@ nineteenSaid s = pick (isFine (faultOf s)) (splitSaid (classVerdict (netOf s) ev
 
 -- ---- the answer
 
--- which flows to take, and their total value; or the refusal: "18 over 16 flows, 19 site not chained", W9: not nested, "then per flow 2, 15, 16 with the flow's
--- number"
+-- which flows to take, after the row that says whether the loads count, and their total value; or the refusal: "18 over 16 flows, 19 site not chained", W9: not
+-- nested, "then per flow 2, 15, 16 with the flow's number"
+abbrev pub answerSaid : ℕ → Site → (ℕ → Flow) → ℕ → AdmitAnswer → List ℕ
+answerSaid row s f n (admit.Admitted set) =
+    phrase admitLines (startPhrase row) ++ (listSaid (s .slots) set f n ++ phrase admitLines (worthPhrase (worth (flowsAsked (s .slots) f n) set)))
+answerSaid row s f n admit.TooMany = refusedLine 18 place.Nowhere
+answerSaid row s f n admit.NotNested = nineteenSaid s
+answerSaid row s f n (admit.BadCell k) = refusedLine 2 (place.Flow k)
+answerSaid row s f n (admit.BadFlow k) = refusedLine 15 (place.Flow k)
+answerSaid row s f n (admit.BigShare k) = refusedLine 16 (place.Flow k)
+answerSaid row s f n (admit.Refused fault) = faultSaid fault
+
 abbrev pub admitSaid : Site → (ℕ → Flow) → ℕ → AdmitAnswer → List ℕ
-admitSaid s f n (admit.Admitted set) =
-    phrase admitLines asidePhrase ++ (listSaid (s .slots) set f n ++ phrase admitLines (worthPhrase (worth (flowsAsked (s .slots) f n) set)))
-admitSaid s f n admit.TooMany = refusedLine 18 place.Nowhere
-admitSaid s f n admit.NotNested = nineteenSaid s
-admitSaid s f n (admit.BadCell k) = refusedLine 2 (place.Flow k)
-admitSaid s f n (admit.BadFlow k) = refusedLine 15 (place.Flow k)
-admitSaid s f n (admit.BigShare k) = refusedLine 16 (place.Flow k)
-admitSaid s f n (admit.Refused fault) = faultSaid fault
+admitSaid s f n a = answerSaid asideRow s f n a
+
+-- on top of the loads: the same, and 5 as the planner says it, with the lowest cell that is over by the loads alone and by how much
+abbrev pub besideSaid : Site → (ℕ → Flow) → ℕ → BesideAnswer → List ℕ
+besideSaid s f n (beside.Answered a) = answerSaid besideRow s f n a
+besideSaid s f n (beside.Over cell excess) = planSaid s (plan.NoRoom cell excess)

@@ -1,5 +1,6 @@
 // The text of an admission, written into a lent buffer. Each function puts its text at `at` and answers where the next byte goes.
 use admission::AdmitAnswer;
+use admission::BesideAnswer;
 use admission::share_in;
 use chainwords::first_split;
 use chainwords::gap;
@@ -8,6 +9,7 @@ use flowlist::Flow;
 use flowlist::FlowList;
 use phrases::Phrase;
 use phrases::put_phrase;
+use planner::PlanAnswer;
 use say_refusals::Place;
 use shares::ShareAnswer;
 use site::Fault;
@@ -25,7 +27,7 @@ ghost use Rattle.admission.specs.declared.AdmitAnswer.the-variants.{Admitted};
 ghost use Rattle.phrases.specs.Put.{Put};
 ghost use Rattle.phrases.specs.Phrases.{phrase};
 ghost use Rattle.say_flows.specs.Lines.{admitLines};
-ghost use Rattle.say_flows.specs.Said.{flowPhrase, listSaid, splitLine, nineteenSaid, admitSaid};
+ghost use Rattle.say_flows.specs.Said.{flowPhrase, listSaid, splitLine, nineteenSaid, answerSaid, admitSaid, besideSaid};
 
 const ASIDE: usize = 0;
 
@@ -34,6 +36,8 @@ const TAKEN: usize = 1;
 const LEFT: usize = 2;
 
 const WORTH: usize = 3;
+
+const BESIDE: usize = 4;
 
 const SPLIT: usize = 0;
 
@@ -48,7 +52,8 @@ fn put(out: &mut [u8], at: usize, what: Phrase) -> usize
         b"the loads of the site are set aside\n|\
           flow @1: cell @2, share @3, value @4, taken\n|\
           flow @1: cell @2, share @3, value @4, not taken\n|\
-          worth @1\n|",
+          worth @1\n|\
+          on top of the loads of the site\n|",
         what,
     )
 }
@@ -131,12 +136,20 @@ fn worth_of(set: u32, l: FlowList, count: usize) -> usize
     w
 }
 
-// The flows, and what those that are taken are worth.
-fn put_taken(out: &mut [u8], at: usize, site: Site, l: FlowList, count: usize, set: u32) -> usize
+// Whether the loads count, by its row; the flows, and what those that are taken are worth.
+fn put_taken(
+    out: &mut [u8],
+    at: usize,
+    row: usize,
+    site: Site,
+    l: FlowList,
+    count: usize,
+    set: u32,
+) -> usize
     requires { ⌜ (count ≤ 16) × (at + 12000 ≤ length (now out)) ⌝ }
-    ensures { λ r. ⌜ Put (now (out .entry)) at (admitSaid site (λ k. getD (l .list) k zeroFlow) count (Admitted set)) 12000 (now (out .exit)) r ⌝ }
+    ensures { λ r. ⌜ Put (now (out .entry)) at (answerSaid row site (λ k. getD (l .list) k zeroFlow) count (Admitted set)) 12000 (now (out .exit)) r ⌝ }
 {
-    let first = put(out, at, Phrase::Row(ASIDE, 0, 0, 0, 0));
+    let first = put(out, at, Phrase::Row(row, 0, 0, 0, 0));
     let middle = put_flows(out, first, site.slots, set, l, count);
     let w = worth_of(set, l, count);
     put(out, middle, Phrase::Row(WORTH, w, 0, 0, 0))
@@ -162,7 +175,31 @@ fn put_nineteen(out: &mut [u8], at: usize, site: Site) -> usize
     say_refusals::put_refused(out, at, 19, Place::Nowhere)
 }
 
-// Which flows to take, or the refusal. The flows are the first `count` of the list.
+// Which flows to take, after the row that says whether the loads count; or the refusal. The flows are the first `count` of the list.
+fn put_answer(
+    out: &mut [u8],
+    at: usize,
+    row: usize,
+    site: Site,
+    l: FlowList,
+    count: usize,
+    reply: AdmitAnswer,
+) -> usize
+    requires { ⌜ (count ≤ 16) × (at + 12000 ≤ length (now out)) ⌝ }
+    ensures { λ r. ⌜ Put (now (out .entry)) at (answerSaid row site (λ k. getD (l .list) k zeroFlow) count reply) 12000 (now (out .exit)) r ⌝ }
+{
+    match reply {
+        AdmitAnswer::Admitted(set) => put_taken(out, at, row, site, l, count, set),
+        AdmitAnswer::TooMany => say_refusals::put_refused(out, at, 18, Place::Nowhere),
+        AdmitAnswer::NotNested => put_nineteen(out, at, site),
+        AdmitAnswer::BadCell(flow) => say_refusals::put_refused(out, at, 2, Place::Flow(flow)),
+        AdmitAnswer::BadFlow(flow) => say_refusals::put_refused(out, at, 15, Place::Flow(flow)),
+        AdmitAnswer::BigShare(flow) => say_refusals::put_refused(out, at, 16, Place::Flow(flow)),
+        AdmitAnswer::Refused(f) => say_verdicts::put_fault(out, at, f),
+    }
+}
+
+// The same with the loads of the site set aside.
 pub fn put_admit(
     out: &mut [u8],
     at: usize,
@@ -174,13 +211,25 @@ pub fn put_admit(
     requires { ⌜ (count ≤ 16) × (at + 12000 ≤ length (now out)) ⌝ }
     ensures { λ r. ⌜ Put (now (out .entry)) at (admitSaid site (λ k. getD (l .list) k zeroFlow) count reply) 12000 (now (out .exit)) r ⌝ }
 {
+    put_answer(out, at, ASIDE, site, l, count, reply)
+}
+
+// The same on top of the loads of the site; 5 in the planner's words.
+pub fn put_beside(
+    out: &mut [u8],
+    at: usize,
+    site: Site,
+    l: FlowList,
+    count: usize,
+    reply: BesideAnswer,
+) -> usize
+    requires { ⌜ (count ≤ 16) × (at + 12000 ≤ length (now out)) ⌝ }
+    ensures { λ r. ⌜ Put (now (out .entry)) at (besideSaid site (λ k. getD (l .list) k zeroFlow) count reply) 12000 (now (out .exit)) r ⌝ }
+{
     match reply {
-        AdmitAnswer::Admitted(set) => put_taken(out, at, site, l, count, set),
-        AdmitAnswer::TooMany => say_refusals::put_refused(out, at, 18, Place::Nowhere),
-        AdmitAnswer::NotNested => put_nineteen(out, at, site),
-        AdmitAnswer::BadCell(flow) => say_refusals::put_refused(out, at, 2, Place::Flow(flow)),
-        AdmitAnswer::BadFlow(flow) => say_refusals::put_refused(out, at, 15, Place::Flow(flow)),
-        AdmitAnswer::BigShare(flow) => say_refusals::put_refused(out, at, 16, Place::Flow(flow)),
-        AdmitAnswer::Refused(f) => say_verdicts::put_fault(out, at, f),
+        BesideAnswer::Answered(a) => put_answer(out, at, BESIDE, site, l, count, a),
+        BesideAnswer::Over(cell, excess) => {
+            say_verdicts::put_plan(out, at, site, PlanAnswer::NoRoom(cell, excess))
+        }
     }
 }

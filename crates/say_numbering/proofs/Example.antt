@@ -1,23 +1,19 @@
--- What is said of a numbering, computed letter by letter: cell 3 clashes with cells 1 and 2, which do not clash. And what the site in new numbers says of
--- small sites: each sentence once, and none of a nested site. Assumes nothing.
+-- What is said of a numbering, computed letter by letter: cell 3 clashes with cells 1 and 2, which do not clash. And what `why` says of the numbering of small
+-- sites. Assumes nothing.
 use mathlib.Core.List.{List, [], _∷_, _++_}
 use mathlib.Core.Path.{_≡_, refl}
 use Prim.Native.Nat.{ℕ}
 use lib.ListN.{replicate}
 use Rattle.laws.specs.Bits.{wordOf}
-use Rattle.laws.specs.Part.{part, listOf}
 use Rattle.laws.specs.Search.{firstOf}
 use Rattle.laws.specs.Sum.{sum, any}
-use Rattle.theory.specs.Greedy.{forbid, marked, fill, run}
 use Rattle.theory.specs.Verdict.{second, splits, splitOf, firstSplit, classVerdict}
-use Rattle.site.specs.Record.{siteOf, size, upTo, sizeOk, ruleOk, rowBad, extraLoad, badRow, extraBlocked, faultOf}
+use Rattle.site.specs.Record.{siteOf, upTo, sizeOk, ruleOk, rowBad, extraLoad, badRow, extraBlocked, faultOf}
 use Rattle.site.specs.Reach.{reaches, clashIn}
 use Rattle.site.specs.declared.Site.{Site}
 use Rattle.judges.specs.Judges.{classAnswer}
-use Rattle.planner.specs.Plan.{planAnswer}
 use Rattle.renumbering.specs.Numbering.{last, missing, odd, fit, giveNumbers, numbering}
-use Rattle.numberrows.specs.Numbers.{movedBy, movedRows}
-use Rattle.numbering.specs.Renumber.{numberingOf, movedSite, renumberOf}
+use Rattle.numbering.specs.Renumber.{numberingOf, renumberOf}
 use Rattle.text.specs.Decimal.{digitsOf, decimal}
 use Rattle.speech.specs.Speech.{bytes, spoken}
 use Rattle.numbering.specs.declared.RenumberAnswer.the-variants as renumber
@@ -56,19 +52,10 @@ full = siteOf 3 1 1 (1 ∷ 1 ∷ 1 ∷ replicate 29 0) (4 ∷ 4 ∷ replicate 30
 ring : List ℕ → Site
 ring loads = siteOf 4 2 1 (loads ++ replicate 28 0) (2 ∷ 4 ∷ 8 ∷ 1 ∷ replicate 28 0) [] 1
 
--- with a table that is just long enough
-saidOf : Site → List ℕ
-saidOf s = anewSaid s (replicate (size s) 0)
-
--- where a cell of the ring is idle the site is nested, and nothing is said
+-- where a cell of the ring is idle the site is nested, and nothing is said; nor where a numbering is found
 anew-said :
-    saidOf p4 ∷ saidOf full ∷ saidOf (ring (1 ∷ 1 ∷ 1 ∷ 1 ∷ [])) ∷ saidOf (ring (1 ∷ 1 ∷ 1 ∷ 0 ∷ [])) ∷ []
-    ≡ bytes "renumbered it is nested and can be planned: this site has a plan (duggfrask renumber, plan, carry)\n"
-    ∷ bytes "renumbered it is nested and full: this site has no plan\n"
-    ∷ bytes "no numbering of all its cells, idle ones too, is nested\n"
-    ∷ []
-    ∷ []
-unfolding p4 full ring saidOf firstOf sum any part listOf forbid marked fill run second splits splitOf firstSplit classVerdict classAnswer wordOf upTo sizeOk
-    ruleOk rowBad extraLoad badRow extraBlocked faultOf reaches clashIn planAnswer last missing odd fit giveNumbers numbering movedBy movedRows numberingOf
-    movedSite renumberOf spoken anewLines anewSaid
+    anewSaid p4 ∷ anewSaid full ∷ anewSaid (ring (1 ∷ 1 ∷ 1 ∷ 1 ∷ [])) ∷ anewSaid (ring (1 ∷ 1 ∷ 1 ∷ 0 ∷ [])) ∷ []
+    ≡ [] ∷ [] ∷ bytes "no numbering of all its cells, idle ones too, is nested\n" ∷ [] ∷ []
+unfolding p4 full ring firstOf sum any second splits splitOf firstSplit classVerdict classAnswer wordOf upTo sizeOk ruleOk rowBad extraLoad badRow extraBlocked
+    faultOf reaches clashIn last missing odd fit giveNumbers numbering numberingOf renumberOf spoken anewLines anewSaid
 anew-said = refl

@@ -5,7 +5,6 @@ use numbering::CarryAnswer;
 use numbering::RenumberAnswer;
 use phrases::Phrase;
 use phrases::put_phrase;
-use planner::PlanAnswer;
 use say_refusals::Place;
 use site::Site;
 ghost use mathlib.Core.Path.{_≡_};
@@ -13,19 +12,14 @@ ghost use Prim.Native.Nat.{_+_, _≤_};
 ghost use lib.ListN.{length};
 ghost use Rattle.phrases.specs.Put.{Put};
 ghost use Rattle.phrases.specs.Phrases.{phrase};
-ghost use Rattle.planner.specs.Plan.{planAnswer, planTable};
 ghost use Rattle.numbering.specs.Renumber.{renumberOf};
 ghost use Rattle.say_numbering.specs.Lines.{numberLines, anewLines};
 ghost use Rattle.say_numbering.specs.Said.{numberPhrase, numbersSaid, renumberSaid, carrySaid};
-ghost use Rattle.say_numbering.specs.Anew.{anewPlan, anewNumbered, anewNumberedTable, anewPhrase, anewSaid, anewTable};
+ghost use Rattle.say_numbering.specs.Anew.{anewNumbered, anewPhrase, anewSaid};
 
 const NUMBERED: usize = 0;
 
-const ANEW_PLANNED: usize = 0;
-
-const ANEW_FULL: usize = 1;
-
-const NEVER: usize = 2;
+const NEVER: usize = 0;
 
 // Puts a line: a row of the table with its values, or nothing.
 fn put(out: &mut [u8], at: usize, what: Phrase) -> usize
@@ -84,69 +78,41 @@ pub fn put_carry(out: &mut [u8], at: usize, reply: CarryAnswer) -> usize
     }
 }
 
-// What the plan of the renumbered site says of the site.
-fn anew_plan(reply: PlanAnswer) -> Phrase
-    ensures { λ r. ⌜ r ≡ anewPlan reply ⌝ }
-{
-    match reply {
-        PlanAnswer::Done => Phrase::Row(ANEW_PLANNED, 0, 0, 0, 0),
-        PlanAnswer::TableShort => Phrase::Silent,
-        PlanAnswer::NoRoom(_, _) => Phrase::Row(ANEW_FULL, 0, 0, 0, 0),
-        PlanAnswer::Refused(_) => Phrase::Silent,
-    }
-}
-
-// Plans the renumbered site in `table`.
-fn plan_anew(moved: Site, table: &mut [u8]) -> Phrase
-    ensures phrase { λ r. ⌜ r ≡ anewPlan (planAnswer moved (now (table .entry))) ⌝ }
-    ensures table { λ _. ⌜ now (table .exit) ≡ planTable moved (now (table .entry)) ⌝ }
-{
-    let reply = planner::plan(moved, table);
-    anew_plan(reply)
-}
-
-// Numbers the cells of a site that is not nested, and plans it so.
-fn number_anew(site: Site, table: &mut [u8]) -> Phrase
-    ensures phrase { λ r. ⌜ r ≡ anewNumbered (renumberOf site .answer) (renumberOf site .site) (now (table .entry)) ⌝ }
-    ensures table { λ _. ⌜ now (table .exit) ≡ anewNumberedTable (renumberOf site .answer) (renumberOf site .site) (now (table .entry)) ⌝ }
+// Numbers the cells of a site that is not nested: where that can't be done, the line that says so.
+fn number_anew(site: Site) -> Phrase
+    ensures { λ r. ⌜ r ≡ anewNumbered (renumberOf site .answer) ⌝ }
 {
     let found = numbering::renumber(site);
     let answer = found.answer;
-    let moved = found.site;
     match answer {
-        RenumberAnswer::Done => plan_anew(moved, table),
+        RenumberAnswer::Done => Phrase::Silent,
         RenumberAnswer::NoNumbering => Phrase::Row(NEVER, 0, 0, 0, 0),
         RenumberAnswer::Refused(_) => Phrase::Silent,
     }
 }
 
-// What is said of a site by the site in new numbers; nothing of a nested one.
-fn anew(site: Site, table: &mut [u8]) -> Phrase
-    ensures phrase { λ r. ⌜ r ≡ anewPhrase site (now (table .entry)) ⌝ }
-    ensures table { λ _. ⌜ now (table .exit) ≡ anewTable site (now (table .entry)) ⌝ }
+// What is said of the numbering of a site; nothing of a nested one.
+fn anew(site: Site) -> Phrase
+    ensures { λ r. ⌜ r ≡ anewPhrase site ⌝ }
 {
     let class = judges::in_class(site);
     match class {
         ClassAnswer::InClass => Phrase::Silent,
-        ClassAnswer::Outside(_, _, _) => number_anew(site, table),
+        ClassAnswer::Outside(_, _, _) => number_anew(site),
         ClassAnswer::Refused(_) => Phrase::Silent,
     }
 }
 
-// Of a site that is not nested, whether a numbering makes it so, and what its plan then says of the site; of any other, nothing. The planner plans in
-// `table`.
-pub fn put_anew(site: Site, table: &mut [u8], out: &mut [u8], at: usize) -> usize
+// Of a site that is not nested, that no numbering makes it so; of any other, nothing.
+pub fn put_anew(out: &mut [u8], at: usize, site: Site) -> usize
     requires { ⌜ at + 1000 ≤ length (now out) ⌝ }
-    ensures text { λ r. ⌜ Put (now (out .entry)) at (anewSaid site (now (table .entry))) 1000 (now (out .exit)) r ⌝ }
-    ensures table { λ _. ⌜ now (table .exit) ≡ anewTable site (now (table .entry)) ⌝ }
+    ensures { λ r. ⌜ Put (now (out .entry)) at (anewSaid site) 1000 (now (out .exit)) r ⌝ }
 {
-    let what = anew(site, table);
+    let what = anew(site);
     put_phrase(
         out,
         at,
-        b"renumbered it is nested and can be planned: this site has a plan (duggfrask renumber, plan, carry)\n|\
-          renumbered it is nested and full: this site has no plan\n|\
-          no numbering of all its cells, idle ones too, is nested\n|",
+        b"no numbering of all its cells, idle ones too, is nested\n|",
         what,
     )
 }

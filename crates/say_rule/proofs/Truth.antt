@@ -3,6 +3,7 @@
 --     line-said      where two cells clash by a third cell alone, the line says so, with the lowest
 --     line-true      what a line says is the case
 --     clash-named    every clash under rule 2 in which neither cell reaches the other has its line
+--     third-is, third-some-below      what the search finds, whoever reaches whom, and that it finds one where there is one
 -- The search for the lowest third cell finds one exactly where there is one. Assumes nothing.
 use Prim.Native.Nat.{ℕ, _+_, _-_, _≤_, _<_}
 use mathlib.Core.Bool.{Bool, true, false, not, _||_, _&&_, true≢false}
@@ -110,6 +111,12 @@ module _ (s : Site) (fine : faultOf s ≡ Fine) (a b : ℕ) (first-in : UpTo 32 
 
   few : (k : ℕ) → Third s a b k → third < 32
   few k t = omega (arith, least k t, t .inside .1, fine-sized s fine .cells-most)
+
+  pub third-is : third < 32 → UpTo (s .cells) a × UpTo (s .cells) b × Third s a b (third + 1) × ((k : ℕ) → Third s a b k → third + 1 ≤ k)
+  third-is l = let t = found l in (t .0, t .1, t .2, least)
+
+  pub third-some-below : (k : ℕ) → Third s a b k → third < 32
+  third-some-below k t = few k t
 
   is-said : s .rule ≡ 2 → a < b → (Reaches s a b → ⊥) → (Reaches s b a → ⊥) → third < 32 → ByThird s a b (third + 1)
   is-said two higher forth turned l =

@@ -50,7 +50,7 @@ fn in_both(first: u32, second: u32, a: usize, b: usize, c: usize) -> bool
 }
 
 // The lowest third cell that both reach; 32 where there is none.
-fn third_of(reach: [u32; 32], a: usize, b: usize) -> usize
+pub fn third_of(reach: [u32; 32], a: usize, b: usize) -> usize
     requires { ⌜ (a < 32) × (b < 32) ⌝ }
     ensures { λ r. ⌜ r ≡ thirdOf reach a b ⌝ }
 {

@@ -3,12 +3,11 @@ use mathlib.Core.List.{[], _∷_}
 use mathlib.Core.Path.{_≡_, refl}
 use Rattle.text.specs.Decimal.{digitsOf, decimal}
 use Rattle.speech.specs.Speech.{bytes, spoken}
-use Rattle.phrases.specs.Phrases.{phrase}
 use Rattle.search.specs.declared.SearchAnswer.the-variants.{Plan, Full, Limit, TooMany, TableShort}
 use Rattle.say_refusals.specs.Said.{refusedLine}
 use Rattle.say_refusals.specs.declared.Place.the-variants.{Nowhere}
 use Rattle.say_search.specs.Lines.{searchLines}
-use Rattle.say_search.specs.Said.{searchSaid, onSaid, lookedPhrase}
+use Rattle.say_search.specs.Said.{searchSaid, onSaid}
 
 command-said :
     searchSaid (Plan 34) ∷ searchSaid (Plan 0) ∷ searchSaid (Plan 1) ∷ searchSaid (Full 118) ∷ searchSaid (Full 1) ∷ searchSaid (Limit 1000)
@@ -19,13 +18,3 @@ command-said :
     ∷ refusedLine 25 Nowhere ∷ refusedLine 4 Nowhere ∷ bytes "not decided after 50 tries; searching on\n" ∷ []
 unfolding searchLines spoken decimal digitsOf
 command-said = refl
-
-why-said :
-    phrase searchLines (lookedPhrase (Plan 34)) ∷ phrase searchLines (lookedPhrase (Full 118)) ∷ phrase searchLines (lookedPhrase (Limit 1000))
-    ∷ phrase searchLines (lookedPhrase TooMany) ∷ []
-    ≡ bytes "searched: a plan exists, found after 34 tries (duggfrask search)\n"
-    ∷ bytes "searched: no plan exists, and 118 tries show it\n"
-    ∷ bytes "not known: the search stopped at 1000 tries\n"
-    ∷ bytes "not known: over 64 open positions or 24 fragments, which is too many to search\n" ∷ []
-unfolding searchLines spoken decimal digitsOf
-why-said = refl

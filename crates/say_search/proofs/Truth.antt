@@ -1,30 +1,21 @@
--- What is said of a search is true of the site, for any limit and any table; and with it every no of `why` has its ground: a set of clashing cells that can't
--- fit, a search that ended with its count, or that it is not known. By the laws of the search's call. Assumes nothing.
+-- What is said of a search is true of the site, for any limit and any table. By the laws of the search's call. Assumes nothing.
 use mathlib.Core.Path.{_≡_, refl, _∙_, subst}
-use mathlib.Core.List.{List, []}
-use mathlib.Core.Logic.{_⊎_, inl, inr, ⊎-elim}
-use Prim.Native.Nat.{ℕ, _+_, _≤_, _<_}
-use lib.Dec.{ltb, eqb}
-use borrow.Author.Tests.{ltb-true, ltb-false, eqb-true}
+use mathlib.Core.List.{List}
+use mathlib.Core.Logic.{inl, inr, ⊎-elim}
+use Prim.Native.Nat.{ℕ, _+_}
+use lib.Dec.{eqb}
+use borrow.Author.Tests.{eqb-true}
 use Rattle.laws.proofs.Choice.{cases}
 use Rattle.theory.specs.Greedy.{reserved}
-use Rattle.positions.specs.Blocked.{openIn}
 use Rattle.site.specs.Record.{positions}
 use Rattle.site.specs.declared.Site.{Site}
-use Rattle.planner.specs.Plan.{planAnswer, planTable}
-use Rattle.planner.specs.declared.PlanAnswer.the-variants as plan
-use Rattle.heaviest.specs.Sets.{heaviestOf}
-use Rattle.heaviest.specs.declared.HeaviestAnswer.the-variants as heavy
-use Rattle.heaviest.proofs.Meaning.{done-full}
 use Rattle.search.specs.Search.{searchAnswer, searchTable}
 use Rattle.search.specs.declared.SearchAnswer.{SearchAnswer}
 use Rattle.search.specs.declared.SearchAnswer.the-variants.{Plan, Full, Limit, TooMany, TableShort, Refused}
 use Rattle.search.proofs.Right.{plan-right, full-right, counted, limit-right}
-use Rattle.search.proofs.Meaning.{too-many-means}
-use Rattle.phrases.specs.Phrases.{phrase}
 use Rattle.phrases.specs.declared.Phrase.the-variants.{Row}
-use Rattle.say_search.specs.Lines.{searchLines, plannedAfterRow, exhaustedRow, stoppedRow}
-use Rattle.say_search.specs.Said.{triesPhrase, searchPhrase, onPhrase, whyTries, lookedPhrase, searchedSaid}
+use Rattle.say_search.specs.Lines.{plannedAfterRow, exhaustedRow, stoppedRow}
+use Rattle.say_search.specs.Said.{triesPhrase, searchPhrase, onPhrase}
 use Rattle.say_search.specs.Means.{SomeValid, NoneValid, Takes, TakesMore, SearchMeans}
 
 -- the row of a number of tries, and the row of one try
@@ -56,26 +47,3 @@ module _ (s : Site) (limit : ℕ) (t : List ℕ) where
   -- of a search that goes on
   pub on-true : searchAnswer s limit t ≡ Limit limit → SearchMeans s (onPhrase limit)
   on-true = more limit
-
-  looked-true : (a : SearchAnswer) → searchAnswer s limit t ≡ a → SearchMeans s (lookedPhrase a)
-  looked-true (Plan n) e = found n e
-  looked-true (Full n) e = none n e
-  looked-true (Limit n) e = more n e
-  looked-true TooMany e = too-many-means s limit t .0 e .2
-  looked-true TableShort e = tt
-  looked-true (Refused f) e = tt
-
--- ---- `why`
-
-module _ (s : Site) (t : List ℕ) (cell short : ℕ) (no : planAnswer s t ≡ plan.NoRoom cell short) (l set : ℕ) (most : heaviestOf s ≡ heavy.Done l set) where
-  -- a no has one of these grounds, and the search's sentence is said where the first is not there
-  pub look-true : ((openIn (s .blocked) (positions s) < l) × NoneValid s × (searchedSaid s t ≡ []))
-      ⊎ ((l ≤ openIn (s .blocked) (positions s))
-      × (searchedSaid s t ≡ phrase searchLines (lookedPhrase (searchAnswer s whyTries (planTable s t))))
-      × SearchMeans s (lookedPhrase (searchAnswer s whyTries (planTable s t))))
-  unfolding searchedSaid
-  look-true =
-      ⊎-elim
-      (λ h. let w = ltb-true _ _ h in inl (w, done-full s l set most w, rw (no, most, h)))
-      (λ h. inr (ltb-false _ _ h, rw (no, most, h), looked-true s whyTries (planTable s t) (searchAnswer s whyTries (planTable s t)) refl))
-      (cases (ltb (openIn (s .blocked) (positions s)) l))

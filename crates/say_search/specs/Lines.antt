@@ -1,5 +1,5 @@
--- The sentences of a search, one to a row: those of `duggfrask search`, those of `duggfrask why`, and the one of a search that goes on. @1 is the value of a
--- row. What each means stands in specs/Means.antt.
+-- The sentences of a search, one to a row: those of `duggfrask search`, and the one of a search that goes on. @1 is the value of a row. What each
+-- means stands in specs/Means.antt.
 use Prim.Native.Nat.{ℕ}
 use Prim.Native.String.{String}
 use mathlib.Core.List.{List, [], _∷_}
@@ -12,10 +12,6 @@ searchLines =
     ∷ "full: no plan exists, and 1 try shows it\n"
     ∷ "not known: stopped at @1 tries\n"
     ∷ "not known: stopped at 1 try\n"
-    ∷ "searched: a plan exists, found after @1 tries (duggfrask search)\n"
-    ∷ "searched: no plan exists, and @1 tries show it\n"
-    ∷ "not known: the search stopped at @1 tries\n"
-    ∷ "not known: over 64 open positions or 24 fragments, which is too many to search\n"
     ∷ "not decided after @1 tries; searching on\n"
     ∷ []
 
@@ -31,18 +27,5 @@ exhaustedRow = 2
 abbrev pub stoppedRow : ℕ
 stoppedRow = 4
 
--- of `why`
-abbrev pub lookFoundRow : ℕ
-lookFoundRow = 6
-
-abbrev pub lookNoneRow : ℕ
-lookNoneRow = 7
-
-abbrev pub lookStoppedRow : ℕ
-lookStoppedRow = 8
-
-abbrev pub lookTooManyRow : ℕ
-lookTooManyRow = 9
-
 abbrev pub onRow : ℕ
-onRow = 10
+onRow = 6

@@ -1,10 +1,8 @@
--- What each sentence of a search means, row by row. That every sentence that is said is true is `said-true`, `look-true` and `on-true`, proofs/Truth.antt.
+-- What each sentence of a search means, row by row. That every sentence that is said is true is `said-true` and `on-true`, proofs/Truth.antt.
 use Prim.Native.Nat.{ℕ, zero, suc, _<_}
 use mathlib.Core.Path.{_≡_}
 use mathlib.Core.List.{List, [], _∷_}
-use mathlib.Core.Logic.{_⊎_}
-use Rattle.laws.specs.Sum.{sum}
-use Rattle.theory.specs.Net.{Reserved, Valid, room}
+use Rattle.theory.specs.Net.{Reserved, Valid}
 use Rattle.tries.specs.Search.{triesOf, searchOf}
 use Rattle.site.specs.Reach.{netOf}
 use Rattle.site.specs.declared.Site.{Site}
@@ -27,10 +25,6 @@ Takes s n = triesOf (searchOf (netOf s)) ≡ n
 abbrev pub TakesMore : Site → ℕ → Type 0
 TakesMore s n = n < triesOf (searchOf (netOf s))
 
--- `over 64 open positions or 24 fragments`
-abbrev pub OverSize : Site → Type 0
-OverSize s = (24 < sum (netOf s .load) (s .cells)) ⊎ (64 < room (netOf s))
-
 -- ---- row by row, in the order of specs/Lines.antt: what a sentence with the value n says of the site
 
 abbrev pub searchMeanings : Site → List (ℕ → Type 0)
@@ -47,14 +41,6 @@ searchMeanings s =
     ∷ (λ n. TakesMore s n)
     -- `not known: stopped at 1 try`
     ∷ (λ n. TakesMore s 1)
-    -- `searched: a plan exists, found after @1 tries (duggfrask search)`
-    ∷ (λ n. SomeValid s × Takes s n)
-    -- `searched: no plan exists, and @1 tries show it`
-    ∷ (λ n. NoneValid s × Takes s n)
-    -- `not known: the search stopped at @1 tries`
-    ∷ (λ n. TakesMore s n)
-    -- `not known: over 64 open positions or 24 fragments, which is too many to search`
-    ∷ (λ n. OverSize s)
     -- `not decided after @1 tries; searching on`
     ∷ (λ n. TakesMore s n)
     ∷ []

@@ -182,7 +182,7 @@ fn plan_phrase(l: usize, n: usize, reply: PlanAnswer) -> Phrase
 }
 
 // The number that `least` answers.
-fn least_number(reply: LeastAnswer) -> usize
+pub fn least_number(reply: LeastAnswer) -> usize
     ensures { λ r. ⌜ r ≡ leastNumber reply ⌝ }
 {
     match reply {
@@ -286,7 +286,7 @@ fn put_cells(out: &mut [u8], at: usize, loads: &[u16; 32], set: u32, cells: usiz
 }
 
 // The fewest slots of f channels, or channels of f slots, that make n channel-slots.
-fn fewest(n: usize, f: usize) -> usize
+pub fn fewest(n: usize, f: usize) -> usize
     requires { ⌜ 0 < f ⌝ }
     ensures { λ r. ⌜ r ≡ fewest n f ⌝ }
 {

@@ -1,6 +1,9 @@
 // Each answer of the product as a C caller gets it: document 01's number and its values.
 use admission::AdmitAnswer;
+use admission::BesideAnswer;
 use checker::CheckAnswer;
+use finder::FindAnswer;
+use finder::OverFullAnswer;
 use handheld::ChangeAnswer;
 use heaviest::HeaviestAnswer;
 use judges::ChainAnswer;
@@ -24,13 +27,14 @@ ghost use Rattle.judges.specs.Given.{loadGiven, chainGiven, classGiven, leastGi
 ghost use Rattle.heaviest.specs.Given.{heaviestGiven};
 ghost use Rattle.planner.specs.Given.{planGiven};
 ghost use Rattle.search.specs.Given.{searchGiven};
+ghost use Rattle.finder.specs.Given.{findGiven, overFullGiven};
 ghost use Rattle.handheld.specs.Given.{changeGiven};
 ghost use Rattle.checker.specs.Given.{checkGiven};
 ghost use Rattle.wordtable.specs.Given.{formGiven};
 ghost use Rattle.mender.specs.Given.{mendGiven};
 ghost use Rattle.numbering.specs.Given.{renumberGiven, carryGiven};
 ghost use Rattle.shares.specs.Given.{shareGiven};
-ghost use Rattle.admission.specs.Given.{admitGiven};
+ghost use Rattle.admission.specs.Given.{admitGiven, besideGiven};
 ghost use Rattle.told.specs.Told.{numbered, told, toldRenumbered};
 
 // dugg_answer: the number given back, and the values that belong to it.
@@ -59,7 +63,7 @@ pub fn give(number: u64, a: usize, b: usize, c: usize) -> Answer
     }
 }
 
-// From here to `admit_answer`: an answer of the product as its number and values.
+// From here to `beside_answer`: an answer of the product as its number and values.
 pub fn fault_answer(said: Fault) -> Answer
     ensures { λ r. ⌜ r ≡ told (faultGiven said) ⌝ }
 {
@@ -153,6 +157,32 @@ pub fn search_answer(said: SearchAnswer) -> Answer
         SearchAnswer::TooMany => give(25, 0, 0, 0),
         SearchAnswer::TableShort => give(4, 0, 0, 0),
         SearchAnswer::Refused(f) => fault_answer(f),
+    }
+}
+
+pub fn find_answer(said: FindAnswer) -> Answer
+    ensures { λ r. ⌜ r ≡ told (findGiven said) ⌝ }
+{
+    match said {
+        FindAnswer::Greedy => give(0, 0, 0, 0),
+        FindAnswer::Renumbered => give(0, 0, 2, 0),
+        FindAnswer::Searched(tries) => give(0, 0, 3, tries as usize),
+        FindAnswer::Full(cells) => give(0, 1, 1, cells as usize),
+        FindAnswer::FullInClass => give(0, 1, 2, 0),
+        FindAnswer::FullSearched(tries) => give(0, 1, 3, tries as usize),
+        FindAnswer::NotKnown(tries) => give(0, 2, 3, tries as usize),
+        FindAnswer::TableShort => give(4, 0, 0, 0),
+        FindAnswer::Refused(f) => fault_answer(f),
+    }
+}
+
+pub fn over_full_answer(said: OverFullAnswer) -> Answer
+    ensures { λ r. ⌜ r ≡ told (overFullGiven said) ⌝ }
+{
+    match said {
+        OverFullAnswer::Over(load) => give(0, 1, load, 0),
+        OverFullAnswer::Within(load) => give(0, 0, load, 0),
+        OverFullAnswer::Refused(f) => fault_answer(f),
     }
 }
 
@@ -251,6 +281,15 @@ pub fn admit_answer(said: AdmitAnswer) -> Answer
         AdmitAnswer::BadFlow(flow) => give(15, flow, 0, 0),
         AdmitAnswer::BigShare(flow) => give(16, flow, 0, 0),
         AdmitAnswer::Refused(f) => fault_answer(f),
+    }
+}
+
+pub fn beside_answer(said: BesideAnswer) -> Answer
+    ensures { λ r. ⌜ r ≡ told (besideGiven said) ⌝ }
+{
+    match said {
+        BesideAnswer::Answered(a) => admit_answer(a),
+        BesideAnswer::Over(cell, excess) => give(5, cell, excess, 0),
     }
 }
 

@@ -9,6 +9,7 @@ use sheet::SheetRead;
 use site::Edited;
 use site::Site;
 use sitefile::SiteRead;
+use tidying::TidyAnswer;
 use told::Answer;
 use told::change_answer;
 use told::fault_answer;
@@ -17,6 +18,7 @@ ghost use mathlib.Core.Path.{_≡_};
 ghost use Rattle.records.specs.Given.{readGiven, writtenGiven};
 ghost use Rattle.planfile.specs.Given.{planWrittenGiven};
 ghost use Rattle.sheet.specs.Given.{sheetGiven};
+ghost use Rattle.tidying.specs.Given.{tidyGiven};
 ghost use Rattle.told.specs.Told.{told};
 ghost use Rattle.toldfiles.specs.Files.{toldEdited, toldChanged, toldSiteRead, toldPlanRead, toldSheetRead};
 
@@ -79,6 +81,16 @@ pub fn sheet_answer(said: SheetAnswer) -> Answer
         SheetAnswer::Done => give(0, 0, 0, 0),
         SheetAnswer::BadLine(line) => give(17, line, 0, 0),
         SheetAnswer::Refused(f) => fault_answer(f),
+    }
+}
+
+pub fn tidy_answer(said: TidyAnswer) -> Answer
+    ensures { λ r. ⌜ r ≡ told (tidyGiven said) ⌝ }
+{
+    match said {
+        TidyAnswer::Done(n) => give(0, n, 0, 0),
+        TidyAnswer::OutShort(n) => give(13, n, 0, 0),
+        TidyAnswer::BadLine(line) => give(17, line, 0, 0),
     }
 }
 

@@ -5,6 +5,7 @@
 --     clash-sends       both cells send there
 --     blocked-said      the sentence names cell, slot and channel
 --     blocked-sends     the cell sends there, and it is blocked
+--     any-clash-said, any-clash-sends, any-blocked-said, any-blocked-sends     the same of every clash and every blocked position, not of the first alone
 -- Assumes nothing.
 use Prim.Native.Nat.{ℕ, _+_, _-_, _*_, _/_, _%_, _≤_, _<_}
 use mathlib.Core.Bool.{Bool, true, false, _&&_, false≢true}
@@ -19,7 +20,7 @@ use Rattle.laws.specs.Choice.{pick}
 use Rattle.laws.proofs.Choice.{both-is}
 use Rattle.theory.specs.Greedy.{reserved}
 use Rattle.theory.specs.Named.{Barred, Clashes}
-use Rattle.site.specs.Record.{upTo, positions, isFine, faultOf}
+use Rattle.site.specs.Record.{positions, isFine, faultOf}
 use Rattle.site.specs.Reach.{reaches, clashOf, netOf}
 use Rattle.site.specs.Means.{Clashing}
 use Rattle.site.specs.declared.Site.{Site}
@@ -95,14 +96,11 @@ module _ (s : Site) (fine : faultOf s ≡ Fine) (p : ℕ) (width : p < s .slots 
   named : (ltb 0 (s .channels) && ltb p 65536) ≡ true
   named = let z = fine-sized s fine in rw (lt-ltb 0 (s .channels) (z .channels-some), lt-ltb p 65536 (omega (arith, width, few-positions z)))
 
-module _ (s : Site) (t : List ℕ) (p a c : ℕ) (e : checkAnswer s t ≡ check.Clash p a c) where
-  fine : faultOf s ≡ Fine
-  fine = fine-named s t (check.Clash p a c) refl e
+-- two cells that clash at a position, by number
+abbrev pub ShownClash : Site → List ℕ → (p a c : ℕ) → Type 0
+ShownClash s t p a c = (x z : ℕ) × (a ≡ x + 1) × (c ≡ z + 1) × Clashes (netOf s) (reserved (positions s) t) p x z
 
-  -- the two cells, by index
-  shown : (x z : ℕ) × (a ≡ x + 1) × (c ≡ z + 1) × Clashes (netOf s) (reserved (positions s) t) p x z
-  shown = let m = clash-means s t p a c e in (m .0, m .1, m .2, m .3, m .4 .shows)
-
+module _ (s : Site) (t : List ℕ) (fine : faultOf s ≡ Fine) (p a c : ℕ) (shown : ShownClash s t p a c) where
   -- both are numbers of cells
   inside : (1 ≤ a) × (a < c) × (c ≤ s .cells)
   inside =
@@ -114,9 +112,9 @@ module _ (s : Site) (t : List ℕ) (p a c : ℕ) (e : checkAnswer s t ≡ check.
   width : p < s .slots * s .channels
   width = shown .4 .within
 
-  pub clash-said : WaySaid s a c (p / s .channels + 1) (p % s .channels + 1) (checkSaid s (check.Clash p a c))
+  pub any-clash-said : WaySaid s a c (p / s .channels + 1) (p % s .channels + 1) (checkSaid s (check.Clash p a c))
   unfolding clashSentence reachNamed
-  clash-said =
+  any-clash-said =
       let z = fine-sized s fine in
       let i = inside in
       let m = shown in
@@ -129,8 +127,8 @@ module _ (s : Site) (t : List ℕ) (p a c : ℕ) (e : checkAnswer s t ≡ check.
       rw (named s fine p width, at-a, at-c)
       (way s a c (p / s .channels + 1) (p % s .channels + 1) _ _ refl refl one)
 
-  pub clash-sends : BothSend s t p a c (p / s .channels + 1) (p % s .channels + 1)
-  clash-sends =
+  pub any-clash-sends : BothSend s t p a c (p / s .channels + 1) (p % s .channels + 1)
+  any-clash-sends =
       let i = inside in
       let m = shown in record {
         rising = i .1;
@@ -141,20 +139,30 @@ module _ (s : Site) (t : List ℕ) (p a c : ℕ) (e : checkAnswer s t ≡ check.
         other = rw (back c (m .1) (m .3)) (m .4 .other);
       }
 
-module _ (s : Site) (t : List ℕ) (p cell : ℕ) (e : checkAnswer s t ≡ check.Blocked p cell) where
-  sound : faultOf s ≡ Fine
-  sound = fine-named s t (check.Blocked p cell) refl e
+module _ (s : Site) (t : List ℕ) (p a c : ℕ) (e : checkAnswer s t ≡ check.Clash p a c) where
+  fine-clash : faultOf s ≡ Fine
+  fine-clash = fine-named s t (check.Clash p a c) refl e
 
-  -- the cell, by index
-  barred : (i : ℕ) × (cell ≡ i + 1) × Barred (netOf s) (reserved (positions s) t) p i
-  barred = let m = blocked-means s t p cell e in (m .0, m .1, m .2 .shows)
+  first-clash : ShownClash s t p a c
+  first-clash = let m = clash-means s t p a c e in (m .0, m .1, m .2, m .3, m .4 .shows)
 
-  pub blocked-said : checkSaid s (check.Blocked p cell) ≡ blockedSends cell (p / s .channels + 1) (p % s .channels + 1)
+  pub clash-said : WaySaid s a c (p / s .channels + 1) (p % s .channels + 1) (checkSaid s (check.Clash p a c))
+  clash-said = any-clash-said s t fine-clash p a c first-clash
+
+  pub clash-sends : BothSend s t p a c (p / s .channels + 1) (p % s .channels + 1)
+  clash-sends = any-clash-sends s t fine-clash p a c first-clash
+
+-- a cell that sends at a blocked position, by number
+abbrev pub ShownBarred : Site → List ℕ → (p cell : ℕ) → Type 0
+ShownBarred s t p cell = (i : ℕ) × (cell ≡ i + 1) × Barred (netOf s) (reserved (positions s) t) p i
+
+module _ (s : Site) (t : List ℕ) (sound : faultOf s ≡ Fine) (p cell : ℕ) (barred : ShownBarred s t p cell) where
+  pub any-blocked-said : checkSaid s (check.Blocked p cell) ≡ blockedSends cell (p / s .channels + 1) (p % s .channels + 1)
   unfolding blockedSentence
-  blocked-said = rw (named s sound p (barred .2 .within))
+  any-blocked-said = rw (named s sound p (barred .2 .within))
 
-  pub blocked-sends : SendsBlocked s t p cell (p / s .channels + 1) (p % s .channels + 1)
-  blocked-sends =
+  pub any-blocked-sends : SendsBlocked s t p cell (p / s .channels + 1) (p % s .channels + 1)
+  any-blocked-sends =
       let m = barred in
       let most : m .0 < s .cells = m .2 .inside in record {
         cell-in = (omega (arith, m .1), omega (arith, m .1));
@@ -162,3 +170,16 @@ module _ (s : Site) (t : List ℕ) (p cell : ℕ) (e : checkAnswer s t ≡ check
         sends = rw (back cell (m .0) (m .1)) (m .2 .held);
         blocked = m .2 .closed;
       }
+
+module _ (s : Site) (t : List ℕ) (p cell : ℕ) (e : checkAnswer s t ≡ check.Blocked p cell) where
+  fine-barred : faultOf s ≡ Fine
+  fine-barred = fine-named s t (check.Blocked p cell) refl e
+
+  first-barred : ShownBarred s t p cell
+  first-barred = let m = blocked-means s t p cell e in (m .0, m .1, m .2 .shows)
+
+  pub blocked-said : checkSaid s (check.Blocked p cell) ≡ blockedSends cell (p / s .channels + 1) (p % s .channels + 1)
+  blocked-said = any-blocked-said s t fine-barred p cell first-barred
+
+  pub blocked-sends : SendsBlocked s t p cell (p / s .channels + 1) (p % s .channels + 1)
+  blocked-sends = any-blocked-sends s t fine-barred p cell first-barred

@@ -112,7 +112,7 @@ module _ (s : Site) (fine : faultOf s ≡ Fine) where
   -- ---- the two numbers
 
   -- the number that `least` answers will do
-  least-does : (a : LeastAnswer) → leastAnswer s ≡ a → WillDo s (leastNumber a)
+  pub least-does : (a : LeastAnswer) → leastAnswer s ≡ a → WillDo s (leastNumber a)
   least-does (least.Least n) e = rw (least-means s n .0 e .2) at (demand-does s)
   least-does (least.Enough n) e = rw (enough-means s n .0 e .2) at (demand-does s)
   least-does (least.Refused f) e =
@@ -158,7 +158,7 @@ module _ (s : Site) (fine : faultOf s ≡ Fine) where
   -- ---- the lines of the numbers
 
   -- where nothing is blocked all are open
-  all-so : someBlocked s ≡ false → AllOpen s
+  pub all-so : someBlocked s ≡ false → AllOpen s
   all-so e = let h : positions s ≤ openOf s = ltb-false _ _ e in omega (arith, open-most s)
 
   exact-true : (b : Bool) → ltb (openOf s) (positions s) ≡ b → WillDo s heavy → Means s (Row (pick b 9 8) heavy (openOf s) 0 0)

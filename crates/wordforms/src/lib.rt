@@ -31,7 +31,7 @@ fn bit_of(word: u32, i: usize) -> u8
 }
 
 // Writes the row of cell i: a byte for each word.
-fn lay_row(row: &mut [u8], words: &[u32], i: usize)
+pub fn lay_row(row: &mut [u8], words: &[u32], i: usize)
     requires { ⌜ (i < 32) × (length (now row) ≤ length (now words)) ⌝ }
     ensures { λ _. ⌜ now (row .exit) ≡ listOf (λ k. bit (sendsAt (now (words .entry)) i k)) (length (now (row .entry))) ⌝ }
 {

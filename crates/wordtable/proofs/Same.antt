@@ -79,7 +79,7 @@ bytes-send cells n res x i k l h = ap sends (bytes-at cells n res x i k l h) ∙
 words-eq : (cells n : ℕ) (res sat : Reserved) → ((i k : ℕ) → i < cells → k < n → res i k ≡ sat i k) → wordsOf cells n res ≡ wordsOf cells n sat
 words-eq cells n res sat same = list-eq (wordAt cells res) (wordAt cells sat) n (λ k h. word-eq (λ i. res i k) (λ i. sat i k) cells (λ i l. same i k l h))
 
-bytes-eq : (cells n : ℕ) (res sat : Reserved) → ((i k : ℕ) → i < cells → k < n → res i k ≡ sat i k) → bytesOf cells n res ≡ bytesOf cells n sat
+pub bytes-eq : (cells n : ℕ) (res sat : Reserved) → ((i k : ℕ) → i < cells → k < n → res i k ≡ sat i k) → bytesOf cells n res ≡ bytesOf cells n sat
 unfolding bytesOf
 bytes-eq zero n res sat same = refl
 bytes-eq (suc c) n res sat same =

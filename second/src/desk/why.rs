@@ -1,18 +1,19 @@
 //! `duggfrask why`: what can be said of a site, line by line.
 
-use super::wording::{counted, tries};
+use super::verdict::last_word;
+use super::wording::counted;
 use crate::blocklist::write_list;
+use crate::find::Found;
 use crate::heaviest::{heaviest, Heaviest};
 use crate::judge::{chain, least, load_test, nested};
 use crate::numbering::renumber;
 use crate::planner::plan;
-use crate::search::{search, End};
 use crate::site::{Site, MOST_CHANNELS, MOST_SLOTS, RULE_2};
 
 /// Whether the site is chained, and if not whether it is nested; the load test, the plan or what a no means; how many channel-slots it takes and the
-/// heaviest clash; and so how many slots and channels, or where something is blocked what; of a site that is not nested what a numbering says of it;
-/// what a search says where nothing else decides; and the rule where it is 2. The site comes from a reader, and is sound.
-pub fn why(site: &Site) -> String {
+/// heaviest clash; and so how many slots and channels, or where something is blocked what; of a site that is not nested that it has no numbering; the rule
+/// where it is 2; and last what was found for it. The site comes from a reader, and is sound.
+pub fn why(site: &Site, found: &Found) -> String {
     let gap = chain(site).expect("a sound site");
     let clash = heaviest(site).expect("a sound site");
     let split = nested(site).expect("a sound site");
@@ -31,42 +32,18 @@ pub fn why(site: &Site) -> String {
         Ok(()) => String::from("planned\n"),
         Err(no) => no_line(no.value[0], no.value[1], clash.load > room),
     };
-    let searched = if planned.is_err() && clash.load <= room { searched_line(site) } else { String::new() };
     chain
         + &load_line(site, split.is_none())
         + &plan
         + &takes_lines(site, &clash, enough)
         + &if site.has_blocked() { blocked_line(site) } else { size_lines(site, clash.load, enough) }
-        + if split.is_some() { anew_line(site) } else { "" }
-        + &searched
+        + if split.is_some() && renumber(site).is_err() { NO_NUMBERING } else { "" }
         + &rule_lines(site)
+        + &last_word(found)
+        + "\n"
 }
 
-/// The tries that are made at most, where neither a plan nor a set of clashing cells decides.
-const MOST_TRIES: u64 = 1_000_000;
-
-fn searched_line(site: &Site) -> String {
-    match search(site, MOST_TRIES, &mut vec![0; site.table_len()]) {
-        Ok((End::Plan, made)) => format!("searched: a plan exists, found after {} (duggfrask search)\n", tries(made)),
-        Ok((End::NoneExists, made)) => format!("searched: no plan exists, and {} show it\n", tries(made)),
-        Ok((End::LimitMet, made)) => format!("not known: the search stopped at {}\n", tries(made)),
-        Err(_) => String::from("not known: over 64 open positions or 24 fragments, which is too many to search\n"),
-    }
-}
-
-/// Whether a numbering of all cells makes the site nested, and if one does whether the renumbered site can be planned: then this one has a plan, and
-/// else none.
-fn anew_line(site: &Site) -> &'static str {
-    let Ok(renumbered) = renumber(site) else {
-        return "no numbering of all its cells, idle ones too, is nested\n";
-    };
-    match plan(&renumbered.site, &mut vec![0; site.table_len()]) {
-        Ok(()) => {
-            "renumbered it is nested and can be planned: this site has a plan (duggfrask renumber, plan, carry)\n"
-        }
-        Err(_) => "renumbered it is nested and full: this site has no plan\n",
-    }
-}
+const NO_NUMBERING: &str = "no numbering of all its cells, idle ones too, is nested\n";
 
 /// Running sites have rule 1, and of it nothing is said. Of rule 2, what it is, and each pair of cells that it alone makes
 /// clash, by first cell, then second.
@@ -163,7 +140,13 @@ fn with(given: String, least: u64, enough: u64, thing: &str, most: usize) -> Str
 #[cfg(test)]
 mod tests {
     use super::*;
+    use crate::find::find;
     use crate::site::set_of;
+
+    fn why(site: &Site) -> String {
+        let found = find(site, 1_000_000, &mut vec![0; site.table_len()]).unwrap();
+        super::why(site, &found)
+    }
 
     fn alone(slots: usize, channels: usize, load: u16) -> Vec<String> {
         let site = Site::sized(1, slots, channels).with_load(1, load).unwrap();
@@ -194,9 +177,10 @@ mod tests {
                 String::from("with 2 channels: 1 slot, and no fewer"),
                 format!("with 1 slot: {channels}, and no fewer"),
             ];
-            assert_eq!(lines[lines.len() - 2..], sizes);
+            assert_eq!(lines[lines.len() - 3..lines.len() - 1], sizes);
+            assert_eq!(lines[lines.len() - 1], "planned");
         }
-        assert_eq!(alone(1, 2, 0).len(), 6);
+        assert_eq!(alone(1, 2, 0).len(), 7);
         assert_eq!(
             alone(1, 2, 1)[4..6],
             ["of all cells that clash with one another these need the most, 1:", "  cell 1, load 1"]
@@ -242,8 +226,7 @@ of all cells that clash with one another these need the most, 2:
   cell 3, load 1
 with 1 channel: at least 2 slots, and 3 will do
 with 2 slots: at least 1 channel, and 2 will do
-renumbered it is nested and can be planned: this site has a plan (duggfrask renumber, plan, carry)
-searched: a plan exists, found after 10 tries (duggfrask search)
+planned with the cells renumbered
 ";
         assert_eq!(why(&site), expected);
     }
@@ -261,10 +244,10 @@ searched: a plan exists, found after 10 tries (duggfrask search)
     #[test]
     fn full_by_a_search_or_not_known() {
         let lines = why(&ring(5, 2, 1));
-        assert!(lines.ends_with("\nsearched: no plan exists, and 18 tries show it\n"), "{lines}");
+        assert!(lines.ends_with("\nfull (searched, 18 tries)\n"), "{lines}");
         // Of five cells in a ring at most two send at once: 20 fragments need 10 positions, and 25 need 13.
         let lines = why(&ring(5, 8, 4));
-        assert!(lines.ends_with("\nsearched: no plan exists, and 8912 tries show it\n"), "{lines}");
+        assert!(lines.ends_with("\nfull (searched, 8912 tries)\n"), "{lines}");
         // Seventeen cells that clash with nobody, each at one of two positions, and the ring: it is searched for each choice.
         let mut site = Site::sized(22, 2, 1);
         for cell in 18..=22 {
@@ -272,29 +255,26 @@ searched: a plan exists, found after 10 tries (duggfrask search)
         }
         site.loads[..22].fill(1);
         let lines = why(&site);
-        assert!(lines.ends_with("\nnot known: the search stopped at 1000000 tries\n"), "{lines}");
+        assert!(lines.ends_with("\nnot known (1000000 tries)\n"), "{lines}");
         let lines = why(&ring(5, 10, 5));
-        assert!(
-            lines.ends_with("\nnot known: over 64 open positions or 24 fragments, which is too many to search\n"),
-            "{lines}"
-        );
+        assert!(lines.ends_with("\nnot known (0 tries)\n"), "{lines}");
         // Full by two cells that clash: nothing is searched.
         let lines = why(&ring(5, 1, 1));
-        assert!(!lines.contains("search"), "{lines}");
+        assert!(lines.ends_with("\nfull (cells 1, 2)\n"), "{lines}");
     }
 
     /// A star with its centre last that is full, and a ring of four, which no numbering makes nested.
     #[test]
     fn the_renumbered_site_decides() {
         let lines = why(&star(1, &[1, 1, 1]));
-        assert!(lines.ends_with("\nrenumbered it is nested and full: this site has no plan\n"), "{lines}");
+        assert!(lines.ends_with("\nfull (cells 1, 3)\n") && !lines.contains("numbering"), "{lines}");
         let mut ring = Site::sized(4, 2, 1);
         for (from, to) in [(1, 2), (2, 3), (3, 4), (4, 1)] {
             ring = ring.with_reach(from, to, true).unwrap();
         }
         ring.loads[..4].fill(1);
         let lines = why(&ring);
-        assert!(lines.ends_with("\nno numbering of all its cells, idle ones too, is nested\n"), "{lines}");
+        assert!(lines.ends_with("\nno numbering of all its cells, idle ones too, is nested\nplanned\n"), "{lines}");
         ring.loads[3] = 0;
         assert!(why(&ring).lines().all(|line| !line.contains("numbering")), "nested: cell 4 is idle");
     }
@@ -317,6 +297,7 @@ of all cells that clash with one another these need the most, 3:
   cell 4, load 2
 with 1 channel: 3 slots, and no fewer
 with 2 slots: 2 channels, and no fewer
+full (cells 1, 4)
 ";
         assert_eq!(why(&site), expected);
     }
@@ -335,12 +316,13 @@ of all cells that clash with one another these need the most, 4:
   cell 1, load 3
   cell 2, load 1
 blocked: *.2
+full (cells 1, 2)
 ";
         assert_eq!(why(&site), expected);
         site.blocked[0] = 0b111111;
         let lines = why(&site);
         assert!(lines.contains("\nit takes 4 channel-slots, and no fewer; the site has 0 open\n"), "{lines}");
-        assert!(lines.ends_with("\nblocked: *.*\n"), "{lines}");
+        assert!(lines.ends_with("\nblocked: *.*\nfull (cells 1, 2)\n"), "{lines}");
         let star = Site { blocked: set_of(9..10), ..star(128, &[10; 14]) };
         let lines = why(&star);
         assert!(
@@ -368,6 +350,7 @@ with 2 channels: 4 slots, and no fewer
 with 4 slots: 2 channels, and no fewer
 rule 2: two cells clash also when some third cell is reached by both
   2 and 5 clash: both reach 4
+planned
 ";
         assert_eq!(why(&site), expected);
         // Of rule 1 nothing is said, and the same reach makes no clash.
@@ -387,12 +370,16 @@ rule 2: two cells clash also when some third cell is reached by both
   1 and 3 clash: both reach 5
   1 and 4 clash: both reach 5
   3 and 4 clash: both reach 5
+planned
 ";
         let lines = why(&site);
         assert!(lines.ends_with(end), "{lines}");
         // Where one of the two reaches the other, no third cell is named. What reaches both makes no clash.
         let lines = why(&site.with_reach(4, 1, true).unwrap());
-        assert!(lines.ends_with("\n  1 and 3 clash: both reach 5\n  3 and 4 clash: both reach 5\n"), "{lines}");
+        assert!(
+            lines.ends_with("\n  1 and 3 clash: both reach 5\n  3 and 4 clash: both reach 5\nplanned\n"),
+            "{lines}"
+        );
         let lines = why(&site.with_reach(3, 1, true).unwrap());
         assert!(!lines.contains("1 and 2 clash") && !lines.contains("1 and 3 clash"), "{lines}");
     }
@@ -410,7 +397,7 @@ of all cells that clash with one another these need the most, 20:
   cell 14, load 10
 with 1 channel: at least 20 slots, and 128 will do
 with 128 slots: 1 channel, and no fewer
-renumbered it is nested and can be planned: this site has a plan (duggfrask renumber, plan, carry)
+planned
 ";
         assert_eq!(why(&star(128, &[10; 14])), expected);
     }

@@ -40,6 +40,7 @@ pub enum Place {
     Line(u64),
     Cell(u64),
     Flow(u64),
+    Position(u64),
 }
 
 /// The line of a refusal: its number, its place, and what it means.
@@ -51,6 +52,7 @@ pub fn refused(number: u64, place: Place) -> String {
         Place::Line(line) => format!(", line {line}"),
         Place::Cell(cell) => format!(", cell {cell}"),
         Place::Flow(flow) => format!(", flow {flow}"),
+        Place::Position(position) => format!(", position {position}"),
     };
     format!("refused {number}{place}: {}\n", meaning(NUMBERS, number))
 }

@@ -6,8 +6,8 @@ use lib.ListN.{length}
 use Rattle.laws.proofs.Bits.{one-shl}
 use Rattle.laws.proofs.Grid.{row-before}
 use Rattle.laws.proofs.Stores.{sets-long}
-use Rattle.replan.specs.Code.{Gathered}
-use Rattle.replan.proofs.Runs.{none-gathered, one-gathered}
+use Rattle.rowwords.specs.Code.{Gathered}
+use Rattle.rowwords.proofs.Runs.{none-gathered, one-gathered}
 use borrow.Author.Needs.{needs}
 use Rattle.replan.proofs.gather.Statement.{statement}
 use Rattle.replan.proofs.gather.Tie as tie

@@ -12,9 +12,9 @@ use Rattle.laws.specs.Part.{listOf}
 use Rattle.theory.specs.Net.{Net}
 use Rattle.positions.specs.Blocked.{barOf}
 use Rattle.site.specs.Reach.{isOpen, netBy}
-use Rattle.replan.specs.Code.{MaskBars}
-use Rattle.replan.proofs.Runs.{gathered-front}
-use Rattle.replan.proofs.Parts.{zeros, cut, mask-barred, not-done, upper-long, table-done, table-short}
+use Rattle.rowwords.specs.Code.{MaskBars}
+use Rattle.rowwords.proofs.Runs.{gathered-front}
+use Rattle.rowwords.proofs.Parts.{zeros, cut, mask-barred, not-done, upper-long, table-done, table-short}
 use borrow.Author.Needs.{needs}
 use Rattle.replan.proofs.plan_from.Statement.{statement}
 use Rattle.replan.proofs.plan_from.Tie as tie

@@ -13,9 +13,9 @@ use Rattle.laws.proofs.Grid.{row-before}
 use Rattle.laws.proofs.Stores.{sets-long}
 use Rattle.site.specs.Reach.{isOpen, netBy}
 use Rattle.planner.specs.Plan.{answerOf}
-use Rattle.replan.specs.Code.{Reached}
-use Rattle.replan.proofs.Runs.{row-long, turn-stops, turn-goes}
-use Rattle.replan.proofs.Parts.{rest-rows, row-next, rows-long, no-more, made-long, made-past, made-at, made-rows, part-done, part-short}
+use Rattle.rowwords.specs.Code.{Reached}
+use Rattle.rowwords.proofs.Runs.{row-long, turn-stops, turn-goes}
+use Rattle.rowwords.proofs.Parts.{rest-rows, row-next, rows-long, no-more, made-long, made-past, made-at, made-rows, part-done, part-short}
 use borrow.Author.Needs.{needs}
 use Rattle.replan.proofs.rows_from.Statement.{statement}
 use Rattle.replan.proofs.rows_from.Tie as tie

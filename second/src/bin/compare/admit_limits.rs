@@ -1,6 +1,6 @@
 //! Lists of flows at their limits: 0, 16 and 17 flows, all values 0 or equal, a cell that is not there, repeats around 1 to
 //! 4, shares around 65,535 and around the room, sums above 65,535, each refusal before the next; the two worked
-//! examples; and every list of three flows on three cells.
+//! examples; and every list of three flows on three cells. Each with the loads set aside, and on top of them.
 
 use crate::boundary::tunnel;
 use crate::case::{Call, Case};
@@ -28,8 +28,12 @@ pub fn compare(run: &mut Run) {
     worked(run);
 }
 
+/// With the loads set aside; on top of them; and on top of loads that leave room.
 fn admit(run: &mut Run, site: Site, flows: &[Flow]) {
-    run.compare(&Case::of(Call::Admit, site).flows(flows, flows.len() as u64));
+    let light = Site { loads: site.loads.map(|load| load.min(3)), ..site };
+    for (call, site) in [(Call::Admit, site), (Call::AdmitBeside, site), (Call::AdmitBeside, light)] {
+        run.compare(&Case::of(call, site).flows(flows, flows.len() as u64));
+    }
 }
 
 /// Each cell reaches the next few. The loads, which are set aside, are as high as they go.
@@ -130,6 +134,16 @@ fn worked(run: &mut Run) {
     admit(run, apart, &[flow(1, 2), flow(2, 1), Flow { value: 5, ..flow(1, 1) }]);
 }
 
+/// The loads set aside, and on top of loads 0 and 1 in each of three cells.
+fn beside(run: &mut Run, site: Site, flows: &[Flow]) {
+    run.compare(&Case::of(Call::Admit, site).flows(flows, 3));
+    for loads in 0..8u16 {
+        let mut running = site;
+        (0..3).for_each(|i| running.loads[i] = loads >> i & 1);
+        run.compare(&Case::of(Call::AdmitBeside, running).flows(flows, 3));
+    }
+}
+
 /// Three flows on three cells and two positions: any clashes, cells, shares from 1 to 3 and values from 0 to 2.
 pub fn every_small_list(run: &mut Run) {
     let some: Vec<Flow> =
@@ -140,7 +154,7 @@ pub fn every_small_list(run: &mut Run) {
         for &first in &some {
             for &second in &some {
                 for &third in &some {
-                    admit(run, site, &[first, second, third]);
+                    beside(run, site, &[first, second, third]);
                 }
             }
         }

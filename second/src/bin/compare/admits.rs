@@ -8,8 +8,13 @@ use crate::sites::{damage, sound_site};
 use second::admit::Flow;
 use second::site::Site;
 
-pub fn case(random: &mut Random) -> Case {
+/// On top of the loads these are mostly made smaller, so that flows find room beside them.
+pub fn case(random: &mut Random, call: Call) -> Case {
     let mut site = sound_site(random);
+    if call == Call::AdmitBeside && !random.once_in(8) {
+        let most = random.between(0, site.room() as usize / 4 + 1);
+        site.loads.iter_mut().for_each(|load| *load = (*load).min(random.between(0, most) as u16));
+    }
     let count = match random.below(512) {
         0 => 16,
         1..=24 => random.between(9, 12),
@@ -28,7 +33,7 @@ pub fn case(random: &mut Random) -> Case {
         damage(random, &mut site);
     }
     let mark = random.next();
-    Case::of(Call::Admit, site).flows(&flows, mark)
+    Case::of(call, site).flows(&flows, mark)
 }
 
 /// Flows without fault.

@@ -89,6 +89,7 @@ pub fn every_call(run: &mut Run, site: &Site) {
     }
     for count in [1, 3, 16, 17] {
         run.compare(&Case::of(Call::Admit, *site).flows(&small_flows(count), count as u64));
+        run.compare(&Case::of(Call::AdmitBeside, *site).flows(&small_flows(count), count as u64));
     }
     tables(run, site);
     let (bits, pairs) = (site.positions().div_ceil(8), 4 + 4 * site.count());

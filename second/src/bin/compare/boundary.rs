@@ -119,6 +119,8 @@ fn every_call(run: &mut Run, cells: u16, slots: u16, channels: u16) {
     files(run, &site);
     run.compare(&Case::of(Call::Admit, site).flows(&small_flows(3), 1));
     run.compare(&Case::of(Call::Admit, site).flows(&small_flows(17), 2));
+    run.compare(&Case::of(Call::AdmitBeside, site).flows(&small_flows(3), 1));
+    run.compare(&Case::of(Call::AdmitBeside, site).flows(&small_flows(17), 2));
     // One load beyond the last cell, and one reach bit beyond it.
     if cells < 32 {
         let mut wrong = site;

@@ -19,6 +19,8 @@ extern "C" {
     fn dugg_heaviest(site: Site) -> Answer;
     fn dugg_plan(site: Site, table: *mut u8, len: usize) -> Answer;
     fn dugg_search(site: Site, limit: u64, table: *mut u8, len: usize) -> Answer;
+    fn dugg_find(site: Site, limit: u64, table: *mut u8, len: usize) -> Answer;
+    fn dugg_over_full(site: Site, cells: u32) -> Answer;
     fn dugg_change_load(site: &mut Site, cell: u16, load: u16, table: *mut u8, len: usize) -> Answer;
     fn dugg_check(site: Site, table: *const u8, len: usize) -> Answer;
     fn dugg_share(slots: u16, burst: u16, period: u16) -> Answer;
@@ -29,7 +31,9 @@ extern "C" {
     fn dugg_write_plan(site: Site, table: *const u8, table_len: usize, out: *mut u8, len: usize) -> Answer;
     fn dugg_read_sheet(bytes: *const u8, len: usize, slots: u16, channels: u16, blocked: Blocked, rule: u16) -> Edited;
     fn dugg_write_sheet(site: Site, out: *mut u8, len: usize) -> Answer;
+    fn dugg_tidy(sheet: *const u8, len: usize, out: *mut u8, out_len: usize) -> Answer;
     fn dugg_admit(site: Site, flows: *const Flow, count: usize) -> Answer;
+    fn dugg_admit_beside(site: Site, flows: *const Flow, count: usize) -> Answer;
     fn dugg_plan_words(site: Site, words: *mut u32, count: usize) -> Answer;
     fn dugg_check_words(site: Site, words: *const u32, count: usize) -> Answer;
     fn dugg_to_words(site: Site, table: *const u8, len: usize, words: *mut u32, count: usize) -> Answer;
@@ -52,6 +56,8 @@ pub struct Calls {
     pub heaviest: unsafe extern "C" fn(Site) -> Answer,
     pub plan: unsafe extern "C" fn(Site, *mut u8, usize) -> Answer,
     pub search: unsafe extern "C" fn(Site, u64, *mut u8, usize) -> Answer,
+    pub find: unsafe extern "C" fn(Site, u64, *mut u8, usize) -> Answer,
+    pub over_full: unsafe extern "C" fn(Site, u32) -> Answer,
     pub change_load: unsafe extern "C" fn(&mut Site, u16, u16, *mut u8, usize) -> Answer,
     pub check: unsafe extern "C" fn(Site, *const u8, usize) -> Answer,
     pub share: unsafe extern "C" fn(u16, u16, u16) -> Answer,
@@ -62,7 +68,9 @@ pub struct Calls {
     pub write_plan: unsafe extern "C" fn(Site, *const u8, usize, *mut u8, usize) -> Answer,
     pub read_sheet: unsafe extern "C" fn(*const u8, usize, u16, u16, Blocked, u16) -> Edited,
     pub write_sheet: unsafe extern "C" fn(Site, *mut u8, usize) -> Answer,
+    pub tidy: unsafe extern "C" fn(*const u8, usize, *mut u8, usize) -> Answer,
     pub admit: unsafe extern "C" fn(Site, *const Flow, usize) -> Answer,
+    pub admit_beside: unsafe extern "C" fn(Site, *const Flow, usize) -> Answer,
     pub plan_words: unsafe extern "C" fn(Site, *mut u32, usize) -> Answer,
     pub check_words: unsafe extern "C" fn(Site, *const u32, usize) -> Answer,
     pub to_words: unsafe extern "C" fn(Site, *const u8, usize, *mut u32, usize) -> Answer,
@@ -85,6 +93,8 @@ pub const LIBRARY: Calls = Calls {
     heaviest: dugg_heaviest,
     plan: dugg_plan,
     search: dugg_search,
+    find: dugg_find,
+    over_full: dugg_over_full,
     change_load: dugg_change_load,
     check: dugg_check,
     share: dugg_share,
@@ -95,7 +105,9 @@ pub const LIBRARY: Calls = Calls {
     write_plan: dugg_write_plan,
     read_sheet: dugg_read_sheet,
     write_sheet: dugg_write_sheet,
+    tidy: dugg_tidy,
     admit: dugg_admit,
+    admit_beside: dugg_admit_beside,
     plan_words: dugg_plan_words,
     check_words: dugg_check_words,
     to_words: dugg_to_words,
@@ -118,6 +130,8 @@ pub const SECOND: Calls = Calls {
     heaviest: second_heaviest,
     plan: second_plan,
     search: second_search,
+    find: second_find,
+    over_full: second_over_full,
     change_load: second_change_load,
     check: second_check,
     share: second_share,
@@ -128,7 +142,9 @@ pub const SECOND: Calls = Calls {
     write_plan: second_write_plan,
     read_sheet: second_read_sheet,
     write_sheet: second_write_sheet,
+    tidy: second_tidy,
     admit: second_admit,
+    admit_beside: second_admit_beside,
     plan_words: second_plan_words,
     check_words: second_check_words,
     to_words: second_to_words,

@@ -21,6 +21,8 @@ pub enum Call {
     Heaviest,
     Plan,
     Search,
+    Find,
+    OverFull,
     ChangeLoad,
     Check,
     Share,
@@ -31,7 +33,9 @@ pub enum Call {
     WritePlan,
     ReadSheet,
     WriteSheet,
+    Tidy,
     Admit,
+    AdmitBeside,
     PlanWords,
     CheckWords,
     ToWords,
@@ -48,8 +52,10 @@ pub struct Case {
     pub call: Call,
     pub site: Site,
     pub numbers: [u16; 4],
-    /// The limit of a search.
+    /// The limit of a search, and of what is found.
     pub limit: u64,
+    /// A set of cells as a word.
+    pub cells: u32,
     /// The record that is lent to be changed: the site, between guards.
     pub record: Lent<Site>,
     /// What is lent to be read: a file, a sheet, or a table to check or to write.
@@ -83,7 +89,7 @@ impl Case {
     pub fn of(call: Call, site: Site) -> Case {
         let (record, input, output) = (Lent::none(), Lent::none(), Lent::none());
         let (flows, words, list) = (Lent::none(), Lent::none(), Lent::none());
-        Case { call, site, numbers: [0; 4], limit: 0, record, input, output, flows, words, list }
+        Case { call, site, numbers: [0; 4], limit: 0, cells: 0, record, input, output, flows, words, list }
     }
 
     /// The first few numbers of the call; the others stay 0.
@@ -94,6 +100,11 @@ impl Case {
 
     pub fn limit(mut self, limit: u64) -> Case {
         self.limit = limit;
+        self
+    }
+
+    pub fn cells(mut self, cells: u32) -> Case {
+        self.cells = cells;
         self
     }
 
@@ -155,6 +166,8 @@ impl Case {
                 Call::Heaviest => alone((calls.heaviest)(site)),
                 Call::Plan => alone((calls.plan)(site, out, olen)),
                 Call::Search => alone((calls.search)(site, self.limit, out, olen)),
+                Call::Find => alone((calls.find)(site, self.limit, out, olen)),
+                Call::OverFull => alone((calls.over_full)(site, self.cells)),
                 Call::ChangeLoad => {
                     let answer = (calls.change_load)(&mut *record.pointer_mut(), x, y, out, olen);
                     (record.part()[0], answer)
@@ -171,7 +184,9 @@ impl Case {
                     pair((calls.read_sheet)(inp, ilen, slots, channels, blocked, site.rule))
                 }
                 Call::WriteSheet => alone((calls.write_sheet)(site, out, olen)),
+                Call::Tidy => alone((calls.tidy)(inp, ilen, out, olen)),
                 Call::Admit => alone((calls.admit)(site, flows.pointer(), flows.len())),
+                Call::AdmitBeside => alone((calls.admit_beside)(site, flows.pointer(), flows.len())),
                 Call::PlanWords => alone((calls.plan_words)(site, write, count)),
                 Call::CheckWords => alone((calls.check_words)(site, read, count)),
                 Call::ToWords => alone((calls.to_words)(site, inp, ilen, write, count)),
@@ -204,11 +219,10 @@ impl Case {
     /// How many bytes a call with this answer may write.
     fn bytes_written(&self, seen: &Seen) -> usize {
         match (self.call, seen.answer.number) {
-            (Call::Plan | Call::ChangeLoad, 0 | 5) | (Call::ToBytes | Call::Mend | Call::Carry | Call::Search, 0) => {
-                self.site.table_len()
-            }
+            (Call::Plan | Call::ChangeLoad, 0 | 5)
+            | (Call::ToBytes | Call::Mend | Call::Carry | Call::Search | Call::Find, 0) => self.site.table_len(),
             (Call::ReadPlan, 0) => seen.site.table_len(),
-            (Call::WriteSite | Call::WritePlan | Call::WriteSheet, 0) => seen.answer.value[0] as usize,
+            (Call::WriteSite | Call::WritePlan | Call::WriteSheet | Call::Tidy, 0) => seen.answer.value[0] as usize,
             _ => 0,
         }
     }
@@ -251,7 +265,7 @@ impl Case {
         println!("  reach {:08x?}", self.site.reach);
         println!("  blocked {:016x?}", self.site.blocked);
         println!("  rule {}", self.site.rule);
-        println!("numbers {:?}, limit {}", self.numbers, self.limit);
+        println!("numbers {:?}, limit {}, cells {:08x}", self.numbers, self.limit, self.cells);
         println!("lent to read, {} bytes: {}", self.input.len(), hex(self.input.part()));
         println!("lent to write, {} bytes: {}", self.output.len(), hex(self.output.part()));
         println!("flows {:?}", self.flows.part());

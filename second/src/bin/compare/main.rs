@@ -11,6 +11,8 @@ mod boundary;
 mod calls;
 mod case;
 mod files;
+mod find_limits;
+mod finds;
 mod heaviest_limits;
 mod lent;
 mod load_change_limits;
@@ -29,6 +31,7 @@ mod sheet_limits;
 mod sheets;
 mod sites;
 mod spares;
+mod tidies;
 mod word_limits;
 mod word_tables;
 
@@ -64,6 +67,7 @@ fn fixed(dir: &Path) -> ExitCode {
     let mut run = Run::default();
     boundary::compare(&mut run);
     sheet_limits::compare(&mut run);
+    tidies::compare(&mut run);
     admit_limits::compare(&mut run);
     word_limits::compare(&mut run);
     mend_limits::compare(&mut run);
@@ -71,6 +75,7 @@ fn fixed(dir: &Path) -> ExitCode {
     blocked_limits::compare(&mut run);
     rule_limits::compare(&mut run);
     search_limits::compare(&mut run);
+    find_limits::compare(&mut run);
     load_change_limits::compare(&mut run);
     println!("boundaries: {} cases", run.cases);
     let before = run.cases;
@@ -95,6 +100,9 @@ fn fixed(dir: &Path) -> ExitCode {
     search_limits::every_small_site(&mut run);
     println!("small sites searched: {} cases", run.cases - before);
     let before = run.cases;
+    find_limits::every_small_site(&mut run);
+    println!("small sites, whatever is found: {} cases", run.cases - before);
+    let before = run.cases;
     load_change_limits::every_small_site(&mut run);
     println!("small sites, each load changed: {} cases", run.cases - before);
     let before = run.cases;
@@ -111,7 +119,7 @@ fn fixed(dir: &Path) -> ExitCode {
     }
     println!("random, seed {SEED}: {} cases", wild.cases);
     if !wild.report() {
-        return fail("a number was never given");
+        return fail("a number or a verdict was never given");
     }
     println!("{} cases compared, all agree", run.cases + wild.cases);
     ExitCode::SUCCESS

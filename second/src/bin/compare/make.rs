@@ -1,11 +1,13 @@
 //! Makes random cases: sites, tables, files and flows that are valid, nearly valid or damaged, so that every number is
 //! given often. Sites and tables are made in `sites`, files in `files`, range sheets in `sheets`, lists of flows in
 //! `admits`, tables of words in `word_tables`, tables to mend in `mends`, sites to renumber in `numberings`, sites to search in
-//! `searches`, changes of a load in `load_changes`.
+//! `searches`, sites to find a plan for and sets of their cells in `finds`, changes of a load in `load_changes`,
+//! sheets to tidy in `tidies`.
 
 use crate::admits;
 use crate::case::{Call, Case};
 use crate::files::{plan_file, site_file};
+use crate::finds;
 use crate::load_changes;
 use crate::mends;
 use crate::numberings;
@@ -14,6 +16,7 @@ use crate::run::Run;
 use crate::searches;
 use crate::sheets::{self, sheet};
 use crate::sites::{damage, sound_site, table};
+use crate::tidies;
 use crate::word_tables;
 use second::site::Site;
 
@@ -34,6 +37,9 @@ const CALLS: &[Call] = &[
     Call::Plan,
     Call::Search,
     Call::Search,
+    Call::Find,
+    Call::Find,
+    Call::OverFull,
     Call::ChangeLoad,
     Call::Check,
     Call::Check,
@@ -48,7 +54,10 @@ const CALLS: &[Call] = &[
     Call::ReadSheet,
     Call::ReadSheet,
     Call::WriteSheet,
+    Call::Tidy,
+    Call::Tidy,
     Call::Admit,
+    Call::AdmitBeside,
     Call::PlanWords,
     Call::CheckWords,
     Call::ToWords,
@@ -82,8 +91,11 @@ pub fn compare(run: &mut Run, random: &mut Random) {
             let [slots, burst, period] = [near_number(random, 128), flow_number(random), flow_number(random)];
             run.compare(&Case::of(call, Site::default()).numbers([slots, burst, period, near_number(random, 4)]));
         }
-        Call::Admit => {
-            run.compare(&admits::case(random));
+        Call::Tidy => {
+            run.compare(&tidies::case(random));
+        }
+        Call::Admit | Call::AdmitBeside => {
+            run.compare(&admits::case(random, call));
         }
         Call::PlanWords | Call::CheckWords | Call::ToWords | Call::ToBytes => {
             run.compare(&word_tables::case(random, call));
@@ -96,6 +108,9 @@ pub fn compare(run: &mut Run, random: &mut Random) {
         }
         Call::Search => {
             run.compare(&searches::case(random));
+        }
+        Call::Find | Call::OverFull => {
+            run.compare(&finds::case(random, call));
         }
         Call::ChangeLoad => load_changes::compare(run, random),
         _ => {

@@ -25,12 +25,9 @@ pub fn case(random: &mut Random, call: Call) -> Case {
 }
 
 /// Gives the site clashes that have a numbering, its cells numbered in any order, and perhaps spoils one.
-fn bolt_up(random: &mut Random, site: &mut Site) {
+pub fn bolt_up(random: &mut Random, site: &mut Site) {
     let cells = site.count();
-    let mut order: Vec<usize> = (0..cells).collect();
-    for last in (1..cells).rev() {
-        order.swap(last, random.below(last + 1));
-    }
+    let order = shuffled(random, cells);
     site.reach = [0; 32];
     for k in 1..cells {
         let at = random.below(k);
@@ -58,6 +55,15 @@ fn bolt_up(random: &mut Random, site: &mut Site) {
             join(random, site, a, b);
         }
     }
+}
+
+/// The numbers from 0 up to, but not including, `cells`, in any order.
+pub fn shuffled(random: &mut Random, cells: usize) -> Vec<usize> {
+    let mut order: Vec<usize> = (0..cells).collect();
+    for last in (1..cells).rev() {
+        order.swap(last, random.below(last + 1));
+    }
+    order
 }
 
 /// One cell reaches the other, or each the other.

@@ -1,5 +1,6 @@
 //! Every sample file, cut at each byte, with a byte too many, and with each single byte changed to every value: read as
-//! a site file and as a plan file, and written back where it is accepted. The sample sheets likewise, read as sheets.
+//! a site file and as a plan file, and written back where it is accepted. The sample sheets likewise, read as sheets; and the
+//! sheets that a spreadsheet wrote likewise, tidied.
 
 use crate::run::Run;
 use second::site::Site;
@@ -28,6 +29,18 @@ pub fn compare(run: &mut Run, dir: &Path) -> io::Result<usize> {
         } else {
             one_file(&file, |bytes, mark| both_ways(run, bytes, mark));
         }
+    }
+    Ok(files.len() + exports(run, &dir.join("sheets"))?)
+}
+
+fn exports(run: &mut Run, dir: &Path) -> io::Result<usize> {
+    let mut files = Vec::new();
+    for entry in fs::read_dir(dir)? {
+        files.push(entry?.path());
+    }
+    files.sort();
+    for path in &files {
+        one_file(&fs::read(path)?, |bytes, mark| run.tidy(bytes, mark));
     }
     Ok(files.len())
 }

@@ -22,7 +22,7 @@ pub fn case(random: &mut Random) -> Case {
 }
 
 /// A site with few fragments in all and a few open positions.
-fn small(random: &mut Random) -> Site {
+pub fn small(random: &mut Random) -> Site {
     let cells = random.between(1, 12);
     let (slots, channels) =
         random.pick(&[(1, 1), (2, 1), (2, 2), (3, 1), (3, 2), (5, 1), (8, 2), (64, 1), (13, 5), (128, 1)]);
@@ -45,7 +45,7 @@ fn small(random: &mut Random) -> Site {
 }
 
 /// None, one, what the search needs, one less and one more, or as many as is allowed.
-fn limit(random: &mut Random, site: &Site) -> u64 {
+pub fn limit(random: &mut Random, site: &Site) -> u64 {
     let needed = match search(site, MOST_TRIES, &mut vec![0; site.table_len().min(70_000)]) {
         Ok((_, tries)) => tries,
         Err(_) => random.next(),

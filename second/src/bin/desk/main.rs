@@ -10,7 +10,7 @@ mod random;
 #[path = "../compare/sites.rs"]
 mod sites;
 
-use second::desk::{self, Done, Input, Told};
+use second::desk::{self, AuditFile, Done, Ended, Input, Told};
 use second::site::RULE_1;
 use std::fs;
 use std::io::{self, Write};
@@ -21,11 +21,14 @@ fn main() -> ExitCode {
     let words: Vec<&str> = words.iter().map(String::as_str).collect();
     let told = match words[..] {
         ["make", kind, seed] => made(kind, seed),
+        ["audit", ref words @ ..] => audited(words),
+        [command, ..] if ASKED.contains(&command) || words.contains(&"--all") => asked(&words),
         _ => said(&words),
     };
     match told {
         Ok(Said::Told(Ok(Done { result, words }))) => print(&result, &words, ExitCode::SUCCESS),
         Ok(Said::Told(Err(no))) => print(&[], &no, ExitCode::FAILURE),
+        Ok(Said::Ended(Ended { result, words, status })) => print(&result, &words, ExitCode::from(status)),
         Ok(Said::Wrong(line)) => print(&[], &line, ExitCode::from(2)),
         Err(error) => print(&[], &format!("second-desk: {error}\n"), ExitCode::from(2)),
     }
@@ -34,6 +37,7 @@ fn main() -> ExitCode {
 /// What a command says, or the line for one that is used wrongly.
 enum Said {
     Told(Told),
+    Ended(Ended),
     Wrong(String),
 }
 
@@ -58,7 +62,6 @@ fn said(words: &[&str]) -> io::Result<Said> {
         ["search", _, "--tries", tries] => desk::search(file(0), tries.parse().unwrap_or(u64::MAX)),
         ["check", _, _] => desk::check(file(0), file(1)),
         ["mend", _, _] => desk::mend(file(0), file(1)),
-        ["why", _] => desk::why(file(0)),
         ["sheet", _] => desk::sheet(file(0)),
         ["site", _, "--slots", slots, "--channels", channels, ref more @ ..] => {
             let (slots, channels) = (number(slots), number(channels));
@@ -73,6 +76,7 @@ fn said(words: &[&str]) -> io::Result<Said> {
             desk::share(number(slots), number(burst), number(period), Some(number(repeats)))
         }
         ["admit", _, _] => desk::admit(file(0), file(1)),
+        ["admit", _, _, "--beside-loads"] => desk::admit_beside(file(0), file(1)),
         ["renumber", _] => desk::renumber(file(0)),
         ["carry", _, _] => desk::carry(file(0), file(1)),
         ["load", _, _, cell, load, "-o", site, "-p", plan] => {
@@ -87,6 +91,97 @@ fn said(words: &[&str]) -> io::Result<Said> {
         }
         _ => return Ok(wrong()),
     }))
+}
+
+/// The commands that end with a status of their own.
+const ASKED: [&str; 7] = ["find", "why", "room", "set", "clashes", "diff", "tidy"];
+
+/// The most tries of `find`, `why`, `room` and `audit` where no number is given.
+const TRIES: u64 = 1_000_000;
+
+fn asked(words: &[&str]) -> io::Result<Said> {
+    let count = match words[0] {
+        "check" => 2,
+        "diff" => 3,
+        _ => 1,
+    };
+    let names: Vec<&str> = words[1..].iter().copied().take(count).collect();
+    let files = names.iter().map(fs::read).collect::<io::Result<Vec<_>>>()?;
+    if files.len() < count {
+        return Ok(wrong());
+    }
+    let file = |k: usize| Input { name: names[k], bytes: &files[k] };
+    Ok(Said::Ended(match words[..] {
+        ["find", _] => desk::find(file(0), TRIES),
+        ["find", _, "--tries", tries] => desk::find(file(0), most_tries(tries)),
+        ["why", _] => desk::why(file(0), TRIES),
+        ["room", _] => desk::room(file(0), TRIES),
+        ["room", _, "--tries", tries] => desk::room(file(0), most_tries(tries)),
+        ["set", _, ref edits @ ..] => desk::set(file(0), edits),
+        ["clashes", _] => desk::clashes(file(0)),
+        ["check", _, _, "--all"] => desk::check_all(file(0), file(1)),
+        ["diff", _, _, _] => desk::diff(file(0), file(1), file(2)),
+        ["tidy", _] => desk::tidy(file(0)),
+        _ => return Ok(wrong()),
+    }))
+}
+
+fn most_tries(word: &str) -> u64 {
+    word.parse().unwrap_or(u64::MAX)
+}
+
+/// `audit FILE-OR-FOLDER.. [--tries N] [--csv FILE]`.
+fn audited(words: &[&str]) -> io::Result<Said> {
+    let (mut names, mut tries, mut csv, mut left) = (Vec::new(), TRIES, None, words);
+    loop {
+        left = match *left {
+            [] => break,
+            ["--tries", number, ref more @ ..] => {
+                tries = most_tries(number);
+                more
+            }
+            ["--csv", file, ref more @ ..] => {
+                csv = Some(file);
+                more
+            }
+            [name, ref more @ ..] => {
+                names.extend(site_files(name)?);
+                more
+            }
+        };
+    }
+    names.sort();
+    names.dedup();
+    let mut read = Vec::new();
+    for name in &names {
+        let plan = name.strip_suffix(".site").map(|stem| format!("{stem}.plan"));
+        read.push((fs::read(name)?, plan.and_then(|plan| fs::read(plan).ok())));
+    }
+    let mut files: Vec<AuditFile> = names
+        .iter()
+        .zip(&read)
+        .map(|(name, (site, plan))| AuditFile { site: Input { name, bytes: site }, plan: plan.as_deref() })
+        .collect();
+    let (end, sheet) = desk::audit(&mut files, tries);
+    if let Some(csv) = csv {
+        fs::write(csv, sheet)?;
+    }
+    Ok(Said::Ended(end))
+}
+
+/// A file by itself, or the site files of a folder.
+fn site_files(name: &str) -> io::Result<Vec<String>> {
+    if !fs::metadata(name)?.is_dir() {
+        return Ok(vec![name.into()]);
+    }
+    let mut names = Vec::new();
+    for entry in fs::read_dir(name)? {
+        let path = entry?.path();
+        if path.extension().is_some_and(|end| end == "site") {
+            names.push(path.to_string_lossy().into_owned());
+        }
+    }
+    Ok(names)
 }
 
 /// What else is given beside a sheet: the list of blocked positions if there is one, and the rule, which is 1 where none is

@@ -1,5 +1,6 @@
 //! Random cases for the desk's command. Each seed has a site, a plan for it, its range sheet and a sheet of flows, all in
-//! order; each of them damaged (`bad-site` and so on); what is given beside the sheet; and the numbers of `share`.
+//! order; each of them damaged (`bad-site` and so on); what is given beside the sheet; the numbers of `share`; the words of
+//! `set`; and the sheet as a spreadsheet may have written it (`export`).
 
 use crate::damage;
 use crate::random::Random;
@@ -25,6 +26,8 @@ pub fn make(kind: &str, seed: u64) -> Option<Vec<u8>> {
         "flows" => flow_sheet(random, seed, &site),
         "beside" => beside(random, &site),
         "share" => share(random, seed),
+        "edits" => edits(random, seed, &site),
+        "export" => export(random, &written(|out| write_sheet(&site, out))),
         _ => return None,
     };
     match kind {
@@ -33,6 +36,11 @@ pub fn make(kind: &str, seed: u64) -> Option<Vec<u8>> {
         "plan" => damage::plan_file(random, seed, &mut file),
         "sheet" => damage::sheet(random, seed, &mut file, &site),
         "flows" => damage::flow_sheet(random, seed, &mut file, &site),
+        "export" => {
+            // It may have no CR and no comma, which the other ways ask for.
+            let way = random.pick(&[2, 4, 6, 7]);
+            damage::sheet(random, way, &mut file, &site);
+        }
         _ => return None,
     }
     Some(file)
@@ -132,4 +140,55 @@ fn share(random: &mut Random, seed: u64) -> Vec<u8> {
     let period = if random.once_in(3) { random.pick(&any) } else { &few[1] };
     let repeats = random.pick(&["", "", " 1", " 2", " 3", " 4", " 0", " 5"]);
     format!("{slots} {burst} {period}{repeats}\n").into_bytes()
+}
+
+/// One to four edits; one in eight names a cell or a size that the site does not have, and once in sixteen one word is wrong.
+fn edits(random: &mut Random, seed: u64, site: &Site) -> Vec<u8> {
+    let mut words = Vec::new();
+    for _ in 0..random.between(1, 4) {
+        let beyond = random.once_in(8) as usize;
+        let (a, b) = (random.between(1, site.count() + beyond), random.between(1, site.count() + beyond));
+        words.push(match random.below(8) {
+            0 | 1 => format!("load {a}={}", random.pick(&[0, 1, 2, 5, site.positions(), 65_535])),
+            2 => format!("reach {a}-{b}"),
+            3 => format!("clear {a}-{b}"),
+            4 => format!("rule {}", random.between(1, 2) + beyond),
+            5 => format!("slots {}", random.between(1, site.slots as usize + 2) + 128 * beyond),
+            6 => format!("channels {}", random.between(1, site.channels as usize + 1) + 16 * beyond),
+            _ => format!("blocked {}", random.pick(&["none", "1.1", "*.1", "1.*", "1-2.1", "2.2,1.1", "1.1,9"])),
+        });
+    }
+    let mut text = words.join(" ");
+    if seed % 16 == 7 {
+        let at = random.between(0, text.len());
+        text.insert(at, random.pick(&['0', '-', '=', 'x', ' ']));
+    }
+    (text + "\n").into_bytes()
+}
+
+/// A sheet with another mark between its fields or not, LF alone or not, quotes, blanks, marks left blank or with an x, the
+/// mark of the byte order, and the last line without its end.
+fn export(random: &mut Random, sheet: &[u8]) -> Vec<u8> {
+    let between = random.pick(&[",", ",", ";", "\t"]);
+    let end = random.pick(&["\r\n", "\n"]);
+    let [quoted, blank, words, marks] = [(); 4].map(|()| random.once_in(2));
+    let mut text = String::from(if random.once_in(3) { "\u{feff}" } else { "" });
+    for (line, row) in std::str::from_utf8(sheet).expect("a sheet is plain text").lines().enumerate() {
+        for (column, field) in row.split(',').enumerate() {
+            let field = match field {
+                "1" if line > 0 && column > 1 && marks => random.pick(&["1", "x", "X"]),
+                "0" if line > 0 && column > 1 && marks => random.pick(&["0", ""]),
+                field => field,
+            };
+            let quoted = quoted && (line == 0 && column < 2 || words);
+            let field = if quoted { format!("\"{field}\"") } else { field.into() };
+            let field = if blank && random.once_in(4) { format!(" {field} ") } else { field };
+            text += &format!("{}{field}", if column == 0 { "" } else { between });
+        }
+        text += end;
+    }
+    if random.once_in(4) {
+        text.truncate(text.len() - random.between(1, end.len()));
+    }
+    text.into_bytes()
 }

@@ -1,0 +1,2 @@
+-- The laws of crate `auditing`, module by module.
+pub mod Truth

@@ -1,0 +1,2 @@
+-- The definitions of crate `clashcount`, module by module.
+pub mod Count

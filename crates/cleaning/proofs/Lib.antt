@@ -1,0 +1,4 @@
+-- The laws of crate `cleaning`, module by module.
+pub mod Kept
+pub mod Ends
+pub mod Example

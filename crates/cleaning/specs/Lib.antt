@@ -1,0 +1,4 @@
+-- The definitions of crate `cleaning`, module by module.
+pub mod Clean
+pub mod Kept
+pub mod Means

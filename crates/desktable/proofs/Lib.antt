@@ -1,0 +1,3 @@
+-- The laws of crate `desktable`, module by module.
+pub mod Faults
+pub mod Desk

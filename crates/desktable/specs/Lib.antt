@@ -1,0 +1,2 @@
+-- The definitions of crate `desktable`, module by module.
+pub mod Desk

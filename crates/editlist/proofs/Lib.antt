@@ -1,0 +1,3 @@
+-- The laws of crate `editlist`, module by module.
+pub mod Trip
+pub mod Made

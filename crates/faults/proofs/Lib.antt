@@ -1,0 +1,5 @@
+-- The laws of crate `faults`, module by module.
+pub mod InTurn
+pub mod First
+pub mod Once
+pub mod Example

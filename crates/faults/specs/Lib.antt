@@ -1,0 +1,3 @@
+-- The definitions of crate `faults`, module by module.
+pub mod Faults
+pub mod Means

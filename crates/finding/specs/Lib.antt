@@ -1,0 +1,3 @@
+-- The definitions of crate `finding`, module by module.
+pub mod Found
+pub mod Means

@@ -1,0 +1,3 @@
+-- The definitions of crate `linefaults`, module by module.
+pub mod Fault
+pub mod Means

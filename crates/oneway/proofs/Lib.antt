@@ -1,0 +1,2 @@
+-- The laws of crate `oneway`, module by module.
+pub mod Reading

@@ -1,0 +1,2 @@
+-- The definitions of crate `oneway`, module by module.
+pub mod TwoWay

@@ -1,2 +1,0 @@
--- The definitions of crate `replan`, module by module.
-pub mod Code

@@ -1,0 +1,3 @@
+-- The laws of crate `resize`, module by module.
+pub mod Pairs
+pub mod Laws

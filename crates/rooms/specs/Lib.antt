@@ -1,0 +1,2 @@
+-- The definitions of crate `rooms`, module by module.
+pub mod Room

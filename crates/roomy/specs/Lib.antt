@@ -1,0 +1,2 @@
+-- The definitions of crate `roomy`, module by module.
+pub mod Room

@@ -1,0 +1,2 @@
+-- The definitions of crate `rowwords`, module by module.
+pub mod Code

@@ -1,0 +1,19 @@
+-- `say_audit::mend_phrase` meets its contract: an arm for each answer. Assumes nothing.
+use borrow.Author.Needs.{needs}
+use Rattle.say_audit.proofs.mend_phrase.Statement.{statement}
+use Rattle.say_audit.proofs.mend_phrase.Tie as tie
+
+pub mend-phrase-spec : {M : Type 1} → statement M
+mend-phrase-spec =
+    tie.close
+    (tie.spec
+    (λ c. search needs)
+    (λ c. search needs)
+    (λ c. search needs)
+    (λ c. search needs)
+    (λ c. search needs)
+    (λ c. cc)
+    (λ c. cc)
+    (λ c. cc)
+    (λ c. cc)
+    (λ c. cc))

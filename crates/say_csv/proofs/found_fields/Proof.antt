@@ -1,0 +1,27 @@
+-- `say_csv::found_fields` meets its contract: an arm for each answer. Assumes nothing.
+use borrow.Author.Needs.{needs}
+use Rattle.say_csv.proofs.found_fields.Statement.{statement}
+use Rattle.say_csv.proofs.found_fields.Tie as tie
+
+pub found-fields-spec : {M : Type 1} → statement M
+found-fields-spec =
+    tie.close
+    (tie.spec
+    (λ c. search needs)
+    (λ c. search needs)
+    (λ c. search needs)
+    (λ c. search needs)
+    (λ c. search needs)
+    (λ c. search needs)
+    (λ c. search needs)
+    (λ c. search needs)
+    (λ c. search needs)
+    (λ c. cc)
+    (λ c. cc)
+    (λ c. cc)
+    (λ c. cc)
+    (λ c. cc)
+    (λ c. cc)
+    (λ c. cc)
+    (λ c. cc)
+    (λ c. cc))

@@ -1,0 +1,4 @@
+-- The definitions of crate `say_csv`, module by module.
+pub mod Lines
+pub mod Names
+pub mod Fields

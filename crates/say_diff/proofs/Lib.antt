@@ -1,0 +1,2 @@
+-- The laws of crate `say_diff`, module by module.
+pub mod Said

@@ -1,0 +1,33 @@
+-- `say_find::last_phrase` meets its contract: an arm for each answer. Assumes nothing.
+use mathlib.Core.Path.{_∙_, ap, sym}
+use borrow.Author.Needs.{needs}
+use Rattle.say_find.specs.Last.{lastPhrase}
+use Rattle.say_find.proofs.last_phrase.Statement.{statement}
+use Rattle.say_find.proofs.last_phrase.Tie as tie
+
+pub last-phrase-spec : {M : Type 1} → statement M
+last-phrase-spec =
+    tie.close
+    (tie.spec
+    (λ c. search needs)
+    (λ c. search needs)
+    (λ c. search needs)
+    (λ c κs. search needs)
+    (λ c. search needs)
+    (λ c κs. search needs)
+    (λ c. search needs)
+    (λ c. search needs)
+    (λ c κs. search needs)
+    (λ c. search needs)
+    (λ c κs. search needs)
+    (λ c. search needs)
+    (λ c. search needs)
+    (λ c. cc)
+    (λ c. cc)
+    (λ c. cc)
+    (λ c. cc)
+    (λ c. cc)
+    (λ c. cc)
+    (λ c. cc)
+    (λ c. cc)
+    (λ c. cc))

@@ -1,0 +1,3 @@
+-- The laws of crate `say_sheets`, module by module.
+pub mod Said
+pub mod Example

@@ -1,0 +1,3 @@
+-- The definitions of crate `tidying`, module by module.
+pub mod Tidy
+pub mod Given
