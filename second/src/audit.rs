@@ -151,15 +151,7 @@ mod tests {
     use crate::answer::refuse;
     use crate::files::{write_plan, write_site};
     use crate::planner::plan;
-
-    fn site_of(slots: usize, channels: usize, loads: &[u16], pairs: &[(usize, usize)]) -> Site {
-        let mut site = Site::sized(loads.len(), slots, channels);
-        site.loads[..loads.len()].copy_from_slice(loads);
-        for &(from, to) in pairs {
-            site = site.with_reach(from, to, true).unwrap();
-        }
-        site
-    }
+    use crate::site::site_of;
 
     fn file(write: impl FnOnce(&mut [u8]) -> Outcome<usize>) -> Vec<u8> {
         let mut bytes = vec![0; 9000];

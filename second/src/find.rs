@@ -110,20 +110,11 @@ mod tests {
     use super::*;
     use crate::answer::refuse;
     use crate::checker::check;
-
-    /// A site of one channel, each pair's first cell reaching the second.
-    fn site_of(slots: usize, loads: &[u16], pairs: &[(usize, usize)]) -> Site {
-        let mut site = Site::sized(loads.len(), slots, 1);
-        site.loads[..loads.len()].copy_from_slice(loads);
-        for &(from, to) in pairs {
-            site = site.with_reach(from, to, true).unwrap();
-        }
-        site
-    }
+    use crate::site::site_of;
 
     fn ring(cells: usize, slots: usize, load: u16) -> Site {
         let pairs: Vec<_> = (1..=cells).map(|cell| (cell, cell % cells + 1)).collect();
-        site_of(slots, &vec![load; cells], &pairs)
+        site_of(slots, 1, &vec![load; cells], &pairs)
     }
 
     /// What is found with this limit, and the table; a byte past the table stays.
@@ -138,7 +129,7 @@ mod tests {
 
     #[test]
     fn greedy_is_the_planners_own() {
-        let site = site_of(6, &[5, 1, 4], &[(2, 1), (2, 3)]);
+        let site = site_of(6, 1, &[5, 1, 4], &[(2, 1), (2, 3)]);
         let mut planned = vec![0; 18];
         plan(&site, &mut planned).unwrap();
         assert_eq!(found(&site, 0), (Found::Greedy, planned));
@@ -147,9 +138,9 @@ mod tests {
     /// P4 and P5: greedy does not find the plan. P7 is a path in other numbers, too.
     #[test]
     fn renumbered() {
-        let p4 = site_of(2, &[1, 1, 1, 1], &[(1, 3), (2, 4), (3, 4)]);
+        let p4 = site_of(2, 1, &[1, 1, 1, 1], &[(1, 3), (2, 4), (3, 4)]);
         assert_eq!(found(&p4, 0), (Found::Renumbered, vec![1, 0, 0, 1, 0, 1, 1, 0]));
-        let p7 = site_of(2, &[1, 0, 1, 1, 1], &[(1, 4), (2, 3), (3, 5), (4, 5)]);
+        let p7 = site_of(2, 1, &[1, 0, 1, 1, 1], &[(1, 4), (2, 3), (3, 5), (4, 5)]);
         let (found, table) = found(&p7, 0);
         assert_eq!(found, Found::Renumbered);
         assert!(table.iter().all(|&byte| byte < 2), "the marks of the planner are not carried");
@@ -157,14 +148,14 @@ mod tests {
 
     #[test]
     fn full_by_a_set() {
-        let site = site_of(6, &[5, 2, 4], &[(2, 1), (2, 3)]);
+        let site = site_of(6, 1, &[5, 2, 4], &[(2, 1), (2, 3)]);
         assert_eq!(found(&site, 0).0, Found::FullBySet(0b011));
         assert_eq!(over_full(&site, 0b011), Ok((true, 7)));
         let within = [(0, 0), (1, 5), (2, 2), (4, 4), (0b110, 6), (0b101, 9), (0b111, 11), (0b1011, 7), (1 << 31, 0)];
         for (cells, load) in within {
             assert_eq!(over_full(&site, cells), Ok((false, load)), "{cells:b}");
         }
-        assert_eq!(over_full(&site_of(1, &[2], &[]), 1), Ok((true, 2)));
+        assert_eq!(over_full(&site_of(1, 1, &[2], &[]), 1), Ok((true, 2)));
         assert_eq!(over_full(&Site { slots: 0, ..site }, 0b011), refuse(1, &[]));
     }
 
@@ -177,7 +168,7 @@ mod tests {
         // Twenty-five fragments are too many to search, whatever the limit.
         assert_eq!(found(&ring(5, 10, 5), u64::MAX).0, Found::NotKnown(0));
         // A ring of six, numbered so that greedy gives up.
-        let six = site_of(2, &[1; 6], &[(1, 3), (3, 5), (5, 2), (2, 4), (4, 6), (6, 1)]);
+        let six = site_of(2, 1, &[1; 6], &[(1, 3), (3, 5), (5, 2), (2, 4), (4, 6), (6, 1)]);
         let (searched, _) = found(&six, 1000);
         assert!(matches!(searched, Found::Searched(1..=1000)), "{searched:?}");
     }
@@ -199,7 +190,7 @@ mod tests {
 
     #[test]
     fn refusals_write_nothing() {
-        let site = site_of(2, &[1, 1], &[(1, 2)]);
+        let site = site_of(2, 1, &[1, 1], &[(1, 2)]);
         let mut table = [9; 3];
         assert_eq!(find(&Site { channels: 17, ..site }, 5, &mut table), refuse(1, &[]));
         assert_eq!(find(&Site { rule: 3, ..site }, 5, &mut []), refuse(24, &[]));

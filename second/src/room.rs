@@ -117,16 +117,7 @@ mod tests {
     use super::*;
     use crate::answer::refuse;
     use crate::search::{search, End};
-    use crate::site::set_of;
-
-    fn site_of(slots: usize, channels: usize, loads: &[u16], pairs: &[(usize, usize)]) -> Site {
-        let mut site = Site::sized(loads.len(), slots, channels);
-        site.loads[..loads.len()].copy_from_slice(loads);
-        for &(from, to) in pairs {
-            site = site.with_reach(from, to, true).unwrap();
-        }
-        site
-    }
+    use crate::site::{set_of, site_of};
 
     fn more(site: &Site) -> Vec<(u64, bool)> {
         rooms(site, 1000).unwrap().cells.iter().map(|room| (room.more, room.exact)).collect()

@@ -180,6 +180,17 @@ pub fn sizes_in_range(cells: usize, slots: usize, channels: usize) -> Outcome<()
     }
 }
 
+/// A site of this size with these loads and ranges, as the tests name it.
+#[cfg(test)]
+pub fn site_of(slots: usize, channels: usize, loads: &[u16], pairs: &[(usize, usize)]) -> Site {
+    let mut site = Site::sized(loads.len(), slots, channels);
+    site.loads[..loads.len()].copy_from_slice(loads);
+    for &(from, to) in pairs {
+        site = site.with_reach(from, to, true).unwrap();
+    }
+    site
+}
+
 #[cfg(test)]
 mod tests {
     use super::*;

@@ -60,16 +60,7 @@ fn will_do(thing: &str, least: u64, enough: u64, has: u64) -> String {
 mod tests {
     use super::*;
     use crate::room::rooms;
-    use crate::site::set_of;
-
-    fn site_of(slots: usize, channels: usize, loads: &[u16], pairs: &[(usize, usize)]) -> Site {
-        let mut site = Site::sized(loads.len(), slots, channels);
-        site.loads[..loads.len()].copy_from_slice(loads);
-        for &(from, to) in pairs {
-            site = site.with_reach(from, to, true).unwrap();
-        }
-        site
-    }
+    use crate::site::{set_of, site_of};
 
     fn lines(site: &Site) -> String {
         room_lines(site, &rooms(site, 10).unwrap())

@@ -2,10 +2,10 @@
 //! or a byte long; a site that is too large to search; every size of a site; sets with no cell, with every cell and with
 //! cells that the site does not have; and every site of four cells with loads 0 to 2 on one to three positions.
 
-use crate::boundary::{every_tunnel, small_site, wrong_sites};
+use crate::boundary::{every_tunnel, wrong_sites};
 use crate::case::{Call, Case};
 use crate::run::Run;
-use second::search::search;
+use crate::search_limits::with_its_tries;
 use second::site::{set_of, Site};
 
 pub fn compare(run: &mut Run) {
@@ -79,19 +79,12 @@ fn every_set(run: &mut Run, site: &Site) {
 
 /// Each site with the tries that it needs, one less and one more; and each set of its cells, with a fifth that it has not.
 pub fn every_small_site(run: &mut Run) {
-    for slots in 1..=3 {
-        for clashes in 0..64 {
-            for loads in 0..81 {
-                let site = small_site(4, slots, clashes, loads);
-                let Ok((_, tries)) = search(&site, u64::MAX, &mut vec![0; site.table_len()]) else { continue };
-                for limit in [0, tries.saturating_sub(1), tries, tries + 1] {
-                    let table = vec![0x5A; site.table_len()];
-                    run.compare(&Case::of(Call::Find, site).limit(limit).output(&table, tries));
-                }
-                for cells in 0..32 {
-                    run.compare(&Case::of(Call::OverFull, site).cells(cells));
-                }
-            }
+    with_its_tries(|site, tries| {
+        for limit in [0, tries.saturating_sub(1), tries, tries + 1] {
+            run.compare(&Case::of(Call::Find, site).limit(limit).output(&vec![0x5A; site.table_len()], tries));
         }
-    }
+        for cells in 0..32 {
+            run.compare(&Case::of(Call::OverFull, site).cells(cells));
+        }
+    });
 }

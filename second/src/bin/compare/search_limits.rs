@@ -53,19 +53,25 @@ fn ask(run: &mut Run, site: Site, limit: u64) {
     }
 }
 
-/// Each site with the tries that it needs, one less and one more.
-pub fn every_small_site(run: &mut Run) {
+/// Each site of four cells with loads 0 to 2 on one to three positions, and the tries that it needs.
+pub fn with_its_tries(mut each: impl FnMut(Site, u64)) {
     for slots in 1..=3 {
         for clashes in 0..64 {
             for loads in 0..81 {
                 let site = small_site(4, slots, clashes, loads);
-                let Ok((_, tries)) = search(&site, u64::MAX, &mut vec![0; site.table_len()]) else { continue };
-                for limit in [tries.saturating_sub(1), tries, tries + 1] {
-                    run.compare(
-                        &Case::of(Call::Search, site).limit(limit).output(&vec![0x5A; site.table_len()], tries),
-                    );
+                if let Ok((_, tries)) = search(&site, u64::MAX, &mut vec![0; site.table_len()]) {
+                    each(site, tries);
                 }
             }
         }
     }
+}
+
+/// Each site with the tries that it needs, one less and one more.
+pub fn every_small_site(run: &mut Run) {
+    with_its_tries(|site, tries| {
+        for limit in [tries.saturating_sub(1), tries, tries + 1] {
+            run.compare(&Case::of(Call::Search, site).limit(limit).output(&vec![0x5A; site.table_len()], tries));
+        }
+    });
 }
