@@ -5,6 +5,7 @@ mod asked;
 mod audits;
 mod flows;
 mod input;
+mod reports;
 mod rooms;
 mod sheets;
 mod verdict;
@@ -25,9 +26,12 @@ use crate::search::{self, End};
 use crate::share::{share as share_by_default, share_of, Fragments, Repeats, Share, Slots, NO_REPEATS_GIVEN};
 use crate::sheet::{read_sheet, write_sheet};
 use crate::site::{Positions, Site};
-pub use asked::{audit, check_all, clashes, diff, find, made_line, room, set, tidy, why, AuditFile, Ended};
+pub use asked::{
+    audit, check_all, clashes, diff, find, made_line, picture, room, set, show, tidy, why, AuditFile, Ended,
+};
 pub use input::Input;
 use input::Kind;
+pub use reports::report;
 pub use sheets::bad_line_told;
 pub use verdict::last_word;
 use wording::{

@@ -56,6 +56,7 @@ pub mod SheetOne
 pub mod TidyingOne
 pub mod SpeechOne
 pub mod PhrasesOne
+pub mod EscapingOne
 pub mod InputsOne
 pub mod SayRefusalsOne
 pub mod SayChangesOne
@@ -64,10 +65,19 @@ pub mod SayListingOne
 pub mod ListingOne
 pub mod SayVerdictsOne
 pub mod SayFaultsOne
+pub mod SaySlotsOne
+pub mod SayRangeOne
+pub mod SayLoadsOne
+pub mod SayPictureOne
+pub mod SayReportOne
 pub mod SayFlowsheetOne
 pub mod SaySheetsOne
 pub mod SayNumberingOne
 pub mod SayEditsOne
+pub mod PlacesOne
+pub mod SayGridOne
+pub mod SayRunsOne
+pub mod SayCellsOne
 pub mod SayHandheldOne
 pub mod SaySearchOne
 pub mod SayFindOne

@@ -56,6 +56,7 @@ pub mod SheetSays
 pub mod TidyingSays
 pub mod SpeechSays
 pub mod PhrasesSays
+pub mod EscapingSays
 pub mod InputsSays
 pub mod SayRefusalsSays
 pub mod SayChangesSays
@@ -64,10 +65,19 @@ pub mod SayListingSays
 pub mod ListingSays
 pub mod SayVerdictsSays
 pub mod SayFaultsSays
+pub mod SaySlotsSays
+pub mod SayRangeSays
+pub mod SayLoadsSays
+pub mod SayPictureSays
+pub mod SayReportSays
 pub mod SayFlowsheetSays
 pub mod SaySheetsSays
 pub mod SayNumberingSays
 pub mod SayEditsSays
+pub mod PlacesSays
+pub mod SayGridSays
+pub mod SayRunsSays
+pub mod SayCellsSays
 pub mod SayHandheldSays
 pub mod SaySearchSays
 pub mod SayFindSays

@@ -13,6 +13,26 @@ ghost use lib.ListN.{length};
 // The descriptor of the third input.
 const THIRD: i32 = 6;
 
+// The commands that say what is in a plan, and write none; whether it is one of them.
+fn seen_asked(
+    input: &[u8],
+    second: &[u8],
+    third: &[u8],
+    old: &mut [u8],
+    table: &mut [u8],
+    text: &mut [u8],
+) -> bool
+    requires { ⌜ 65536 ≤ length (now text) ⌝ }
+{
+    if showdesk::show_commands(input, second, table, text) {
+        return true;
+    }
+    if picturedesk::picture_commands(input, second, table, text) {
+        return true;
+    }
+    listdesk::list_commands(input, second, third, old, table, text)
+}
+
 // The commands that look at a plan; whether it is one of them.
 fn plan_asked(
     input: &[u8],
@@ -25,7 +45,7 @@ fn plan_asked(
 ) -> bool
     requires { ⌜ 65536 ≤ length (now text) ⌝ }
 {
-    if listdesk::list_commands(input, second, third, old, table, text) {
+    if seen_asked(input, second, third, old, table, text) {
         return true;
     }
     if plandesk::plan_commands(input, second, old, table, out, text) {
@@ -51,6 +71,20 @@ fn site_asked(input: &[u8], table: &mut [u8], out: &mut [u8], text: &mut [u8]) -
     setdesk::set_commands(input, out, text)
 }
 
+// The commands on flows, on all sites at once, and the parts of a report; whether it is one of them.
+fn text_asked(input: &[u8], second: &[u8], text: &mut [u8]) -> bool
+    requires { ⌜ 65536 ≤ length (now text) ⌝ }
+    requires { ⌜ length (now input) ≤ 65536 ⌝ }
+{
+    if flowdesk::flow_commands(input, second, text) {
+        return true;
+    }
+    if auditdesk::audit_commands(input, text) {
+        return true;
+    }
+    reportdesk::report_commands(input, text)
+}
+
 // Does what the command says: each of the desk's crates knows its own commands.
 fn answer(
     input: &[u8],
@@ -68,10 +102,7 @@ fn answer(
     if site_asked(input, table, out, text) {
         return;
     }
-    if flowdesk::flow_commands(input, second, text) {
-        return;
-    }
-    if auditdesk::audit_commands(input, text) {
+    if text_asked(input, second, text) {
         return;
     }
     if plan_asked(input, second, third, old, table, out, text) {

@@ -1,4 +1,4 @@
-//! What the desk asks all day: `find`, `why`, `room`, `set`, `clashes`, `check --all`, `diff`, `tidy` and `audit`.
+//! What the desk asks all day: `find`, `why`, `room`, `set`, `clashes`, `check --all`, `diff`, `show`, `tidy` and `audit`.
 
 use super::audits::{audit_line, csv_line, total_lines, CSV_FIRST};
 use super::input::{Input, Kind};
@@ -6,7 +6,7 @@ use super::rooms::room_lines;
 use super::sheets::{change_lines, not_tidied};
 use super::verdict::{find_line, status};
 use super::why::why as why_lines;
-use super::wording::{change_line, counted, refused, sends_wrongly, sizes, Place};
+use super::wording::{change_line, counted, no_room, refused, sends_wrongly, sizes, Place};
 use super::{seen, site_and_table, site_in, written, MOST_BYTES};
 use crate::audit::{self, Totals};
 use crate::checker;
@@ -15,7 +15,10 @@ use crate::edits::{read_edits, set as edited_site, BadWords, NotSet};
 use crate::files::{write_plan, write_site};
 use crate::find::find as found_for;
 use crate::mender;
+use crate::picture::picture as picture_of;
+use crate::planner;
 use crate::room::rooms;
+use crate::show::{shown, Form};
 use crate::site::Site;
 use crate::tidy::tidied;
 
@@ -150,6 +153,38 @@ pub fn check_all(site_file: Input, plan_file: Input) -> Ended {
         text += &format!("not valid: {} wrong\n", counted(faults.len() as u64, "thing"));
         lines(text, 1)
     }))
+}
+
+/// A plan in a form, or the plan that is made; of one that is not valid the first thing wrong besides.
+pub fn show(site_file: Input, plan_file: Option<Input>, form: Form) -> Ended {
+    of_plan(site_file, plan_file, |site, table| shown(site, table, form))
+}
+
+/// The same as a picture. Where the planner finds no room nobody sends in it, and the planner's words are said besides.
+pub fn picture(site_file: Input, plan_file: Option<Input>) -> Ended {
+    if plan_file.is_some() {
+        return of_plan(site_file, plan_file, picture_of);
+    }
+    ended(site_in(site_file).map(|site| {
+        let mut table = vec![0; site.table_len()];
+        let words = planner::plan(&site, &mut table).map_or_else(|no| no_room(&no), |_| String::new());
+        Ended { result: picture_of(&site, &table).into_bytes(), words, status: 0 }
+    }))
+}
+
+fn of_plan(site_file: Input, plan_file: Option<Input>, text: impl Fn(&Site, &[u8]) -> String) -> Ended {
+    let all = || -> Result<Ended, String> {
+        let Some(plan_file) = plan_file else {
+            let site = site_in(site_file)?;
+            let mut table = vec![0; site.table_len()];
+            planner::plan(&site, &mut table).map_err(|no| no_room(&no))?;
+            return Ok(lines(text(&site, &table), 0));
+        };
+        let (site, table) = site_and_table(site_file, plan_file)?;
+        let words = checker::check(&site, &table).map_or_else(|no| sends_wrongly(&site, &no), |_| String::new());
+        Ok(Ended { result: text(&site, &table).into_bytes(), words, status: 0 })
+    };
+    ended(all())
 }
 
 /// The site is read first, then the first plan, then the second.

@@ -11,6 +11,7 @@ mod random;
 mod sites;
 
 use second::desk::{self, AuditFile, Done, Ended, Input, Told};
+use second::show::Form;
 use second::site::RULE_1;
 use std::fs;
 use std::io::{self, Write};
@@ -22,6 +23,9 @@ fn main() -> ExitCode {
     let told = match words[..] {
         ["make", kind, seed] => made(kind, seed),
         ["audit", ref words @ ..] => audited(words),
+        ["show", ref words @ ..] => shown(words),
+        ["report", ref words @ ..] => reported(words),
+        ["picture", ref words @ ..] => drawn(words),
         [command, ..] if ASKED.contains(&command) || words.contains(&"--all") => asked(&words),
         _ => said(&words),
     };
@@ -167,6 +171,59 @@ fn audited(words: &[&str]) -> io::Result<Said> {
         fs::write(csv, sheet)?;
     }
     Ok(Said::Ended(end))
+}
+
+/// `show SITE [PLAN] [--cells] [--csv]`. The width is what COLUMNS says, or that of no terminal.
+fn shown(words: &[&str]) -> io::Result<Said> {
+    let width = std::env::var("COLUMNS").ok().and_then(|width| width.parse().ok()).unwrap_or(80);
+    let (mut names, mut form) = (Vec::new(), Form::Grid(width));
+    for &word in words {
+        match word {
+            "--cells" => form = Form::Cells,
+            "--csv" => form = Form::Sheet,
+            name => names.push(name),
+        }
+    }
+    let files = names.iter().map(fs::read).collect::<io::Result<Vec<_>>>()?;
+    let mut inputs = names.iter().zip(&files).map(|(name, bytes)| Input { name, bytes });
+    Ok(match inputs.next() {
+        Some(site) => Said::Ended(desk::show(site, inputs.next(), form)),
+        None => wrong(),
+    })
+}
+
+/// `report SITE [PLAN] [--flows FLOWS]`. The page goes to standard output.
+fn reported(words: &[&str]) -> io::Result<Said> {
+    let (mut names, mut flows, mut left) = (Vec::new(), None, words);
+    loop {
+        left = match *left {
+            [] => break,
+            ["--flows", name, ref more @ ..] => {
+                flows = Some((name, fs::read(name)?));
+                more
+            }
+            [name, ref more @ ..] => {
+                names.push((name, fs::read(name)?));
+                more
+            }
+        };
+    }
+    let mut inputs = names.iter().map(|(name, bytes)| Input { name, bytes });
+    let flows = flows.as_ref().map(|(name, bytes)| Input { name, bytes });
+    Ok(match inputs.next() {
+        Some(site) => Said::Ended(desk::report(site, inputs.next(), flows, TRIES)),
+        None => wrong(),
+    })
+}
+
+/// `picture SITE [PLAN]`
+fn drawn(names: &[&str]) -> io::Result<Said> {
+    let files = names.iter().map(fs::read).collect::<io::Result<Vec<_>>>()?;
+    let mut inputs = names.iter().zip(&files).map(|(name, bytes)| Input { name, bytes });
+    Ok(match inputs.next() {
+        Some(site) => Said::Ended(desk::picture(site, inputs.next())),
+        None => wrong(),
+    })
 }
 
 /// A file by itself, or the site files of a folder.

@@ -1,0 +1,4 @@
+-- The definitions of crate `places`, module by module.
+pub mod Lines
+pub mod Places
+pub mod Read

@@ -1,0 +1,2 @@
+-- The laws of crate `readback`, module by module.
+pub mod Back

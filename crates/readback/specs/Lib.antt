@@ -1,0 +1,2 @@
+-- The definitions of crate `readback`, module by module.
+pub mod Back

@@ -1,0 +1,1 @@
+-- The laws of crate `say_cells`, module by module.

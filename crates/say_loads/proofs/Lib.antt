@@ -1,0 +1,2 @@
+-- The laws of crate `say_loads`, module by module.
+pub mod Ready

@@ -1,0 +1,1 @@
+-- The definitions of crate `say_picture`, module by module.

@@ -1,0 +1,1 @@
+-- The laws of crate `say_range`, module by module.

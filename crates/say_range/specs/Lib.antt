@@ -1,0 +1,1 @@
+-- The definitions of crate `say_range`, module by module.

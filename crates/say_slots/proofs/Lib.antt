@@ -1,0 +1,2 @@
+-- The laws of crate `say_slots`, module by module.
+pub mod Ready

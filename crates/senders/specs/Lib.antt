@@ -1,0 +1,2 @@
+-- The definitions of crate `senders`, module by module.
+pub mod Read
