@@ -386,7 +386,7 @@ fn audit_listed(i: usize, tries: u64) -> bool {
     let n = os::arg(i, &mut name);
     let mut text = io::large_buffer();
     let at = say_audit::put_shown(&mut text, 0, &name[..n]);
-    let to = say_csv::put_name(&mut text, SHEET, &name[..n]);
+    let to = quoting::put_name(&mut text, SHEET, &name[..n]);
     audit_named(&mut name, n, tries, at, to, &mut text)
 }
 

@@ -63,6 +63,7 @@ pub mod SayChangesOne
 pub mod SayDiffOne
 pub mod SayListingOne
 pub mod ListingOne
+pub mod SayWaysOne
 pub mod SayVerdictsOne
 pub mod SayFaultsOne
 pub mod SaySlotsOne
@@ -85,10 +86,12 @@ pub mod SayRuleOne
 pub mod SayClashesOne
 pub mod SayFlowsOne
 pub mod AuditingOne
+pub mod WhyrowsOne
 pub mod SayWhyOne
 pub mod SayRoomOne
 pub mod SayAuditOne
 pub mod SayTallyOne
+pub mod QuotingOne
 pub mod SayCsvOne
 pub mod ToldOne
 pub mod ToldfilesOne

@@ -5,11 +5,10 @@ use mathlib.Core.List.{List}
 use Prim.Native.Nat.{_+_, ℕ}
 use Rattle.auditing.specs.declared.Extent.{Extent}
 use Rattle.auditing.specs.declared.Form.{Form}
-use Rattle.contracts.specs.SayCsvSays.{SayCsvPutFirst, SayCsvPutName, SayCsvPutPlanFields, SayCsvPutRefusedFields, SayCsvPutSite, SayCsvPutUnreadFields}
+use Rattle.contracts.specs.SayCsvSays.{SayCsvPutFirst, SayCsvPutPlanFields, SayCsvPutRefusedFields, SayCsvPutSite, SayCsvPutUnreadFields}
 use Rattle.finder.specs.declared.FindAnswer.{FindAnswer}
 use Rattle.records.specs.declared.ReadAnswer.{ReadAnswer}
 use Rattle.say_csv.specs.Fields.{firstLine, planField, refusedLineFields, siteFields, unreadFields}
-use Rattle.say_csv.specs.Names.{quotedName}
 use Rattle.say_csv.specs.declared.PlanTold.{PlanTold}
 use Rattle.site.specs.declared.Site.{Site}
 use lib.ListN.{length}
@@ -22,17 +21,6 @@ pub sayCsvPutFirst-one : (out : List ℕ) (at : ℕ)
 sayCsvPutFirst-one out at = (
   at + length firstLine,
   sets out at firstLine,
-  record { answer = refl; out-after = refl },
-  λ q out″ says. (says .answer, says .out-after),
-)
-
--- say_csv::put_name
-pub sayCsvPutName-one : (out : List ℕ) (at : ℕ) (name : List ℕ)
-    → (r : ℕ) × (out′ : List ℕ) × (SayCsvPutName out at name r out′)
-    × ((q : ℕ) (out″ : List ℕ) → SayCsvPutName out at name q out″ → (q ≡ r) × (out″ ≡ out′))
-sayCsvPutName-one out at name = (
-  at + length (quotedName name),
-  sets out at (quotedName name),
   record { answer = refl; out-after = refl },
   λ q out″ says. (says .answer, says .out-after),
 )

@@ -6,8 +6,8 @@ use Prim.Native.Nat.{_+_, ℕ}
 use Rattle.contracts.specs.SayFindSays.{SayFindFindWhy, SayFindPutFind, SayFindPutLast, SayFindPutLastLine, SayFindStatus}
 use Rattle.finder.specs.Find.{findAnswer, findTable}
 use Rattle.finder.specs.declared.FindAnswer.{FindAnswer}
-use Rattle.say_find.specs.Find.{findSaid, lastLine, statusOf, whyTries}
-use Rattle.say_find.specs.Last.{lastWord}
+use Rattle.finds.specs.Find.{findSaid, lastLine, statusOf, whyTries}
+use Rattle.finds.specs.Last.{lastWord}
 use Rattle.site.specs.declared.Site.{Site}
 use lib.ListN.{length}
 use lib.Seq.{sets}

@@ -63,6 +63,7 @@ pub mod SayChangesSays
 pub mod SayDiffSays
 pub mod SayListingSays
 pub mod ListingSays
+pub mod SayWaysSays
 pub mod SayVerdictsSays
 pub mod SayFaultsSays
 pub mod SaySlotsSays
@@ -85,10 +86,12 @@ pub mod SayRuleSays
 pub mod SayClashesSays
 pub mod SayFlowsSays
 pub mod AuditingSays
+pub mod WhyrowsSays
 pub mod SayWhySays
 pub mod SayRoomSays
 pub mod SayAuditSays
 pub mod SayTallySays
+pub mod QuotingSays
 pub mod SayCsvSays
 pub mod ToldSays
 pub mod ToldfilesSays

@@ -8,7 +8,6 @@ use Rattle.auditing.specs.declared.Form.{Form}
 use Rattle.finder.specs.declared.FindAnswer.{FindAnswer}
 use Rattle.records.specs.declared.ReadAnswer.{ReadAnswer}
 use Rattle.say_csv.specs.Fields.{firstLine, planField, refusedLineFields, siteFields, unreadFields}
-use Rattle.say_csv.specs.Names.{quotedName}
 use Rattle.say_csv.specs.declared.PlanTold.{PlanTold}
 use Rattle.site.specs.declared.Site.{Site}
 use lib.ListN.{length}
@@ -18,11 +17,6 @@ use lib.Seq.{sets}
 pub record SayCsvPutFirst (out : List ℕ) (at : ℕ) (r : ℕ) (out′ : List ℕ) : Type 0 where
   pub answer : r ≡ at + length firstLine
   pub out-after : out′ ≡ sets out at firstLine
-
--- say_csv::put_name
-pub record SayCsvPutName (out : List ℕ) (at : ℕ) (name : List ℕ) (r : ℕ) (out′ : List ℕ) : Type 0 where
-  pub answer : r ≡ at + length (quotedName name)
-  pub out-after : out′ ≡ sets out at (quotedName name)
 
 -- say_csv::put_refused_fields
 pub record SayCsvPutRefusedFields (out : List ℕ) (at : ℕ) (reply : ReadAnswer) (r : ℕ) (out′ : List ℕ) : Type 0 where

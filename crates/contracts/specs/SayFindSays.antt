@@ -5,8 +5,8 @@ use mathlib.Core.List.{List}
 use Prim.Native.Nat.{_+_, ℕ}
 use Rattle.finder.specs.Find.{findAnswer, findTable}
 use Rattle.finder.specs.declared.FindAnswer.{FindAnswer}
-use Rattle.say_find.specs.Find.{findSaid, lastLine, statusOf, whyTries}
-use Rattle.say_find.specs.Last.{lastWord}
+use Rattle.finds.specs.Find.{findSaid, lastLine, statusOf, whyTries}
+use Rattle.finds.specs.Last.{lastWord}
 use Rattle.site.specs.declared.Site.{Site}
 use lib.ListN.{length}
 use lib.Seq.{sets}

@@ -21,7 +21,7 @@ use Rattle.phrases.specs.declared.Phrase.{Phrase}
 use Rattle.phrases.specs.declared.Phrase.the-variants.{Row}
 use Rattle.verdicts.specs.Said.{readSaid, checkSaid}
 use Rattle.verdicts.specs.declared.File.the-variants.{SiteFile, PlanFile}
-use Rattle.say_find.specs.Last.{lastWord}
+use Rattle.finds.specs.Last.{lastWord}
 use Rattle.say_audit.specs.Lines.{auditLines, chainedForm, nestedForm, renumberedForm, neitherForm, takesOfRow, takesToRow, planRow, mendedWithRow}
 use Rattle.say_audit.specs.Lines.{mendNoRoomRow, notMendedRow, auditEndRow, twoWayRow, otherSizeRow, colonRow, unreadRow, unreadPlanRow}
 

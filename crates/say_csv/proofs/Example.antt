@@ -10,7 +10,6 @@ use Rattle.mender.specs.declared.MendAnswer.the-variants as mend
 use Rattle.finder.specs.declared.FindAnswer.the-variants as find
 use Rattle.phrases.specs.Phrases.{phrase}
 use Rattle.say_csv.specs.Lines.{csvLines}
-use Rattle.say_csv.specs.Names.{breaksField, hasBreak, twice, doubled, quotedName}
 use Rattle.say_csv.specs.Fields.{refusedLineFields, unreadFields, foundFields, planField}
 use Rattle.say_csv.specs.declared.PlanTold.the-variants as plan
 
@@ -36,10 +35,3 @@ plan-said :
     ∷ bytes ",0,0,0\r\n" ∷ bytes ",6,5,1\r\n" ∷ bytes ",7,,0\r\n" ∷ bytes ",22,12,0\r\n" ∷ []
 unfolding csvLines spoken decimal digitsOf
 plan-said = refl
-
--- a"b,c and a.site: 34 is the quote
-name-said :
-    quotedName (97 ∷ 34 ∷ 98 ∷ 44 ∷ 99 ∷ []) ∷ quotedName (bytes "a.site") ∷ []
-    ≡ (34 ∷ 97 ∷ 34 ∷ 34 ∷ 98 ∷ 44 ∷ 99 ∷ 34 ∷ []) ∷ bytes "a.site" ∷ []
-unfolding breaksField hasBreak twice doubled quotedName
-name-said = refl

@@ -1,3 +1,3 @@
 -- The laws of crate `say_csv`, module by module.
-pub mod Names
+pub mod Cells
 pub mod Example

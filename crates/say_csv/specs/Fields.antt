@@ -23,7 +23,7 @@ use Rattle.auditing.specs.declared.Extent.{Extent}
 use Rattle.phrases.specs.Phrases.{phrase}
 use Rattle.phrases.specs.declared.Phrase.{Phrase}
 use Rattle.phrases.specs.declared.Phrase.the-variants.{Silent, Row}
-use Rattle.say_find.specs.Last.{lowestOf}
+use Rattle.finds.specs.Last.{lowestOf}
 use Rattle.say_csv.specs.Lines.{csvFirst, csvLines, csvRefusedRow, csvUnreadRow, csvChainedRow, csvNestedRow, csvRenumberedRow, csvNeitherRow}
 use Rattle.say_csv.specs.Lines.{csvPlannedRow, csvAnewRow, csvSearchedRow, csvFullRow, csvExhaustedRow, csvUnknownRow, csvNotFoundRow}
 use Rattle.say_csv.specs.Lines.{csvLowestRow, csvLaterRow, csvTakesRow, csvNoPlanRow, csvPlanUnreadRow, csvSizeRow, csvPlanRefusedRow}

@@ -1,4 +1,3 @@
 -- The definitions of crate `say_csv`, module by module.
 pub mod Lines
-pub mod Names
 pub mod Fields

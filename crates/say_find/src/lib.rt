@@ -24,10 +24,10 @@ ghost use Rattle.finder.specs.Find.{findAnswer, findTable};
 ghost use Rattle.finder.specs.declared.FindAnswer.the-variants.{Full};
 ghost use Rattle.phrases.specs.Put.{Put};
 ghost use Rattle.phrases.specs.Phrases.{phrase, textOf, partIn};
-ghost use Rattle.say_find.specs.Lines.{lastLines, findLines};
-ghost use Rattle.say_find.specs.Last.{lowestOf, severalIn, namedPhrase, laterPhrase, laterSaid, lastPhrase, othersSaid, lastWord};
-ghost use Rattle.say_find.specs.Find.{foundSizes, needsRow, needsPhrase, unknownPhrase, besidePhrase};
-ghost use Rattle.say_find.specs.Find.{findRefused, foundSaid, findSaid, lastLine, whyTries, statusOf};
+ghost use Rattle.finds.specs.Lines.{lastLines, findLines};
+ghost use Rattle.finds.specs.Last.{lowestOf, severalIn, namedPhrase, laterPhrase, laterSaid, lastPhrase, othersSaid, lastWord};
+ghost use Rattle.finds.specs.Find.{foundSizes, needsRow, needsPhrase, unknownPhrase, besidePhrase};
+ghost use Rattle.finds.specs.Find.{findRefused, foundSaid, findSaid, lastLine, whyTries, statusOf};
 
 const PLANNED: usize = 0;
 

@@ -8,32 +8,26 @@ use records::ReadAnswer;
 use say_refusals::Place;
 use say_refusals::Sentence;
 use say_refusals::put_sentence;
+use say_ways::changes_sentence;
+use say_ways::clash_sentence;
 use shares::ShareAnswer;
 use sheet::SheetAnswer;
 use site::Fault;
 use site::Site;
 use site::within;
 use verdicts::File;
-use words::has;
 ghost use mathlib.Core.Path.{_≡_};
 ghost use Prim.Native.Nat.{_+_, _≤_};
 ghost use lib.ListN.{length};
 ghost use Rattle.phrases.specs.Put.{Put};
 ghost use Rattle.say_refusals.specs.Sentences.{sentence};
 ghost use Rattle.verdicts.specs.Lines.{verdictLines};
-ghost use Rattle.verdicts.specs.Said.{faultSentence, byteOf, readSentence, sheetSentence, loadNamed, reachNamed, waySentence, clashSentence};
-ghost use Rattle.verdicts.specs.Said.{blockedSentence};
-ghost use Rattle.verdicts.specs.Said.{checkSentence, planSentence, badFlowRow, shareSentence, changesSentence, mendSentence};
+ghost use Rattle.verdicts.specs.Said.{faultSentence, byteOf, readSentence, sheetSentence, loadNamed, blockedSentence};
+ghost use Rattle.verdicts.specs.Said.{checkSentence, planSentence, badFlowRow, shareSentence, mendSentence};
 ghost use Rattle.verdicts.specs.Said.{faultSaid, readSaid, sheetSaid, checkSaid, planSaid, shareSaid, mendSaid, otherPlanLine};
 ghost use Rattle.verdicts.specs.Said.{badListLine, repeatsLine};
 
 const VALID: usize = 0;
-
-const CLASH_FORTH: usize = 1;
-
-const CLASH_BACK: usize = 2;
-
-const CLASH_BOTH: usize = 3;
 
 const COUNT: usize = 4;
 
@@ -42,10 +36,6 @@ const PLANNED: usize = 5;
 const NO_ROOM: usize = 6;
 
 const KEPT_NO_ROOM: usize = 7;
-
-const UNCHANGED: usize = 8;
-
-const MENDED: usize = 9;
 
 const SHARE: usize = 10;
 
@@ -62,8 +52,6 @@ const OTHER_PLAN: usize = 15;
 const BLOCKED: usize = 16;
 
 const BAD_LIST: usize = 17;
-
-const CLASH_THIRD: usize = 18;
 
 const REPEATS_TAKEN: usize = 19;
 
@@ -168,59 +156,6 @@ fn load_of(site: Site, cell: usize) -> usize
     wide(loads[cell - 1])
 }
 
-// Whether one cell reaches another, by their numbers.
-fn reaches(site: Site, from: usize, to: usize) -> bool
-    ensures { λ r. ⌜ r ≡ reachNamed site from to ⌝ }
-{
-    if !within(from, 32) {
-        return false;
-    }
-    if !within(to, 32) {
-        return false;
-    }
-    let reach = site.reach;
-    has(reach[from - 1], to - 1)
-}
-
-// Which of two cells that clash reaches the other.
-fn way_sentence(
-    forth: bool,
-    back: bool,
-    a: usize,
-    c: usize,
-    slot: usize,
-    channel: usize,
-) -> Sentence
-    ensures { λ r. ⌜ r ≡ waySentence forth back a c slot channel ⌝ }
-{
-    if forth {
-        if back {
-            return Sentence::Plain(Phrase::Row(CLASH_BOTH, a, c, slot, channel));
-        }
-        return Sentence::Plain(Phrase::Row(CLASH_FORTH, a, c, slot, channel));
-    }
-    if back {
-        return Sentence::Plain(Phrase::Row(CLASH_BACK, a, c, slot, channel));
-    }
-    Sentence::Plain(Phrase::Row(CLASH_THIRD, a, c, slot, channel))
-}
-
-// Where a clash is, by slot and channel, and which of the two cells reaches the other; where neither does, both reach a third.
-fn clash_sentence(site: Site, p: usize, a: usize, c: usize) -> Sentence
-    ensures { λ r. ⌜ r ≡ clashSentence site p a c ⌝ }
-{
-    let channels = site.channels as usize;
-    if channels < 1 {
-        return Sentence::Refusal(6, Place::Nowhere);
-    }
-    if 65535 < p {
-        return Sentence::Refusal(6, Place::Nowhere);
-    }
-    let forth = reaches(site, a, c);
-    let back = reaches(site, c, a);
-    way_sentence(forth, back, a, c, p / channels + 1, p % channels + 1)
-}
-
 // A cell that sends at a blocked position, by slot and channel.
 fn blocked_sentence(site: Site, p: usize, cell: usize) -> Sentence
     ensures { λ r. ⌜ r ≡ blockedSentence site p cell ⌝ }
@@ -308,16 +243,6 @@ fn share_sentence(burst: usize, period: usize, reply: ShareAnswer) -> Sentence
         )),
         ShareAnswer::BigShare => Sentence::Refusal(16, Place::Nowhere),
     }
-}
-
-// How many changes there are, if any.
-fn changes_sentence(number: usize) -> Sentence
-    ensures { λ r. ⌜ r ≡ changesSentence number ⌝ }
-{
-    if number == 0 {
-        return Sentence::Plain(Phrase::Row(UNCHANGED, 0, 0, 0, 0));
-    }
-    Sentence::Plain(Phrase::Row(MENDED, number, 0, 0, 0))
 }
 
 // A table that was mended, or why not.

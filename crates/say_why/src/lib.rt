@@ -11,6 +11,8 @@ use positions::open_count;
 use putblocks::put_blocked;
 use site::Site;
 use text::put_text;
+use whyrows::chain_phrase;
+use whyrows::no_row;
 use words::has;
 ghost use mathlib.Core.Path.{_≡_};
 ghost use Prim.Native.Nat.{_+_, _*_, _≤_, _<_};
@@ -23,14 +25,10 @@ ghost use Rattle.planner.specs.Plan.{planTable};
 ghost use Rattle.heaviest.specs.declared.HeaviestAnswer.the-variants.{Done};
 ghost use Rattle.phrases.specs.Put.{Put};
 ghost use Rattle.phrases.specs.Phrases.{phrase, textOf, partIn};
-ghost use Rattle.why.specs.Lines.{whyLines, fullRow, gaveUpRow};
-ghost use Rattle.why.specs.Said.{openOf, chainPhrase, classPhrase, nestedPhrase, overPhrase, loadPhrase, planPhrase, leastNumber, willDo, hasRow};
+ghost use Rattle.why.specs.Lines.{whyLines};
+ghost use Rattle.why.specs.Said.{openOf, classPhrase, nestedPhrase, overPhrase, loadPhrase, planPhrase, leastNumber, willDo, hasRow};
 ghost use Rattle.why.specs.Said.{takesPhrase, setPhrase, cellPhrase, cellPhrases, fewest, sizeRow, sizePhrase, verdictsSaid, clashPhrases};
 ghost use Rattle.why.specs.Said.{sizesPhrases, texts, listLine, lastSaid, siteSaid, whySaid};
-
-const CHAINED: usize = 0;
-
-const BROKEN: usize = 1;
 
 const HOLDS: usize = 2;
 
@@ -39,10 +37,6 @@ const OVER: usize = 3;
 const OPEN_OVER: usize = 4;
 
 const PLANNED: usize = 5;
-
-const FULL: usize = 6;
-
-const GAVE_UP: usize = 7;
 
 const EXACT: usize = 8;
 
@@ -104,17 +98,6 @@ fn put(out: &mut [u8], at: usize, what: Phrase) -> usize
     put_line(out, at, what)
 }
 
-// Chained, or the triple that breaks it.
-fn chain_phrase(reply: ChainAnswer) -> Phrase
-    ensures { λ r. ⌜ r ≡ chainPhrase reply ⌝ }
-{
-    match reply {
-        ChainAnswer::Chained => Phrase::Row(CHAINED, 0, 0, 0, 0),
-        ChainAnswer::Broken(a, b, c) => Phrase::Row(BROKEN, a, b, c, 0),
-        ChainAnswer::Refused(_) => Phrase::Silent,
-    }
-}
-
 // Nested, or the triple that shows that it is not.
 fn class_phrase(class: ClassAnswer) -> Phrase
     ensures { λ r. ⌜ r ≡ classPhrase class ⌝ }
@@ -157,16 +140,6 @@ fn load_phrase(class: ClassAnswer, reply: LoadAnswer) -> Phrase
         LoadAnswer::Over(cell, excess) => over_phrase(class, cell, excess),
         LoadAnswer::Refused(_) => Phrase::Silent,
     }
-}
-
-// The row of a no: full where the heaviest clash is above the open positions.
-fn no_row(l: usize, n: usize) -> usize
-    ensures { λ r. ⌜ r ≡ pick (ltb n l) fullRow gaveUpRow ⌝ }
-{
-    if n < l {
-        return FULL;
-    }
-    GAVE_UP
 }
 
 // Planned or not, and what a no means.

@@ -4,7 +4,7 @@ use Prim.Native.Nat.{_≤_, _<_}
 use native.Mathlib.Omega.{arith}
 use borrow.Author.Needs.{needs}
 use borrow.Author.Tests.{lt-ltb, le-ltb, not-true, not-false}
-use Rattle.say_find.specs.Last.{lowestOf}
+use Rattle.finds.specs.Last.{lowestOf}
 use Rattle.say_csv.specs.Fields.{cellField}
 use Rattle.say_csv.proofs.cell_field.Statement.{statement}
 use Rattle.say_csv.proofs.cell_field.Tie as tie

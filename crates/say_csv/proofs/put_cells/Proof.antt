@@ -6,7 +6,7 @@ use borrow.Author.Needs.{needs}
 use Rattle.phrases.specs.Put.{Put}
 use Rattle.phrases.proofs.Put.{put-both, put-wide, put-none, put-long}
 use Rattle.say_csv.specs.Fields.{cellsField}
-use Rattle.say_csv.proofs.Names.{cells-more}
+use Rattle.say_csv.proofs.Cells.{cells-more}
 use Rattle.say_csv.proofs.put_cells.Statement.{statement}
 use Rattle.say_csv.proofs.put_cells.Tie as tie
 

@@ -1,7 +1,7 @@
 -- `say_find::fragments_of` meets its contract: past the cells of an accepted site no cell has a load. Assumes nothing.
 use mathlib.Core.Path.{_∙_}
 use borrow.Author.Needs.{needs}
-use Rattle.say_find.proofs.Loads.{loads-all}
+use Rattle.finds.proofs.Loads.{loads-all}
 use Rattle.say_find.proofs.fragments_of.Statement.{statement}
 use Rattle.say_find.proofs.fragments_of.Tie as tie
 

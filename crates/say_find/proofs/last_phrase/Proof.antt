@@ -1,7 +1,7 @@
 -- `say_find::last_phrase` meets its contract: an arm for each answer. Assumes nothing.
 use mathlib.Core.Path.{_∙_, ap, sym}
 use borrow.Author.Needs.{needs}
-use Rattle.say_find.specs.Last.{lastPhrase}
+use Rattle.finds.specs.Last.{lastPhrase}
 use Rattle.say_find.proofs.last_phrase.Statement.{statement}
 use Rattle.say_find.proofs.last_phrase.Tie as tie
 

@@ -5,7 +5,7 @@ use Prim.Native.Nat.{_≤_, _<_}
 use native.Mathlib.Omega.{arith}
 use borrow.Author.Needs.{needs}
 use borrow.Author.Tests.{lt-ltb, le-ltb}
-use Rattle.say_find.specs.Last.{lowestOf, laterPhrase}
+use Rattle.finds.specs.Last.{lowestOf, laterPhrase}
 use Rattle.say_find.proofs.later_phrase.Statement.{statement}
 use Rattle.say_find.proofs.later_phrase.Tie as tie
 

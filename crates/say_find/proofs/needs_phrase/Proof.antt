@@ -3,7 +3,7 @@ use mathlib.Core.Path.{_≡_, sym, ap, _∙_}
 use native.Mathlib.Omega.{arith}
 use Rattle.site.proofs.Faults.{fine-sized, few-positions}
 use borrow.Author.Needs.{needs}
-use Rattle.say_find.specs.Find.{needsPhrase}
+use Rattle.finds.specs.Find.{needsPhrase}
 use Rattle.say_find.proofs.needs_phrase.Statement.{statement}
 use Rattle.say_find.proofs.needs_phrase.Tie as tie
 

@@ -4,7 +4,7 @@ use native.Mathlib.Omega.{arith}
 use borrow.Author.Needs.{needs}
 use Rattle.phrases.proofs.Put.{put-wide}
 use Rattle.phrases.proofs.Table.{phrase-room}
-use Rattle.say_find.specs.Lines.{lastLines}
+use Rattle.finds.specs.Lines.{lastLines}
 use Rattle.say_find.proofs.put.Statement.{statement}
 use Rattle.say_find.proofs.put.Tie as tie
 

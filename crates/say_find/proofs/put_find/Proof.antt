@@ -6,7 +6,7 @@ use Rattle.site.specs.declared.Fault.the-variants.{Fine}
 use Rattle.site.proofs.Faults.{not-fine}
 use Rattle.phrases.proofs.Put.{put-wide}
 use borrow.Author.Needs.{needs}
-use Rattle.say_find.specs.Find.{findSaid}
+use Rattle.finds.specs.Find.{findSaid}
 use Rattle.say_find.proofs.put_find.Statement.{statement}
 use Rattle.say_find.proofs.put_find.Tie as tie
 

@@ -5,8 +5,8 @@ use native.Mathlib.Omega.{arith}
 use borrow.Author.Needs.{needs}
 use Rattle.phrases.specs.Put.{Put}
 use Rattle.phrases.proofs.Put.{put-both, put-wide, put-none, put-long}
-use Rattle.say_find.specs.Last.{laterSaid}
-use Rattle.say_find.proofs.Said.{later-more}
+use Rattle.finds.specs.Last.{laterSaid}
+use Rattle.finds.proofs.Said.{later-more}
 use Rattle.say_find.proofs.put_later.Statement.{statement}
 use Rattle.say_find.proofs.put_later.Tie as tie
 

@@ -3,7 +3,7 @@ use mathlib.Core.Path.{refl}
 use native.Mathlib.Omega.{arith}
 use borrow.Author.Needs.{needs}
 use Rattle.phrases.proofs.Table.{phrase-room, phrase-put}
-use Rattle.say_find.specs.Lines.{findLines}
+use Rattle.finds.specs.Lines.{findLines}
 use Rattle.say_find.proofs.put_line.Statement.{statement}
 use Rattle.say_find.proofs.put_line.Tie as tie
 

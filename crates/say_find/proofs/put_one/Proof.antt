@@ -2,7 +2,7 @@
 use native.Mathlib.Omega.{arith}
 use borrow.Author.Needs.{needs}
 use Rattle.phrases.proofs.Put.{put-wide}
-use Rattle.say_find.proofs.Said.{later-room}
+use Rattle.finds.proofs.Said.{later-room}
 use Rattle.say_find.proofs.put_one.Statement.{statement}
 use Rattle.say_find.proofs.put_one.Tie as tie
 

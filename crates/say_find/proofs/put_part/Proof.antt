@@ -3,7 +3,7 @@ use mathlib.Core.Path.{refl}
 use native.Mathlib.Omega.{arith}
 use borrow.Author.Needs.{needs}
 use Rattle.phrases.proofs.Table.{phrase-put}
-use Rattle.say_find.specs.Lines.{lastLines}
+use Rattle.finds.specs.Lines.{lastLines}
 use Rattle.say_find.proofs.put_part.Statement.{statement}
 use Rattle.say_find.proofs.put_part.Tie as tie
 

@@ -8,7 +8,7 @@ use borrow.Author.Tests.{le-ltb}
 use Rattle.laws.specs.Bits.{bitAt}
 use Rattle.laws.specs.Search.{first}
 use Rattle.laws.proofs.Search.{first-least}
-use Rattle.say_find.specs.Last.{lowestOf, severalIn}
+use Rattle.finds.specs.Last.{lowestOf, severalIn}
 use Rattle.say_find.proofs.several.Statement.{statement}
 use Rattle.say_find.proofs.several.Tie as tie
 

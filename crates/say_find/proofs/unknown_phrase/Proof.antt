@@ -1,7 +1,7 @@
 -- `say_find::unknown_phrase` meets its contract: a case for each way out. Assumes nothing.
 use mathlib.Core.Path.{sym, _∙_}
 use borrow.Author.Needs.{needs}
-use Rattle.say_find.specs.Find.{unknownPhrase}
+use Rattle.finds.specs.Find.{unknownPhrase}
 use Rattle.say_find.proofs.unknown_phrase.Statement.{statement}
 use Rattle.say_find.proofs.unknown_phrase.Tie as tie
 

@@ -1,0 +1,3 @@
+-- The laws of crate `quoting`, module by module.
+pub mod Names
+pub mod Example

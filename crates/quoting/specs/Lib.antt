@@ -1,0 +1,2 @@
+-- The definitions of crate `quoting`, module by module.
+pub mod Names
