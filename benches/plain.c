@@ -441,6 +441,17 @@ static dugg_plan_read refused_plan(unsigned number, size_t at)
     return (dugg_plan_read){0, 0, 0, answer(number, at, 0, 0)};
 }
 
+/* One byte of a plan as eight table bytes: a multiplication puts bit k of it into byte k, for all but the highest, and a
+ * mask clears the rest. */
+static void unpack_byte(uint8_t *table, uint8_t byte)
+{
+    uint64_t eight = ((uint64_t)(byte & 127) * 0x0002040810204081 & 0x0101010101010101) | (uint64_t)(byte >> 7) << 56;
+#if __BYTE_ORDER__ != __ORDER_LITTLE_ENDIAN__
+    eight = __builtin_bswap64(eight);
+#endif
+    memcpy(table, &eight, sizeof eight);
+}
+
 /* One byte of a plan as up to eight table bytes. */
 static void unpack(uint8_t *table, uint8_t byte, size_t bits)
 {
@@ -466,7 +477,7 @@ dugg_plan_read NAME(read_plan)(const uint8_t *bytes, size_t len, uint8_t *table,
     if (table_len < bits)
         return refused_plan(4, 0);
     for (size_t k = 0; k < bits / 8; k++)
-        unpack(table + 8 * k, body[k], 8);
+        unpack_byte(table + 8 * k, body[k]);
     if (bits % 8 != 0)
         unpack(table + bits / 8 * 8, body[size - 1], bits % 8);
     return (dugg_plan_read){s.cells, s.slots, s.channels, answer(0, 0, 0, 0)};

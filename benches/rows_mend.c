@@ -1,4 +1,4 @@
-/* Mending: a valid table, one with a tenth of its reservations moved, and noise, beside plain C. */
+/* Mending: a valid table, one with a tenth of its reservations moved, and noise, beside plain C and C on bit sets. */
 #include <stdio.h>
 #include <string.h>
 #include "bench.h"
@@ -76,7 +76,7 @@ static int agree(const order *o)
     int fine = 1;
     memset(&first, 0xA5, sizeof first);
     run(&makers[LIBRARY], o, &first);
-    for (int m = LIBRARY + 1; m <= C3; m++) {
+    for (int m = LIBRARY + 1; m < MAKERS; m++) {
         memset(&other, 0xA5, sizeof other);
         run(&makers[m], o, &other);
         if (memcmp(&first, &other, sizeof first) != 0) {
@@ -122,36 +122,45 @@ int mend_agree(void)
 
 /* ---- the table ---- */
 
-/* The last column only lays the table out: its time is taken from the others. */
 static void call(int column, const void *of)
 {
     static left l;
+    run(&makers[column], of, &l);
+}
+
+/* Lays the table out, and no more: the time of this is taken from the others. */
+static void lay_out(int column, const void *of)
+{
+    static left l;
     const order *o = of;
-    if (column == BITS)
-        memcpy(l.table, o->table, o->table_len);
-    else
-        run(&makers[column], o, &l);
+    (void)column;
+    memcpy(l.table, o->table, o->table_len);
 }
 
 void mend_table(void)
 {
-    static const char *const names[MAKERS] = {"library", "second", "C -O2", "C -O3"};
-    static const bool there[MAKERS] = {true, true, true, true, true};
-    double worst = 0;
+    static const bool all[MAKERS] = {true, true, true, true, true}, one[MAKERS] = {true};
+    const char *names[MAKERS];
+    double worst = 0, farthest = 0;
+    for (int m = 0; m < MAKERS; m++)
+        names[m] = makers[m].name;
     printf("\n### Mending a table\n\n");
     printf("The time of laying out the table that is mended is not in these.\n\n");
-    print_head("Call | Site, table and changes", names, BITS);
+    print_head("Call | Site, table and changes", names, MAKERS);
     for (int k = 0; k < ROWS; k++) {
         const order *o = &orders[k];
-        double best[MAKERS];
-        measure(call, o, there, best);
-        for (int m = 0; m < BITS; m++)
-            best[m] -= best[BITS];
+        double best[MAKERS], out[MAKERS];
+        measure(call, o, all, best);
+        measure(lay_out, o, one, out);
+        for (int m = 0; m < MAKERS; m++)
+            best[m] -= out[0];
         printf("| mend | %s; %s, %zu changes", o->site_name, o->kind, o->changes);
-        print_times(best, BITS);
+        print_times(best, MAKERS);
         if (o->table_len == MOST && best[LIBRARY] / best[C3] > worst)
             worst = best[LIBRARY] / best[C3];
+        if (o->table_len == MOST && best[LIBRARY] / best[BITS] > farthest)
+            farthest = best[LIBRARY] / best[BITS];
     }
-    printf("\nMending on the largest sites is %s a quarter of C -O3: the worst ratio is %.2f.\n",
-           worst <= 1.25 ? "within" : "NOT within", worst);
+    printf("\nMending on the largest sites is %s a quarter of C -O3: the worst ratio is %.2f. To C bits it is %.2f.\n",
+           worst <= 1.25 ? "within" : "NOT within", worst, farthest);
 }

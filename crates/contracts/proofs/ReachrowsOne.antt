@@ -4,7 +4,8 @@ use mathlib.Core.Path.{_≡_, refl}
 use mathlib.Core.Bool.{Bool}
 use mathlib.Core.List.{List}
 use Prim.Native.Nat.{ℕ}
-use Rattle.contracts.specs.ReachrowsSays.{ReachrowsBadRow, ReachrowsExtraLoad, ReachrowsFewRows, ReachrowsManyRows, ReachrowsPutBit, ReachrowsThirdRows}
+use Rattle.contracts.specs.ReachrowsSays.{ReachrowsBadRow, ReachrowsExtraLoad, ReachrowsFewRows, ReachrowsManyRows, ReachrowsPairClashes, ReachrowsPutBit}
+use Rattle.contracts.specs.ReachrowsSays.{ReachrowsThirdRows}
 use Rattle.laws.specs.Bits.{clearBit, setBit, wordOf}
 use Rattle.laws.specs.Choice.{pick}
 use Rattle.laws.specs.Part.{listOf}
@@ -60,6 +61,16 @@ pub reachrowsThirdRows-one : (reach : List ℕ) (cells : ℕ)
     × ((q : List ℕ) → ReachrowsThirdRows reach cells q → (q ≡ r))
 reachrowsThirdRows-one reach cells = (
   sets (replicate 32 0) 0 (listOf (λ a. wordOf (clashIn 2 reach a) cells) cells),
+  record { answer = refl },
+  λ q says. says .answer,
+)
+
+-- reachrows::pair_clashes
+pub reachrowsPairClashes-one : (reach : List ℕ) (rule : ℕ) (a : ℕ) (b : ℕ)
+    → (r : Bool) × (ReachrowsPairClashes reach rule a b r)
+    × ((q : Bool) → ReachrowsPairClashes reach rule a b q → (q ≡ r))
+reachrowsPairClashes-one reach rule a b = (
+  clashIn rule reach a b,
   record { answer = refl },
   λ q says. says .answer,
 )

@@ -33,6 +33,10 @@ pub record ReachrowsManyRows (reach : List ℕ) (cells : ℕ) (r : List ℕ) : T
 pub record ReachrowsThirdRows (reach : List ℕ) (cells : ℕ) (r : List ℕ) : Type 0 where
   pub answer : r ≡ sets (replicate 32 0) 0 (listOf (λ a. wordOf (clashIn 2 reach a) cells) cells)
 
+-- reachrows::pair_clashes
+pub record ReachrowsPairClashes (reach : List ℕ) (rule : ℕ) (a : ℕ) (b : ℕ) (r : Bool) : Type 0 where
+  pub answer : r ≡ clashIn rule reach a b
+
 -- reachrows::put_bit
 pub record ReachrowsPutBit (x : ℕ) (b : ℕ) (set : Bool) (r : ℕ) : Type 0 where
   pub answer : r ≡ pick set setBit clearBit x b

@@ -1,7 +1,7 @@
 -- Bits of a number and the number of some bits; the runs of bits and of bytes that the loops store, step by step.
 -- The arguments go bit by bit: half a number has its bits one place lower. Assumes nothing.
 use Prim.Native.Nat.{ℕ, zero, suc, _+_, _-_, _*_, _/_, _%_, _^_, _≤_, _<_}
-use mathlib.Core.Path.{_≡_, refl, sym, ap, _∙_}
+use mathlib.Core.Path.{_≡_, refl, sym, ap, ap₂, _∙_}
 use mathlib.Core.List.{List, [], _∷_, _++_}
 use mathlib.Core.Bool.{Bool, true, false}
 use native.Mathlib.Nat.{pow-succ', two-pow-succ, div-div-eq-div-mul, add-zero, zero-add, mul-assoc}
@@ -180,17 +180,30 @@ rest-end s t k n h =
     let e : n - k ≡ 0 = omega arith in
     rw e
 
--- the whole bytes and the rest
-pub bits-parts : (s t : List ℕ) (n : ℕ) → sets (sets t 0 (bitsFrom s 0 (8 * (n / 8)))) (8 * (n / 8)) (bitsFrom s (8 * (n / 8)) (n - 8 * (n / 8)))
-    ≡ sets t 0 (bitsFrom s 0 n)
-bits-parts s t n =
-    let m = 8 * (n / 8) in
-    let e : n ≡ m + (n - m) = omega arith in
+-- the bits below a place, and those from it on
+bits-join : (s t : List ℕ) (a m : ℕ) → a ≤ m → sets (sets t 0 (bitsFrom s 0 a)) a (bitsFrom s a (m - a)) ≡ sets t 0 (bitsFrom s 0 m)
+bits-join s t a m h =
+    let e : m ≡ a + (m - a) = omega arith in
     sym (ap (λ (k : ℕ). sets t 0 (bitsFrom s 0 k)) e
-    ∙ ap (sets t 0) (bits-split s m (n - m) 0)
-    ∙ sets-append t 0 (bitsFrom s 0 m) (bitsFrom s (0 + m) (n - m))
-    ∙ ap (λ (k : ℕ). sets (sets t 0 (bitsFrom s 0 m)) k (bitsFrom s (0 + m) (n - m))) (ap (λ (k : ℕ). 0 + k) (length-bits s m 0) ∙ zero-add m)
-    ∙ ap (λ (k : ℕ). sets (sets t 0 (bitsFrom s 0 m)) m (bitsFrom s k (n - m))) (zero-add m))
+    ∙ ap (sets t 0) (bits-split s a (m - a) 0)
+    ∙ sets-append t 0 (bitsFrom s 0 a) (bitsFrom s (0 + a) (m - a))
+    ∙ ap (λ (k : ℕ). sets (sets t 0 (bitsFrom s 0 a)) k (bitsFrom s (0 + a) (m - a))) (ap (λ (k : ℕ). 0 + k) (length-bits s a 0) ∙ zero-add a)
+    ∙ ap (λ (k : ℕ). sets (sets t 0 (bitsFrom s 0 a)) a (bitsFrom s k (m - a))) (zero-add a))
+
+-- the blocks, the whole bytes after them, and the rest
+pub bits-parts : (s t t₁ t₂ r : List ℕ) (n : ℕ)
+    → t₁ ≡ sets t 0 (bitsFrom s 0 (256 * (n / 256)))
+    → t₂ ≡ sets t₁ (8 * (32 * (n / 256))) (bitsFrom s (8 * (32 * (n / 256))) (8 * (n / 8 - 32 * (n / 256))))
+    → r ≡ sets t₂ (8 * (n / 8)) (bitsFrom s (8 * (n / 8)) (n - 8 * (n / 8)))
+    → r ≡ sets t 0 (bitsFrom s 0 n)
+bits-parts s t t₁ t₂ r n h₁ h₂ h₃ =
+    let a : 8 * (32 * (n / 256)) ≡ 256 * (n / 256) = omega arith in
+    let d : 8 * (n / 8 - 32 * (n / 256)) ≡ 8 * (n / 8) - 256 * (n / 256) = omega arith in
+    let e : t₂ ≡ sets t 0 (bitsFrom s 0 (8 * (n / 8))) =
+    h₂ ∙ ap₂ (λ (k m : ℕ). sets t₁ k (bitsFrom s k m)) a d
+    ∙ ap (λ (z : List ℕ). sets z (256 * (n / 256)) (bitsFrom s (256 * (n / 256)) (8 * (n / 8) - 256 * (n / 256)))) h₁
+    ∙ bits-join s t (256 * (n / 256)) (8 * (n / 8)) (omega arith) in
+    h₃ ∙ ap (λ (z : List ℕ). sets z (8 * (n / 8)) (bitsFrom s (8 * (n / 8)) (n - 8 * (n / 8)))) e ∙ bits-join s t (8 * (n / 8)) n (omega arith)
 
 -- ---- runs of bytes
 

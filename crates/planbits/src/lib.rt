@@ -1,13 +1,13 @@
-// The bits of a plan: a file byte holds the bits of eight table bytes. Unpacked by file byte, packed by blocks of 32.
+// The bits of a plan: a file byte holds the bits of eight table bytes. Packed and unpacked by blocks of 32 file bytes, and the rest by file byte.
 ghost use mathlib.Core.Path.{_≡_};
 ghost use mathlib.Core.List.{[], _∷_};
-ghost use Prim.Native.Nat.{_+_, _-_, _*_, _^_, _≤_, _<_};
+ghost use Prim.Native.Nat.{_+_, _-_, _*_, _%_, _^_, _≤_, _<_};
 ghost use lib.ListN.{length, take};
 ghost use lib.Seq.{sets};
-ghost use Rattle.laws.specs.Part.{Below};
+ghost use Rattle.laws.specs.Part.{Below, listOf};
 ghost use Rattle.records.specs.Bits.{bytesFor};
 ghost use Rattle.planbits.specs.Bits.{one, bitsFrom, ones, packedFrom};
-ghost use Rattle.planbits.specs.Block.{Runs, Joined};
+ghost use Rattle.planbits.specs.Block.{Runs, Joined, halfOf};
 
 // Stores the eight bits of x from table index k on.
 fn spread(table: &mut [u8], k: usize, x: u8)
@@ -24,12 +24,56 @@ fn spread(table: &mut [u8], k: usize, x: u8)
     table[k + 7] = x / 128 % 2;
 }
 
-// The bits of the first m bytes of a body, as table bytes.
-fn unpack_whole(body: &[u8], table: &mut [u8], m: usize)
-    requires { ⌜ (m ≤ length (now body)) × (8 * m ≤ length (now table)) ⌝ }
-    ensures { λ _. ⌜ now (table .exit) ≡ sets (now (table .entry)) 0 (bitsFrom (now (body .entry)) 0 (8 * m)) ⌝ }
+// The low c bits of a number.
+fn low_bits(x: u8, c: usize) -> u8
+    requires { ⌜ c ≤ 4 ⌝ }
+    ensures { λ r. ⌜ r ≡ x % 2 ^ c ⌝ }
+{
+    x % (1u8 << c)
+}
+
+// Stores n numbers of 2 c bits, from index k on, as 2 n of c bits each, from `at` on, the low half first. The compiler makes vector code of it.
+fn part_pairs(out: &mut [u8], at: usize, pairs: &[u8], k: usize, n: usize, c: usize)
+    requires { ⌜ (c ≤ 4) × (k + n ≤ length (now pairs)) × (at + 2 * n ≤ length (now out)) ⌝ }
+    ensures { λ _. ⌜ now (out .exit) ≡ sets (now (out .entry)) at (listOf (halfOf c (now (pairs .entry)) k) (2 * n)) ⌝ }
+{
+    for i in 0..n {
+        let x = pairs[k + i];
+        out[at + 2 * i] = low_bits(x, c);
+        out[at + 2 * i + 1] = low_bits(x >> c, c);
+    }
+}
+
+// The bits of 32 bytes of a body, from byte j on, as table bytes. Each pass parts each number into its halves.
+fn unpack_block(body: &[u8], table: &mut [u8], j: usize)
+    requires { ⌜ (j + 32 ≤ length (now body)) × (8 * j + 256 ≤ length (now table)) ⌝ }
+    ensures { λ _. ⌜ now (table .exit) ≡ sets (now (table .entry)) (8 * j) (bitsFrom (now (body .entry)) (8 * j) 256) ⌝ }
+{
+    let mut fours = [0u8; 64];
+    part_pairs(&mut fours, 0, body, j, 32, 4);
+    let mut twos = [0u8; 128];
+    part_pairs(&mut twos, 0, &fours, 0, 64, 2);
+    part_pairs(table, 8 * j, &twos, 0, 128, 1);
+}
+
+// The bits of the first b blocks of a body, 32 bytes each, as table bytes.
+fn unpack_blocks(body: &[u8], table: &mut [u8], b: usize)
+    requires { ⌜ (32 * b ≤ length (now body)) × (256 * b ≤ length (now table)) ⌝ }
+    ensures { λ _. ⌜ now (table .exit) ≡ sets (now (table .entry)) 0 (bitsFrom (now (body .entry)) 0 (256 * b)) ⌝ }
 {
     let mut j: usize = 0;
+    while j < b {
+        unpack_block(body, table, 32 * j);
+        j += 1;
+    }
+}
+
+// The bits of a body from byte `from` to m, as table bytes, byte by byte.
+fn unpack_whole(body: &[u8], table: &mut [u8], from: usize, m: usize)
+    requires { ⌜ (from ≤ m) × (m ≤ length (now body)) × (8 * m ≤ length (now table)) ⌝ }
+    ensures { λ _. ⌜ now (table .exit) ≡ sets (now (table .entry)) (8 * from) (bitsFrom (now (body .entry)) (8 * from) (8 * (m - from))) ⌝ }
+{
+    let mut j = from;
     while j < m {
         let x = body[j];
         spread(table, 8 * j, x);
@@ -56,8 +100,10 @@ pub fn unpack(body: &[u8], table: &mut [u8], n: usize)
     requires { ⌜ (n ≤ 8 * length (now body)) × (n ≤ length (now table)) ⌝ }
     ensures { λ _. ⌜ now (table .exit) ≡ sets (now (table .entry)) 0 (bitsFrom (now (body .entry)) 0 n) ⌝ }
 {
+    let b = n / 256;
+    unpack_blocks(body, table, b);
     let m = n / 8;
-    unpack_whole(body, table, m);
+    unpack_whole(body, table, 32 * b, m);
     unpack_rest(body, table, 8 * m, n);
 }
 

@@ -1,10 +1,12 @@
 -- A clash row as the code makes it: the cells that a reaches, joined with the word of those that reach it, and under rule 2 of those that reach a third cell
 -- with it. Two rows, each without its own cell, share a bit exactly where some third cell is reached by both. Assumes nothing.
-use Prim.Native.Nat.{ℕ, _<_}
+use Prim.Native.Nat.{ℕ, _<_, _^_}
 use native.Mathlib.Omega.{arith}
 use mathlib.Core.Bool.{Bool, true, false, not, _||_, _&&_, or-false}
 use mathlib.Core.List.{List}
 use mathlib.Core.Path.{_≡_, refl, sym, ap, ap₂, _∙_}
+use borrow.Author.Tests.{eq-eqb, ne-eqb}
+use lib.Bits.{bitAnd}
 use lib.Dec.{eqb}
 use lib.ListN.{getD, replicate}
 use lib.Seq.{sets}
@@ -15,7 +17,7 @@ use Rattle.laws.proofs.Any.{any-eq}
 use Rattle.laws.proofs.Bits.{bit-clear}
 use Rattle.laws.proofs.Choice.{eqb-sym}
 use Rattle.laws.proofs.Stores.{sets-at}
-use Rattle.laws.proofs.Words.{word-eq}
+use Rattle.laws.proofs.Words.{word-eq, word-bits, shares-any}
 use Rattle.reachrows.specs.Rows.{reaches, reachedByBoth, clashIn}
 
 pub row-rule : (rule : ℕ) (reach : List ℕ) (reached cells a : ℕ)
@@ -57,3 +59,40 @@ third reach a b m =
     (λ c. not (eqb c a) && (not (eqb c b) && (bitIn reach a c && bitIn reach b c))) 32
     (λ c h.
     ap₂ _&&_ (bit-clear (getD reach a 0) a c) (other-bit reach b c m) ∙ shuffle (not (eqb c a)) (not (eqb c b)) (bitIn reach a c) (bitIn reach b c))
+
+-- the same of two rows alone
+pub pair-third : (reach : List ℕ) (a b : ℕ)
+    → any (λ c. bitAt (clearBit (getD reach a 0) a) c && bitAt (clearBit (getD reach b 0) b) c) 32 ≡ reachedByBoth reach a b
+unfolding reachedByBoth reaches
+pair-third reach a b =
+    any-eq (λ c. bitAt (clearBit (getD reach a 0) a) c && bitAt (clearBit (getD reach b 0) b) c)
+    (λ c. not (eqb c a) && (not (eqb c b) && (bitIn reach a c && bitIn reach b c))) 32
+    (λ c h.
+    ap₂ _&&_ (bit-clear (getD reach a 0) a c) (bit-clear (getD reach b 0) b c)
+    ∙ shuffle (not (eqb c a)) (not (eqb c b)) (bitIn reach a c) (bitIn reach b c))
+
+-- a number of 32 bits and a row: what the code asks, and whether some bit is in both
+pub shared : (x row : ℕ) → x < 2 ^ 32 → not (eqb (bitAnd x row) 0) ≡ any (λ c. bitAt x c && bitAt row c) 32
+shared x row h = ap (λ (z : ℕ). not (eqb (bitAnd z row) 0)) (word-bits x 32 h) ∙ shares-any (bitAt x) 32 row
+
+-- ---- two cells, asked one thing after the other
+
+module _ (rule : ℕ) (reach : List ℕ) (a b : ℕ) where
+  pub pair-same : a ≡ b → false ≡ clashIn rule reach a b
+  unfolding clashIn
+  pair-same e = rw (eq-eqb a b e)
+
+  module _ (other : a ≡ b → ⊥) where
+    pub pair-reaches : bitIn reach a b ≡ true → true ≡ clashIn rule reach a b
+    unfolding clashIn reaches
+    pair-reaches e = rw (ne-eqb a b other, e)
+
+    module _ (none : bitIn reach a b ≡ false) where
+      pub pair-reached : bitIn reach b a ≡ true → true ≡ clashIn rule reach a b
+      unfolding clashIn reaches
+      pair-reached e = rw (ne-eqb a b other, none, e)
+
+      module _ (neither : bitIn reach b a ≡ false) where
+        pub pair-rule : (eqb rule 2 && reachedByBoth reach a b) ≡ clashIn rule reach a b
+        unfolding clashIn reaches
+        pair-rule = rw (ne-eqb a b other, none, neither)

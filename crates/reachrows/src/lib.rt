@@ -193,6 +193,36 @@ pub fn third_rows(reach: [u32; 32], cells: usize) -> [u32; 32]
     rows
 }
 
+// Whether two rows, each without its own cell, share a bit: some third cell is reached by both.
+fn share_third(x: u32, y: u32, a: usize, b: usize) -> bool
+    requires { ⌜ (a < 32) × (b < 32) ⌝ }
+    ensures { λ r. ⌜ r ≡ any (λ c. bitAt (clearBit x a) c && bitAt (clearBit y b) c) 32 ⌝ }
+{
+    without_bit(x, a) & without_bit(y, b) != 0
+}
+
+// Whether the cells at indices a and b clash under a rule: two bits are looked at, and under rule 2 two rows.
+pub fn pair_clashes(reach: &[u32; 32], rule: u16, a: usize, b: usize) -> bool
+    requires { ⌜ (a < 32) × (b < 32) ⌝ }
+    ensures { λ r. ⌜ r ≡ clashIn rule (now (reach .entry)) a b ⌝ }
+{
+    if a == b {
+        return false;
+    }
+    let x = reach[a];
+    let y = reach[b];
+    if (x >> b) % 2 == 1 {
+        return true;
+    }
+    if (y >> a) % 2 == 1 {
+        return true;
+    }
+    if rule == 2 {
+        return share_third(x, y, a, b);
+    }
+    false
+}
+
 // The word with number b joined, where it is to be.
 fn joined(word: u32, with: bool, b: usize) -> u32
     requires { ⌜ b < 32 ⌝ }

@@ -1,7 +1,6 @@
 -- `planbits::unpack_whole` meets its contract. The invariant: to store the bits that are left from byte j on makes the table. Assumes nothing.
 use Prim.Native.Nat.{_-_, _*_, _≤_}
 use mathlib.Core.Path.{_≡_, refl, sym, _∙_}
-use native.Mathlib.Nat.{sub-zero}
 use native.Mathlib.Omega.{arith}
 use lib.ListN.{length}
 use lib.Seq.{sets}
@@ -12,14 +11,16 @@ use Rattle.planbits.proofs.unpack_whole.Statement.{statement}
 use Rattle.planbits.proofs.unpack_whole.Tie as tie
 
 abbrev Inv-loop : tie.InvT-loop
-Inv-loop body table₀ m j₀ table j =
-    (j ≤ m) × (length table ≡ length table₀) × (sets table (8 * j) (bitsFrom body (8 * j) (8 * (m - j))) ≡ sets table₀ 0 (bitsFrom body 0 (8 * m)))
+Inv-loop body table₀ from m j₀ table j =
+    (j ≤ m)
+    × (length table ≡ length table₀)
+    × (sets table (8 * j) (bitsFrom body (8 * j) (8 * (m - j))) ≡ sets table₀ (8 * from) (bitsFrom body (8 * from) (8 * (m - from))))
 
 abbrev μ-loop : tie.MeasureT-loop
-μ-loop body table₀ m j₀ table j = m - j
+μ-loop body table₀ from m j₀ table j = m - j
 
 loop-holds : tie.Need-loop-holds Inv-loop μ-loop
-loop-holds c = (omega arith, refl, rw (sub-zero (c .before .before .args .m)))
+loop-holds c = (omega arith, refl, refl)
 
 shared-slice-read-x : tie.Need-shared-slice-read-x Inv-loop μ-loop
 shared-slice-read-x c = omega arith

@@ -10,14 +10,11 @@ use Rattle.laws.specs.Bits.{bitAt, bitIn, wordOf}
 use Rattle.laws.specs.Choice.{pick}
 use Rattle.laws.specs.Bits.{setBit}
 use Rattle.laws.specs.Sum.{any}
-use Rattle.laws.proofs.Words.{word-zero, word-join, word-bits, shares-any}
+use Rattle.laws.proofs.Words.{word-zero, word-join}
+use Rattle.reachrows.proofs.Rule.{shared}
 use borrow.Author.Needs.{needs}
 use Rattle.reachrows.proofs.sharing.Statement.{statement}
 use Rattle.reachrows.proofs.sharing.Tie as tie
-
--- a number of 32 bits and a row: what the code asks, and whether some bit is in both
-shared : (x row : ℕ) → x < 2 ^ 32 → not (eqb (bitAnd x row) 0) ≡ any (λ c. bitAt x c && bitAt row c) 32
-shared x row h = ap (λ (z : ℕ). not (eqb (bitAnd z row) 0)) (word-bits x 32 h) ∙ shares-any (bitAt x) 32 row
 
 abbrev Inv-loop : tie.InvT-loop
 Inv-loop rows x word₀ b₀ word b = (b ≤ 32) × (word ≡ wordOf (λ k. any (λ c. bitAt x c && bitIn rows k c) 32) b)
