@@ -4,7 +4,8 @@
  * refusals of docs/RULES.md. Values that are not named below are 0. No call keeps anything between calls.
  *
  *    1  cells, slots or channels out of range
- *    2  a load beyond the last cell (value: lowest such cell), or a load edit of a cell that is not there (the cell)
+ *    2  a load beyond the last cell (value: lowest such cell), a load edit of a cell that is not there (the cell), or a flow
+ *       of one (the flow's number, from 1)
  *    3  a reach row or bit beyond the last cell, or of a cell to itself (value: lowest row); or an edit or a pair that
  *       names a cell that is not there, or one cell twice (in an edit the value is its "from")
  *    4  the lent table is too short, or too few words are lent; blocked positions count as open ones do
@@ -19,8 +20,8 @@
  *   12  bytes after the last record
  *   13  the lent output is too short (value: bytes needed), or the list of changes is (value: how many there are)
  *   14  a left-over bit of a plan, or of the blocked positions in a site file, is 1
- *   15  burst or period is 0, or repeats are not 1 to 4
- *   16  the share is above 65,535
+ *   15  burst or period is 0, or repeats are not 1 to 4 (of a flow that asks to be admitted, value: its number, from 1)
+ *   16  the share is above 65,535 (of a flow that asks to be admitted, value: its number, from 1)
  *   17  the range sheet is malformed (value: its first bad line, from 1)
  *   18  more than 16 flows
  *   19  the site is not nested, all its cells counted
@@ -39,11 +40,97 @@
 #ifndef DUGGFRASK_H
 #define DUGGFRASK_H
 
+#include <inttypes.h>
 #include <stddef.h>
 #include <stdint.h>
 
-/* The version: one more where a record or a call has another shape than before, or a call another answer. */
+/* The version: one more where a record or a call has another shape than before, or a call another answer. It is also the number
+ * of the shared library (libduggfrask.so.4), of the packages and of the command; docs/CHANGES.md says what a caller has to do. */
 #define DUGG_VERSION 4
+
+/* The numbers that come back, by name. */
+enum dugg_number {
+    DUGG_DONE = 0,
+    DUGG_BAD_SIZE = 1,
+    DUGG_NO_SUCH_CELL = 2,
+    DUGG_BAD_REACH = 3,
+    DUGG_TABLE_SHORT = 4,
+    DUGG_NO_ROOM = 5,
+    DUGG_TWO_CLASH = 6,
+    DUGG_WRONG_COUNT = 7,
+    DUGG_FILE_ENDS = 8,
+    DUGG_OTHER_KIND = 9,
+    DUGG_BAD_LENGTH = 10,
+    DUGG_PAIR_ORDER = 11,
+    DUGG_FILE_GOES_ON = 12,
+    DUGG_OUTPUT_SHORT = 13,
+    DUGG_LEFT_OVER_BIT = 14,
+    DUGG_BAD_FLOW = 15,
+    DUGG_SHARE_TOO_LARGE = 16,
+    DUGG_BAD_LINE = 17,
+    DUGG_TOO_MANY_FLOWS = 18,
+    DUGG_NOT_NESTED = 19,
+    DUGG_NO_SUCH_POSITION = 20,
+    DUGG_BLOCKS_NONE = 21,
+    DUGG_SENDS_WHERE_BLOCKED = 22,
+    DUGG_NO_NUMBERING = 23,
+    DUGG_BAD_RULE = 24,
+    DUGG_SEARCH_TOO_LARGE = 25,
+    DUGG_NOT_THE_PLAN = 26
+};
+
+/* The limits, by name: the most cells, slots and channels of a site, its positions, the bytes of a table that is enough for
+ * every site, and the flows that may ask at once. */
+enum dugg_limit {
+    DUGG_MOST_CELLS = 32,
+    DUGG_MOST_SLOTS = 128,
+    DUGG_MOST_CHANNELS = 16,
+    DUGG_MOST_POSITIONS = 2048,
+    DUGG_MOST_TABLE = 65536,
+    DUGG_MOST_FLOWS = 16
+};
+
+/* The calls by number, as dugg_words asks for them. */
+enum dugg_call {
+    DUGG_CALL_FAULT = 1,
+    DUGG_CALL_CLASH = 2,
+    DUGG_CALL_SET_LOAD = 3,
+    DUGG_CALL_SET_REACH = 4,
+    DUGG_CALL_CLEAR_REACH = 5,
+    DUGG_CALL_LOAD_TEST = 6,
+    DUGG_CALL_CHAIN = 7,
+    DUGG_CALL_CLASS = 8,
+    DUGG_CALL_LEAST = 9,
+    DUGG_CALL_HEAVIEST = 10,
+    DUGG_CALL_PLAN = 11,
+    DUGG_CALL_SEARCH = 12,
+    DUGG_CALL_FIND = 13,
+    DUGG_CALL_OVER_FULL = 14,
+    DUGG_CALL_CHECK = 15,
+    DUGG_CALL_PLAN_WORDS = 16,
+    DUGG_CALL_CHECK_WORDS = 17,
+    DUGG_CALL_TO_WORDS = 18,
+    DUGG_CALL_TO_BYTES = 19,
+    DUGG_CALL_MEND = 20,
+    DUGG_CALL_CHANGE_LOAD = 21,
+    DUGG_CALL_RENUMBER = 22,
+    DUGG_CALL_CARRY = 23,
+    DUGG_CALL_SHARE = 24,
+    DUGG_CALL_SHARE_REPEATED = 25,
+    DUGG_CALL_ADMIT = 26,
+    DUGG_CALL_ADMIT_BESIDE = 27,
+    DUGG_CALL_READ_SITE = 28,
+    DUGG_CALL_WRITE_SITE = 29,
+    DUGG_CALL_READ_PLAN = 30,
+    DUGG_CALL_WRITE_PLAN = 31,
+    DUGG_CALL_READ_SHEET = 32,
+    DUGG_CALL_WRITE_SHEET = 33,
+    DUGG_CALL_TIDY = 34,
+    DUGG_CALL_WORDS = 35,
+    DUGG_CALL_WHY = 36,
+    DUGG_CALL_LIST = 37,
+    DUGG_CALL_VERSION = 38
+};
 
 #ifdef __cplusplus
 extern "C" {
@@ -69,6 +156,10 @@ typedef struct { uint64_t bits[32]; } dugg_blocked;
 /* The number given back, and the values that belong to it. */
 typedef struct { uint64_t number, value[3]; } dugg_answer;
 
+/* To print an answer: printf("clash: " DUGG_ANSWER_FORMAT "\n", DUGG_ANSWER_VALUES(a)); the number, then the values. */
+#define DUGG_ANSWER_FORMAT "%" PRIu64 " (%" PRIu64 ", %" PRIu64 ", %" PRIu64 ")"
+#define DUGG_ANSWER_VALUES(a) (a).number, (a).value[0], (a).value[1], (a).value[2]
+
 /* A site and the answer beside it: from an edit, the edited site, or the site as it came if the edit is refused; from
  * a site file or a range sheet, the site that was read, or a site of zeros if it is refused. */
 typedef struct { dugg_site site; dugg_answer answer; } dugg_edited;
@@ -91,7 +182,7 @@ dugg_answer dugg_fault(dugg_site site);
  * itself. */
 dugg_answer dugg_clash(dugg_site site, uint16_t a, uint16_t b);
 
-/* Sets the load of one cell. Refusal 2 gives the cell asked for. */
+/* Sets the load of one cell, in fragments per superframe. Refusal 2 gives the cell asked for. */
 dugg_edited dugg_set_load(dugg_site site, uint16_t cell, uint16_t load);
 
 /* Notes that cell "from" reaches cell "to". Refusal 3 gives "from". */
@@ -226,7 +317,7 @@ dugg_answer dugg_admit(dugg_site site, const dugg_flow *flows, size_t count);
  * the loads alone and by how much; then no set is allowed, not even the empty one. */
 dugg_answer dugg_admit_beside(dugg_site site, const dugg_flow *flows, size_t count);
 
-/* Reads a site file. */
+/* Reads a site file. Nothing is read past "len" bytes, and no site file has more than 2,328. */
 dugg_edited dugg_read_site(const uint8_t *bytes, size_t len);
 
 /* Writes a site file. Where something is blocked it ends with a record of kind 6; software that is older than version 2
@@ -258,6 +349,24 @@ dugg_answer dugg_write_sheet(dugg_site site, uint8_t *out, size_t len);
  * end added. A sheet in that form is left as it is. Done: value[0] is the size of the tidied sheet; bytes past it are not
  * touched. Refusal 17 gives the first line that can't be tidied, then 13 the bytes needed; no refusal writes. */
 dugg_answer dugg_tidy(const uint8_t *sheet, size_t len, uint8_t *out, size_t out_len);
+
+/* The three calls below write text: English, plain ASCII, every line ended by LF, no 0 at the end. Done: value[0] is how many
+ * bytes were written; bytes past those are not touched. Refusal 13 gives the bytes needed, and writes nothing. */
+
+/* The answer of a call in words, as docs/NUMBERS.md has them; "call" is its number in the enum dugg_call. An answer that the
+ * call never gives has words too, and so has any other number. 512 bytes are enough for every answer. */
+dugg_answer dugg_words(dugg_answer answer, uint64_t call, uint8_t *out, size_t len);
+
+/* What the command "duggfrask why" prints of a site, all of it. Refusals: the record's 1, 24, 2, 3 or 20; then 13. It searches
+ * with at most 1,000,000 tries, and needs some 200 kilobytes of stack. 65,536 bytes are enough for nearly every site. */
+dugg_answer dugg_why(dugg_site site, uint8_t *out, size_t len);
+
+/* What the command "duggfrask list" prints of a site file: a file that is refused is listed too, in one line, and the answer is
+ * done. The only refusal is 13. It needs some 100 kilobytes of stack. */
+dugg_answer dugg_list(const uint8_t *bytes, size_t len, uint8_t *out, size_t out_len);
+
+/* The version of the library that is there at run time. Done: value[0] is its DUGG_VERSION. */
+dugg_answer dugg_version(void);
 
 #ifdef __cplusplus
 }

@@ -48,6 +48,11 @@ export interface Duggfrask {
   read_sheet(bytes: Uint8Array, slots: number, channels: number, blocked: bigint[], rule: number): Edited;
   write_sheet(site: Site, out: Uint8Array): Answer;
   tidy(sheet: Uint8Array, out: Uint8Array): Answer;
+  /** The answer of a call in words; the call's number is that of the header's enum dugg_call. */
+  words(answer: Answer, call: number, out: Uint8Array): Answer;
+  why(site: Site, out: Uint8Array): Answer;
+  list(bytes: Uint8Array, out: Uint8Array): Answer;
+  version(): Answer;
 }
 
 export function load(bytes?: BufferSource): Promise<Duggfrask>;

@@ -23,7 +23,7 @@ const CALLS = {
   share: ['answer', 'u16', 'u16', 'u16'], share_repeated: ['answer', 'u16', 'u16', 'u16', 'u16'], admit: ['answer', 'site', 'shown flows'],
   admit_beside: ['answer', 'site', 'shown flows'], read_site: ['edited', 'shown bytes'], write_site: ['answer', 'site', 'bytes'], read_plan: ['plan_read', 'shown bytes', 'bytes'],
   write_plan: ['answer', 'site', 'shown bytes', 'bytes'], read_sheet: ['edited', 'shown bytes', 'u16', 'u16', 'blocked', 'u16'], write_sheet: ['answer', 'site', 'bytes'],
-  tidy: ['answer', 'shown bytes', 'bytes'],
+  tidy: ['answer', 'shown bytes', 'bytes'], words: ['answer', 'answer', 'u64', 'bytes'], why: ['answer', 'site', 'bytes'], list: ['answer', 'shown bytes', 'bytes'], version: ['answer'],
 };
 const LISTS = { bytes: Uint8Array, words: Uint32Array, numbers: Uint16Array };
 const SIZES = { answer: ANSWER, edited: SITE + ANSWER, plan_read: 8 + ANSWER, renumbered: SITE + 128 + ANSWER };
@@ -70,6 +70,7 @@ class Duggfrask {
   #give(what, kind, x, args, back) {
     if (MOST[kind]) { args.push(kind === 'u64' ? BigInt.asIntN(64, BigInt(held(x, kind, what))) : held(x, kind, what)); return; }
     if (kind === 'site' || kind === 'lent site') { const p = this.#take(SITE); this.#putSite(what, x, p); args.push(p); if (kind === 'lent site') back.push([x, p]); return; }
+    if (kind === 'answer') { const p = this.#take(ANSWER); this.#putAnswer(what, x, p); args.push(p); return; }
     if (kind === 'blocked') { const p = this.#take(BLOCKED); this.#putWords(what, x, p, 32, 'u64'); args.push(p); return; }
     const shown = kind.startsWith('shown '), form = shown ? kind.slice(6) : kind;
     if (form === 'flows') { this.#putFlows(what, x, args); return; }
@@ -95,6 +96,11 @@ class Duggfrask {
     this.#putWords(what + ': a reach', site.reach, p + 72, 32, 'u32');
     this.#putWords(what + ': blocked', site.blocked, p + 200, 32, 'u64');
     this.#view.setUint16(p + 456, held(site.rule, 'u16', what + ': rule'), true);
+  }
+
+  #putAnswer(what, answer, p) {
+    this.#putWords(what + ': number', [answer.number], p, 1, 'u64');
+    this.#putWords(what + ': value', answer.value, p + 8, 3, 'u64');
   }
 
   #putFlows(what, flows, args) {

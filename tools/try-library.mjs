@@ -7,11 +7,11 @@ import assert from 'node:assert/strict';
 const [header, library, samples] = process.argv.slice(2);
 const { load, calls } = await import(path.resolve(library));
 
-const KINDS = { dugg_site: 'site', dugg_blocked: 'blocked', uint16_t: 'u16', uint32_t: 'u32', uint64_t: 'u64' };
+const KINDS = { dugg_site: 'site', dugg_answer: 'answer', dugg_blocked: 'blocked', uint16_t: 'u16', uint32_t: 'u32', uint64_t: 'u64' };
 const LISTS = { uint8_t: 'bytes', uint16_t: 'numbers', uint32_t: 'words', dugg_flow: 'flows' };
 const wanted = {};
 for (const [, result, name, parameters] of fs.readFileSync(header, 'utf8').replace(/\/\*[^]*?\*\//g, '').matchAll(/^dugg_(\w+)\s+dugg_(\w+)\(([^)]*)\);/gm)) {
-  wanted[name] = [result, ...parameters.split(/\s*,\s*/).filter(p => !p.startsWith('size_t ')).map(p => {
+  wanted[name] = [result, ...parameters.split(/\s*,\s*/).filter(p => p !== 'void' && !p.startsWith('size_t ')).map(p => {
     const [, shown, kind, star] = p.match(/^(const )?(\w+) (\*?)\w+$/);
     return star ? kind === 'dugg_site' ? 'lent site' : (shown ? 'shown ' : '') + LISTS[kind] : KINDS[kind];
   })];
@@ -33,6 +33,11 @@ assert.equal(duggfrask.check(site, table).number, 6);
 const changes = new Uint16Array(4 * 65536), mended = duggfrask.mend(site, table, changes);
 assert.ok(mended.number === 0 && mended.value[0] > 0);
 assert.equal(duggfrask.check(site, table).number, 0);
+const text = call => { const said = call(); assert.equal(said.number, 0); return new TextDecoder().decode(out.subarray(0, said.value[0])); };
+assert.equal(text(() => duggfrask.words({ number: 5, value: [2, 1, 0] }, 0, out)), 'refused 5, cell 2: no room for 1 of its fragments\n');
+assert.match(text(() => duggfrask.why(site, out)), /\nplanned\n$/);
+assert.match(text(() => duggfrask.list(file('north.site'), out)), /^site 5 8 2\n/);
+assert.equal(duggfrask.version().value[0], Number(fs.readFileSync(header, 'utf8').match(/^#define DUGG_VERSION (\d+)/m)[1]));
 assert.equal(duggfrask.write_site(site, out).value[0], file('north.site').length);
 assert.deepEqual(out.slice(0, file('north.site').length), file('north.site'));
 

@@ -43,7 +43,7 @@ static void break_table(void)
 }
 
 #define BEST(calls, before, call)                                                                                     \
-    for (int round = 0; round < 15; round++) {                                                                        \
+    for (int round = 0; round < 80; round++) {                                                                        \
         double spent = 0;                                                                                             \
         for (int k = 0; k < (calls); k++) {                                                                           \
             before;                                                                                                   \
@@ -72,9 +72,9 @@ int main(int argc, char **argv)
         break_table();
         double best = 0;
         printf("%s", argv[k]);
-        BEST(200, memset(work, 0, TABLE), dugg_plan(site, work, TABLE));
-        BEST(200, , dugg_check(site, table, TABLE));
-        BEST(50, memcpy(work, broken, TABLE), dugg_mend(site, work, TABLE, changes, 4 * TABLE));
+        BEST(40, memset(work, 0, TABLE), dugg_plan(site, work, TABLE));
+        BEST(40, , dugg_check(site, table, TABLE));
+        BEST(5, memcpy(work, broken, TABLE), dugg_mend(site, work, TABLE, changes, 4 * TABLE));
         memcpy(work, broken, TABLE);
         printf(" %llu\n", (unsigned long long)dugg_mend(site, work, TABLE, changes, 4 * TABLE).value[0]);
     }

@@ -18,7 +18,7 @@ function times(file, bytes) {
   for (let i = 0, r = 1; i < 2000; i++) { r = (Math.imul(r, 1103515245) + 12345) >>> 0; mem[B + (r >>> 8) % TABLE] ^= 1; }
   const best = (calls, before, call) => {
     let least = Infinity;
-    for (let round = 0; round < 15; round++) {
+    for (let round = 0; round < 80; round++) {
       let spent = 0;
       for (let k = 0; k < calls; k++) { before(); const start = process.hrtime.bigint(); call(); spent += Number(process.hrtime.bigint() - start); }
       least = Math.min(least, spent / calls);
@@ -26,7 +26,7 @@ function times(file, bytes) {
     return least;
   };
   const mend = () => x.dugg_mend(R, S, W, TABLE, C, 4 * TABLE);
-  const found = [best(200, () => mem.fill(0, W, W + TABLE), () => x.dugg_plan(R, S, W, TABLE)), best(200, () => {}, () => x.dugg_check(R, S, T, TABLE)), best(50, () => mem.copyWithin(W, B, B + TABLE), mend)];
+  const found = [best(40, () => mem.fill(0, W, W + TABLE), () => x.dugg_plan(R, S, W, TABLE)), best(40, () => {}, () => x.dugg_check(R, S, T, TABLE)), best(5, () => mem.copyWithin(W, B, B + TABLE), mend)];
   mem.copyWithin(W, B, B + TABLE);
   mend();
   return [...found, Number(view.getBigUint64(R + 8, true))];

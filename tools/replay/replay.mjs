@@ -1,5 +1,6 @@
 // Makes recorded calls again on the library as WebAssembly, and compares: the result, the lent bytes, what was only shown, all else of the caller's memory, and the stack.
-// Runs under node: node replay.mjs CALLS.json STREAM MODULE.wasm..; each module gets every call. The last line counts; it ends with 1 where something differs.
+// Runs under node: node replay.mjs CALLS.json STREAM MODULE.wasm..; each module gets every call. The last line counts; it ends with 1 where something differs. The file DUGG_SEEN, where
+// it is named, gets the names of the functions that were called.
 import fs from 'node:fs';
 
 const G = 48;   // guard bytes before and after each part
@@ -99,6 +100,8 @@ for (;;) {
   end -= at;
 }
 let wrong = end > 0 ? 1 : 0;
+const seen = [...new Set(replays.flatMap(r => [...r.seen.keys()].map(k => k.split(' ')[0])))];
+if (process.env.DUGG_SEEN) fs.appendFileSync(process.env.DUGG_SEEN, seen.map(name => name + '\n').join(''));
 if (end > 0) console.log('the stream ends inside a call');
 replays.forEach((r, i) => {
   const kinds = new Set([...r.seen.keys()].map(k => k.split(' ')[0]));

@@ -10,6 +10,7 @@ use toldfiles::Blocked;
 use toldfiles::EditedSite;
 use toldfiles::PlanReadC;
 ghost use mathlib.Core.Path.{_≡_};
+ghost use lib.ListN.{getD};
 ghost use Rattle.site.specs.Record.{faultOf};
 ghost use Rattle.site.specs.Reach.{clashAnswer};
 ghost use Rattle.site.specs.Edit.{setLoadOf, setReachOf, clearReachOf};
@@ -52,8 +53,15 @@ ghost use Rattle.tidying.specs.Given.{tidyGiven};
 ghost use Rattle.admission.specs.Admit.{admitAnswer};
 ghost use Rattle.admission.specs.Beside.{besideAnswer};
 ghost use Rattle.admission.specs.Given.{admitGiven, besideGiven};
-ghost use Rattle.told.specs.Told.{told, toldRenumbered};
+ghost use Rattle.records.specs.Write.{written, laidOver};
+ghost use Rattle.say_answers.specs.Said.{callSaid};
+ghost use Rattle.whytext.specs.Text.{whyWritten, whyOut};
+ghost use Rattle.listhead.specs.Listing.{listing};
+ghost use Rattle.told.specs.Told.{numbered, told, toldRenumbered};
 ghost use Rattle.toldfiles.specs.Files.{toldEdited, toldChanged, toldSiteRead, toldPlanRead, toldSheetRead};
+
+// The version of the header, include/duggfrask.h: tools/version holds it to that.
+const VERSION: usize = 4;
 
 // The exports. Each makes its call and converts the answer; a cell is named by a number of two bytes.
 #[no_mangle]
@@ -340,4 +348,45 @@ pub extern "C" fn dugg_admit_beside(site: Site, flows: &[Flow]) -> Answer
     ensures { λ r. ⌜ r ≡ told (besideGiven (besideAnswer site (now (flows .entry)))) ⌝ }
 {
     told::beside_answer(admission::admit_beside(site, flows))
+}
+
+#[no_mangle]
+pub extern "C" fn dugg_words(given: Answer, call: u64, out: &mut [u8]) -> Answer
+    ensures { λ r. ⌜ r ≡ told (writtenGiven (written (callSaid call (given .number) (getD (given .value) 0 0) (getD (given .value) 1 0)
+        (getD (given .value) 2 0)) (now (out .entry)))) ⌝ }
+    ensures { λ _. ⌜ now (out .exit) ≡ laidOver (callSaid call (given .number) (getD (given .value) 0 0) (getD (given .value) 1 0)
+        (getD (given .value) 2 0)) (now (out .entry)) ⌝ }
+{
+    let value = given.value;
+    toldfiles::written_answer(wordtext::words_text(
+        call as usize,
+        given.number as usize,
+        value[0] as usize,
+        value[1] as usize,
+        value[2] as usize,
+        out,
+    ))
+}
+
+#[no_mangle]
+pub extern "C" fn dugg_why(site: Site, out: &mut [u8]) -> Answer
+    ensures { λ r. ⌜ r ≡ told (writtenGiven (whyWritten site (now (out .entry)))) ⌝ }
+    ensures { λ _. ⌜ now (out .exit) ≡ whyOut site (now (out .entry)) ⌝ }
+{
+    toldfiles::written_answer(whytext::why_text(site, out))
+}
+
+#[no_mangle]
+pub extern "C" fn dugg_list(bytes: &[u8], out: &mut [u8]) -> Answer
+    ensures { λ r. ⌜ r ≡ told (writtenGiven (written (listing (now (bytes .entry))) (now (out .entry)))) ⌝ }
+    ensures { λ _. ⌜ now (out .exit) ≡ laidOver (listing (now (bytes .entry))) (now (out .entry)) ⌝ }
+{
+    toldfiles::written_answer(listtext::list_text(bytes, out))
+}
+
+#[no_mangle]
+pub extern "C" fn dugg_version() -> Answer
+    ensures { λ r. ⌜ r ≡ numbered 0 4 0 0 ⌝ }
+{
+    told::give(0, VERSION, 0, 0)
 }

@@ -9,9 +9,10 @@ use Rattle.admission.specs.Given.{admitGiven, besideGiven}
 use Rattle.checker.specs.Check.{checkAnswer}
 use Rattle.checker.specs.Given.{checkGiven}
 use Rattle.contracts.specs.CapiSays.{DuggAdmit, DuggAdmitBeside, DuggCarry, DuggChain, DuggChangeLoad, DuggCheck, DuggCheckWords, DuggClash, DuggClass}
-use Rattle.contracts.specs.CapiSays.{DuggClearReach, DuggFault, DuggFind, DuggHeaviest, DuggLeast, DuggLoadTest, DuggMend, DuggOverFull, DuggPlan}
-use Rattle.contracts.specs.CapiSays.{DuggPlanWords, DuggReadPlan, DuggReadSheet, DuggReadSite, DuggRenumber, DuggSearch, DuggSetLoad, DuggSetReach}
-use Rattle.contracts.specs.CapiSays.{DuggShare, DuggShareRepeated, DuggTidy, DuggToBytes, DuggToWords, DuggWritePlan, DuggWriteSheet, DuggWriteSite}
+use Rattle.contracts.specs.CapiSays.{DuggClearReach, DuggFault, DuggFind, DuggHeaviest, DuggLeast, DuggList, DuggLoadTest, DuggMend, DuggOverFull}
+use Rattle.contracts.specs.CapiSays.{DuggPlan, DuggPlanWords, DuggReadPlan, DuggReadSheet, DuggReadSite, DuggRenumber, DuggSearch, DuggSetLoad}
+use Rattle.contracts.specs.CapiSays.{DuggSetReach, DuggShare, DuggShareRepeated, DuggTidy, DuggToBytes, DuggToWords, DuggVersion, DuggWhy, DuggWords}
+use Rattle.contracts.specs.CapiSays.{DuggWritePlan, DuggWriteSheet, DuggWriteSite}
 use Rattle.finder.specs.Find.{findAnswer, findTable, overFullAnswer}
 use Rattle.finder.specs.Given.{findGiven, overFullGiven}
 use Rattle.flowlist.specs.declared.Flow.{Flow}
@@ -21,6 +22,7 @@ use Rattle.heaviest.specs.Given.{heaviestGiven}
 use Rattle.heaviest.specs.Sets.{heaviestOf}
 use Rattle.judges.specs.Given.{chainGiven, classGiven, leastGiven, loadGiven}
 use Rattle.judges.specs.Judges.{chainAnswer, classAnswer, leastAnswer, loadAnswer}
+use Rattle.listhead.specs.Listing.{listing}
 use Rattle.mender.specs.Given.{mendGiven}
 use Rattle.mender.specs.Mend.{mendAnswer, mendList, mendTable}
 use Rattle.numbering.specs.Carried.{carryAnswer, carryTable}
@@ -32,6 +34,8 @@ use Rattle.planfile.specs.Write.{planOut, planWritten}
 use Rattle.planner.specs.Given.{planGiven}
 use Rattle.planner.specs.Plan.{planAnswer, planTable}
 use Rattle.records.specs.Given.{writtenGiven}
+use Rattle.records.specs.Write.{laidOver, written}
+use Rattle.say_answers.specs.Said.{callSaid}
 use Rattle.search.specs.Given.{searchGiven}
 use Rattle.search.specs.Search.{searchAnswer, searchTable}
 use Rattle.shares.specs.Given.{shareGiven}
@@ -47,17 +51,19 @@ use Rattle.sitefile.specs.Read.{readSite}
 use Rattle.sitefile.specs.Write.{siteOut, siteWritten}
 use Rattle.tidying.specs.Given.{tidyGiven}
 use Rattle.tidying.specs.Tidy.{tidyAnswer, tidyOut}
-use Rattle.told.specs.Told.{told, toldRenumbered}
+use Rattle.told.specs.Told.{numbered, told, toldRenumbered}
 use Rattle.told.specs.declared.Answer.{Answer}
 use Rattle.told.specs.declared.RenumberedC.{RenumberedC}
 use Rattle.toldfiles.specs.Files.{toldEdited, toldPlanRead, toldSheetRead, toldSiteRead}
 use Rattle.toldfiles.specs.declared.Blocked.{Blocked}
 use Rattle.toldfiles.specs.declared.EditedSite.{EditedSite}
 use Rattle.toldfiles.specs.declared.PlanReadC.{PlanReadC}
+use Rattle.whytext.specs.Text.{whyOut, whyWritten}
 use Rattle.wordtable.specs.Check.{checkWordsAnswer}
 use Rattle.wordtable.specs.Forms.{formAnswer, toBytes, toWords}
 use Rattle.wordtable.specs.Given.{formGiven}
 use Rattle.wordtable.specs.Plan.{planWords, planWordsAnswer}
+use lib.ListN.{getD}
 
 -- capi::dugg_fault
 pub duggFault-one : (site : Site)
@@ -411,6 +417,48 @@ pub duggAdmitBeside-one : (site : Site) (flows : List Flow)
     × ((q : Answer) → DuggAdmitBeside site flows q → (q ≡ r))
 duggAdmitBeside-one site flows = (
   told (besideGiven (besideAnswer site flows)),
+  record { answer = refl },
+  λ q says. says .answer,
+)
+
+-- capi::dugg_words
+pub duggWords-one : (given : Answer) (call : ℕ) (out : List ℕ)
+    → (r : Answer) × (out′ : List ℕ) × (DuggWords given call out r out′)
+    × ((q : Answer) (out″ : List ℕ) → DuggWords given call out q out″ → (q ≡ r) × (out″ ≡ out′))
+duggWords-one given call out = (
+  told (writtenGiven (written (callSaid call (given .number) (getD (given .value) 0 0) (getD (given .value) 1 0) (getD (given .value) 2 0)) out)),
+  laidOver (callSaid call (given .number) (getD (given .value) 0 0) (getD (given .value) 1 0) (getD (given .value) 2 0)) out,
+  record { answer = refl; out-after = refl },
+  λ q out″ says. (says .answer, says .out-after),
+)
+
+-- capi::dugg_why
+pub duggWhy-one : (site : Site) (out : List ℕ)
+    → (r : Answer) × (out′ : List ℕ) × (DuggWhy site out r out′)
+    × ((q : Answer) (out″ : List ℕ) → DuggWhy site out q out″ → (q ≡ r) × (out″ ≡ out′))
+duggWhy-one site out = (
+  told (writtenGiven (whyWritten site out)),
+  whyOut site out,
+  record { answer = refl; out-after = refl },
+  λ q out″ says. (says .answer, says .out-after),
+)
+
+-- capi::dugg_list
+pub duggList-one : (bytes : List ℕ) (out : List ℕ)
+    → (r : Answer) × (out′ : List ℕ) × (DuggList bytes out r out′)
+    × ((q : Answer) (out″ : List ℕ) → DuggList bytes out q out″ → (q ≡ r) × (out″ ≡ out′))
+duggList-one bytes out = (
+  told (writtenGiven (written (listing bytes) out)),
+  laidOver (listing bytes) out,
+  record { answer = refl; out-after = refl },
+  λ q out″ says. (says .answer, says .out-after),
+)
+
+-- capi::dugg_version
+pub duggVersion-one : (r : Answer) × (DuggVersion r)
+    × ((q : Answer) → DuggVersion q → (q ≡ r))
+duggVersion-one = (
+  numbered 0 4 0 0,
   record { answer = refl },
   λ q says. says .answer,
 )

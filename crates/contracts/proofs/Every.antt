@@ -2,16 +2,17 @@
 use Rattle.contracts.proofs.AdmissionOne.{admit-one, admitBeside-one, decide-one, decideBeside-one, shareIn-one}
 use Rattle.contracts.proofs.CapiOne.{duggAdmit-one, duggAdmitBeside-one, duggCarry-one, duggChain-one, duggChangeLoad-one, duggCheck-one}
 use Rattle.contracts.proofs.CapiOne.{duggCheckWords-one, duggClash-one, duggClass-one, duggClearReach-one, duggFault-one, duggFind-one, duggHeaviest-one}
-use Rattle.contracts.proofs.CapiOne.{duggLeast-one, duggLoadTest-one, duggMend-one, duggOverFull-one, duggPlan-one, duggPlanWords-one, duggReadPlan-one}
-use Rattle.contracts.proofs.CapiOne.{duggReadSheet-one, duggReadSite-one, duggRenumber-one, duggSearch-one, duggSetLoad-one, duggSetReach-one}
-use Rattle.contracts.proofs.CapiOne.{duggShare-one, duggShareRepeated-one, duggTidy-one, duggToBytes-one, duggToWords-one, duggWritePlan-one}
-use Rattle.contracts.proofs.CapiOne.{duggWriteSheet-one, duggWriteSite-one}
+use Rattle.contracts.proofs.CapiOne.{duggLeast-one, duggList-one, duggLoadTest-one, duggMend-one, duggOverFull-one, duggPlan-one, duggPlanWords-one}
+use Rattle.contracts.proofs.CapiOne.{duggReadPlan-one, duggReadSheet-one, duggReadSite-one, duggRenumber-one, duggSearch-one, duggSetLoad-one}
+use Rattle.contracts.proofs.CapiOne.{duggSetReach-one, duggShare-one, duggShareRepeated-one, duggTidy-one, duggToBytes-one, duggToWords-one}
+use Rattle.contracts.proofs.CapiOne.{duggVersion-one, duggWhy-one, duggWords-one, duggWritePlan-one, duggWriteSheet-one, duggWriteSite-one}
 use Rattle.contracts.proofs.CheckerOne.{check-one}
 use Rattle.contracts.proofs.FinderOne.{find-one, overFull-one}
 use Rattle.contracts.proofs.FlowsheetOne.{readFlows-one}
 use Rattle.contracts.proofs.HandheldOne.{changeLoad-one, changedLoad-one}
 use Rattle.contracts.proofs.HeaviestOne.{heaviest-one}
 use Rattle.contracts.proofs.JudgesOne.{chain-one, inClass-one, least-one, loadTest-one}
+use Rattle.contracts.proofs.ListtextOne.{listText-one}
 use Rattle.contracts.proofs.MenderOne.{mend-one, mendOnly-one}
 use Rattle.contracts.proofs.NumberingOne.{carry-one, renumber-one}
 use Rattle.contracts.proofs.PlanfileOne.{readPlan-one, writePlan-one}
@@ -25,7 +26,9 @@ use Rattle.contracts.proofs.SiteOne.{ruleOk-one, siteClash-one, siteCla
 use Rattle.contracts.proofs.SiteOne.{siteSetReach-one, siteZeros-one, sizeOk-one, within-one}
 use Rattle.contracts.proofs.SitefileOne.{readSite-one, writeSite-one}
 use Rattle.contracts.proofs.TidyingOne.{changesMade-one, tidy-one}
+use Rattle.contracts.proofs.WhytextOne.{whyText-one}
 use Rattle.contracts.proofs.WordtableOne.{checkWords-one, planWords-one, toBytes-one, toWords-one}
+use Rattle.contracts.proofs.WordtextOne.{wordsText-one}
 use Rattle.contracts.specs.Every.{EveryCall}
 
 pub every-call : EveryCall
@@ -82,6 +85,9 @@ every-call = record {
   writeSheet = writeSheet-one;
   tidy = tidy-one;
   changesMade = changesMade-one;
+  wordsText = wordsText-one;
+  whyText = whyText-one;
+  listText = listText-one;
   duggFault = duggFault-one;
   duggClash = duggClash-one;
   duggSetLoad = duggSetLoad-one;
@@ -116,4 +122,8 @@ every-call = record {
   duggTidy = duggTidy-one;
   duggAdmit = duggAdmit-one;
   duggAdmitBeside = duggAdmitBeside-one;
+  duggWords = duggWords-one;
+  duggWhy = duggWhy-one;
+  duggList = duggList-one;
+  duggVersion = duggVersion-one;
 }

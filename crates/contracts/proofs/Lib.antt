@@ -63,6 +63,8 @@ pub mod SayChangesOne
 pub mod SayDiffOne
 pub mod SayListingOne
 pub mod ListingOne
+pub mod ListheadOne
+pub mod SayAnswersOne
 pub mod SayWaysOne
 pub mod SayVerdictsOne
 pub mod SayFaultsOne
@@ -93,6 +95,9 @@ pub mod SayAuditOne
 pub mod SayTallyOne
 pub mod QuotingOne
 pub mod SayCsvOne
+pub mod WordtextOne
+pub mod WhytextOne
+pub mod ListtextOne
 pub mod ToldOne
 pub mod ToldfilesOne
 pub mod CapiOne

@@ -17,6 +17,7 @@ use Rattle.heaviest.specs.Given.{heaviestGiven}
 use Rattle.heaviest.specs.Sets.{heaviestOf}
 use Rattle.judges.specs.Given.{chainGiven, classGiven, leastGiven, loadGiven}
 use Rattle.judges.specs.Judges.{chainAnswer, classAnswer, leastAnswer, loadAnswer}
+use Rattle.listhead.specs.Listing.{listing}
 use Rattle.mender.specs.Given.{mendGiven}
 use Rattle.mender.specs.Mend.{mendAnswer, mendList, mendTable}
 use Rattle.numbering.specs.Carried.{carryAnswer, carryTable}
@@ -28,6 +29,8 @@ use Rattle.planfile.specs.Write.{planOut, planWritten}
 use Rattle.planner.specs.Given.{planGiven}
 use Rattle.planner.specs.Plan.{planAnswer, planTable}
 use Rattle.records.specs.Given.{writtenGiven}
+use Rattle.records.specs.Write.{laidOver, written}
+use Rattle.say_answers.specs.Said.{callSaid}
 use Rattle.search.specs.Given.{searchGiven}
 use Rattle.search.specs.Search.{searchAnswer, searchTable}
 use Rattle.shares.specs.Given.{shareGiven}
@@ -43,17 +46,19 @@ use Rattle.sitefile.specs.Read.{readSite}
 use Rattle.sitefile.specs.Write.{siteOut, siteWritten}
 use Rattle.tidying.specs.Given.{tidyGiven}
 use Rattle.tidying.specs.Tidy.{tidyAnswer, tidyOut}
-use Rattle.told.specs.Told.{told, toldRenumbered}
+use Rattle.told.specs.Told.{numbered, told, toldRenumbered}
 use Rattle.told.specs.declared.Answer.{Answer}
 use Rattle.told.specs.declared.RenumberedC.{RenumberedC}
 use Rattle.toldfiles.specs.Files.{toldEdited, toldPlanRead, toldSheetRead, toldSiteRead}
 use Rattle.toldfiles.specs.declared.Blocked.{Blocked}
 use Rattle.toldfiles.specs.declared.EditedSite.{EditedSite}
 use Rattle.toldfiles.specs.declared.PlanReadC.{PlanReadC}
+use Rattle.whytext.specs.Text.{whyOut, whyWritten}
 use Rattle.wordtable.specs.Check.{checkWordsAnswer}
 use Rattle.wordtable.specs.Forms.{formAnswer, toBytes, toWords}
 use Rattle.wordtable.specs.Given.{formGiven}
 use Rattle.wordtable.specs.Plan.{planWords, planWordsAnswer}
+use lib.ListN.{getD}
 
 -- capi::dugg_fault
 pub record DuggFault (site : Site) (r : Answer) : Type 0 where
@@ -206,3 +211,23 @@ pub record DuggAdmit (site : Site) (flows : List Flow) (r : Answer) : Type 0 whe
 -- capi::dugg_admit_beside
 pub record DuggAdmitBeside (site : Site) (flows : List Flow) (r : Answer) : Type 0 where
   pub answer : r ≡ told (besideGiven (besideAnswer site flows))
+
+-- capi::dugg_words
+pub record DuggWords (given : Answer) (call : ℕ) (out : List ℕ) (r : Answer) (out′ : List ℕ) : Type 0 where
+  pub answer : r ≡ told (writtenGiven (written (callSaid call (given .number) (getD (given .value) 0 0) (getD (given .value) 1 0) (getD
+      (given .value) 2 0)) out))
+  pub out-after : out′ ≡ laidOver (callSaid call (given .number) (getD (given .value) 0 0) (getD (given .value) 1 0) (getD (given .value) 2 0)) out
+
+-- capi::dugg_why
+pub record DuggWhy (site : Site) (out : List ℕ) (r : Answer) (out′ : List ℕ) : Type 0 where
+  pub answer : r ≡ told (writtenGiven (whyWritten site out))
+  pub out-after : out′ ≡ whyOut site out
+
+-- capi::dugg_list
+pub record DuggList (bytes : List ℕ) (out : List ℕ) (r : Answer) (out′ : List ℕ) : Type 0 where
+  pub answer : r ≡ told (writtenGiven (written (listing bytes) out))
+  pub out-after : out′ ≡ laidOver (listing bytes) out
+
+-- capi::dugg_version
+pub record DuggVersion (r : Answer) : Type 0 where
+  pub answer : r ≡ numbered 0 4 0 0

@@ -10,15 +10,17 @@ use Rattle.checker.specs.declared.CheckAnswer.{CheckAnswer}
 use Rattle.cleaning.specs.declared.Tidied.{Tidied}
 use Rattle.contracts.specs.AdmissionSays.{Admit, AdmitBeside, Decide, DecideBeside, ShareIn}
 use Rattle.contracts.specs.CapiSays.{DuggAdmit, DuggAdmitBeside, DuggCarry, DuggChain, DuggChangeLoad, DuggCheck, DuggCheckWords, DuggClash, DuggClass}
-use Rattle.contracts.specs.CapiSays.{DuggClearReach, DuggFault, DuggFind, DuggHeaviest, DuggLeast, DuggLoadTest, DuggMend, DuggOverFull, DuggPlan}
-use Rattle.contracts.specs.CapiSays.{DuggPlanWords, DuggReadPlan, DuggReadSheet, DuggReadSite, DuggRenumber, DuggSearch, DuggSetLoad, DuggSetReach}
-use Rattle.contracts.specs.CapiSays.{DuggShare, DuggShareRepeated, DuggTidy, DuggToBytes, DuggToWords, DuggWritePlan, DuggWriteSheet, DuggWriteSite}
+use Rattle.contracts.specs.CapiSays.{DuggClearReach, DuggFault, DuggFind, DuggHeaviest, DuggLeast, DuggList, DuggLoadTest, DuggMend, DuggOverFull}
+use Rattle.contracts.specs.CapiSays.{DuggPlan, DuggPlanWords, DuggReadPlan, DuggReadSheet, DuggReadSite, DuggRenumber, DuggSearch, DuggSetLoad}
+use Rattle.contracts.specs.CapiSays.{DuggSetReach, DuggShare, DuggShareRepeated, DuggTidy, DuggToBytes, DuggToWords, DuggVersion, DuggWhy, DuggWords}
+use Rattle.contracts.specs.CapiSays.{DuggWritePlan, DuggWriteSheet, DuggWriteSite}
 use Rattle.contracts.specs.CheckerSays.{Check}
 use Rattle.contracts.specs.FinderSays.{Find, OverFull}
 use Rattle.contracts.specs.FlowsheetSays.{ReadFlows}
 use Rattle.contracts.specs.HandheldSays.{ChangeLoad, ChangedLoad}
 use Rattle.contracts.specs.HeaviestSays.{Heaviest}
 use Rattle.contracts.specs.JudgesSays.{Chain, InClass, Least, LoadTest}
+use Rattle.contracts.specs.ListtextSays.{ListText}
 use Rattle.contracts.specs.MenderSays.{Mend, MendOnly}
 use Rattle.contracts.specs.NumberingSays.{Carry, Renumber}
 use Rattle.contracts.specs.PlanfileSays.{ReadPlan, WritePlan}
@@ -31,7 +33,9 @@ use Rattle.contracts.specs.SheetSays.{ReadSheet, WriteSheet}
 use Rattle.contracts.specs.SiteSays.{RuleOk, SiteClash, SiteClashRows, SiteClearReach, SiteFaultIn, SiteSetLoad, SiteSetReach, SiteZeros, SizeOk, Within}
 use Rattle.contracts.specs.SitefileSays.{ReadSite, WriteSite}
 use Rattle.contracts.specs.TidyingSays.{ChangesMade, Tidy}
+use Rattle.contracts.specs.WhytextSays.{WhyText}
 use Rattle.contracts.specs.WordtableSays.{CheckWords, PlanWords, ToBytes, ToWords}
+use Rattle.contracts.specs.WordtextSays.{WordsText}
 use Rattle.finder.specs.declared.FindAnswer.{FindAnswer}
 use Rattle.finder.specs.declared.OverFullAnswer.{OverFullAnswer}
 use Rattle.flowlist.specs.declared.Flow.{Flow}
@@ -279,6 +283,18 @@ pub record EveryCall : Type 0 where
   pub changesMade : (sheet : List ℕ) (kind : ℕ)
       → (r : Tidied) × (ChangesMade sheet kind r)
       × ((q : Tidied) → ChangesMade sheet kind q → (q ≡ r))
+  -- wordtext::words_text
+  pub wordsText : (call : ℕ) (number : ℕ) (a : ℕ) (b : ℕ) (c : ℕ) (out : List ℕ)
+      → (r : Written) × (out′ : List ℕ) × (WordsText call number a b c out r out′)
+      × ((q : Written) (out″ : List ℕ) → WordsText call number a b c out q out″ → (q ≡ r) × (out″ ≡ out′))
+  -- whytext::why_text
+  pub whyText : (site : Site) (out : List ℕ)
+      → (r : Written) × (out′ : List ℕ) × (WhyText site out r out′)
+      × ((q : Written) (out″ : List ℕ) → WhyText site out q out″ → (q ≡ r) × (out″ ≡ out′))
+  -- listtext::list_text
+  pub listText : (bytes : List ℕ) (out : List ℕ)
+      → (r : Written) × (out′ : List ℕ) × (ListText bytes out r out′)
+      × ((q : Written) (out″ : List ℕ) → ListText bytes out q out″ → (q ≡ r) × (out″ ≡ out′))
   -- capi::dugg_fault
   pub duggFault : (site : Site)
       → (r : Answer) × (DuggFault site r)
@@ -416,3 +432,18 @@ pub record EveryCall : Type 0 where
   pub duggAdmitBeside : (site : Site) (flows : List Flow)
       → (r : Answer) × (DuggAdmitBeside site flows r)
       × ((q : Answer) → DuggAdmitBeside site flows q → (q ≡ r))
+  -- capi::dugg_words
+  pub duggWords : (given : Answer) (call : ℕ) (out : List ℕ)
+      → (r : Answer) × (out′ : List ℕ) × (DuggWords given call out r out′)
+      × ((q : Answer) (out″ : List ℕ) → DuggWords given call out q out″ → (q ≡ r) × (out″ ≡ out′))
+  -- capi::dugg_why
+  pub duggWhy : (site : Site) (out : List ℕ)
+      → (r : Answer) × (out′ : List ℕ) × (DuggWhy site out r out′)
+      × ((q : Answer) (out″ : List ℕ) → DuggWhy site out q out″ → (q ≡ r) × (out″ ≡ out′))
+  -- capi::dugg_list
+  pub duggList : (bytes : List ℕ) (out : List ℕ)
+      → (r : Answer) × (out′ : List ℕ) × (DuggList bytes out r out′)
+      × ((q : Answer) (out″ : List ℕ) → DuggList bytes out q out″ → (q ≡ r) × (out″ ≡ out′))
+  -- capi::dugg_version
+  pub duggVersion : (r : Answer) × (DuggVersion r)
+      × ((q : Answer) → DuggVersion q → (q ≡ r))

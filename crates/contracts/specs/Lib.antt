@@ -63,6 +63,8 @@ pub mod SayChangesSays
 pub mod SayDiffSays
 pub mod SayListingSays
 pub mod ListingSays
+pub mod ListheadSays
+pub mod SayAnswersSays
 pub mod SayWaysSays
 pub mod SayVerdictsSays
 pub mod SayFaultsSays
@@ -93,6 +95,9 @@ pub mod SayAuditSays
 pub mod SayTallySays
 pub mod QuotingSays
 pub mod SayCsvSays
+pub mod WordtextSays
+pub mod WhytextSays
+pub mod ListtextSays
 pub mod ToldSays
 pub mod ToldfilesSays
 pub mod CapiSays

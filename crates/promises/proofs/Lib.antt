@@ -6,6 +6,7 @@ pub mod Files
 pub mod Called
 pub mod Sheets
 pub mod Tidied
+pub mod Texts
 pub mod FlowSheets
 pub mod Admission
 pub mod Beside

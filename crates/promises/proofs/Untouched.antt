@@ -34,6 +34,7 @@ use Rattle.promises.proofs.Demand1.{plan-leaves, plan-read-leaves, site
 use Rattle.promises.proofs.Words.{plan-words-leaves, forms-leave}
 use Rattle.promises.proofs.Sheets.{sheet-write-leaves}
 use Rattle.promises.proofs.Tidied.{tidy-leaves}
+use Rattle.promises.proofs.Texts.{text-leaves, why-leaves}
 use Rattle.promises.proofs.Mending.{refused-untouched}
 use Rattle.promises.proofs.Handheld.{change-untouched, change-no-room}
 
@@ -132,6 +133,9 @@ untouched = record {
   write-plan = λ site table out out′ r says z. says .out-after ∙ plan-write-leaves site table out .if-refused (rw (says .answer) at z);
   write-sheet = λ site out out′ r says z. says .out-after ∙ sheet-write-leaves site out .if-refused (rw (says .answer) at z);
   tidy = λ sheet out out′ r says z. says .out-after ∙ tidy-leaves sheet out .if-refused (rw (says .answer) at z);
+  words-text = λ call number a b c out out′ r says z. says .out-after ∙ text-leaves _ out .if-refused (rw (says .answer) at z);
+  why-text = λ site out out′ r says z. says .out-after ∙ why-leaves site out .if-refused (rw (says .answer) at z);
+  list-text = λ bytes out out′ r says z. says .out-after ∙ text-leaves _ out .if-refused (rw (says .answer) at z);
 }
 
 -- ---- in C
@@ -155,4 +159,7 @@ untouched-in-c = record {
   write-plan = λ site table out out′ r says z. says .out-after ∙ plan-write-leaves site table out .if-refused (rw (says .answer) at z);
   write-sheet = λ site out out′ r says z. says .out-after ∙ sheet-write-leaves site out .if-refused (rw (says .answer) at z);
   tidy = λ sheet out out′ r says z. says .out-after ∙ tidy-leaves sheet out .if-refused (rw (says .answer) at z);
+  words = λ given call out out′ r says z. says .out-after ∙ text-leaves _ out .if-refused (rw (says .answer) at z);
+  why = λ site out out′ r says z. says .out-after ∙ why-leaves site out .if-refused (rw (says .answer) at z);
+  list = λ bytes out out′ r says z. says .out-after ∙ text-leaves _ out .if-refused (rw (says .answer) at z);
 }

@@ -41,6 +41,9 @@ use Rattle.contracts.specs.SitefileSays.{WriteSite}
 use Rattle.contracts.specs.PlanfileSays.{ReadPlan, WritePlan}
 use Rattle.contracts.specs.SheetSays.{WriteSheet}
 use Rattle.contracts.specs.TidyingSays.{Tidy}
+use Rattle.contracts.specs.WordtextSays.{WordsText}
+use Rattle.contracts.specs.WhytextSays.{WhyText}
+use Rattle.contracts.specs.ListtextSays.{ListText}
 use Rattle.contracts.specs.CapiSays.{
   DuggPlan,
   DuggChangeLoad,
@@ -56,6 +59,9 @@ use Rattle.contracts.specs.CapiSays.{
   DuggWritePlan,
   DuggWriteSheet,
   DuggTidy,
+  DuggWords,
+  DuggWhy,
+  DuggList,
 }
 
 -- the first n are 0, and the others as they were
@@ -111,6 +117,10 @@ pub record Untouched : Type 0 where
       → Refused (planWrittenGiven r .number) → out′ ≡ out
   pub write-sheet : (site : Site) (out out′ : List ℕ) (r : Written) → WriteSheet site out r out′ → Refused (writtenGiven r .number) → out′ ≡ out
   pub tidy : (sheet out out′ : List ℕ) (r : TidyAnswer) → Tidy sheet out r out′ → Refused (tidyGiven r .number) → out′ ≡ out
+  pub words-text : (call number a b c : ℕ) (out out′ : List ℕ) (r : Written) → WordsText call number a b c out r out′
+      → Refused (writtenGiven r .number) → out′ ≡ out
+  pub why-text : (site : Site) (out out′ : List ℕ) (r : Written) → WhyText site out r out′ → Refused (writtenGiven r .number) → out′ ≡ out
+  pub list-text : (bytes out out′ : List ℕ) (r : Written) → ListText bytes out r out′ → Refused (writtenGiven r .number) → out′ ≡ out
 
 pub record UntouchedInC : Type 0 where
   pub plan : (site : Site) (table table′ : List ℕ) (r : Answer) → DuggPlan site table r table′ → RefusedElse (r .number) → table′ ≡ table
@@ -129,3 +139,6 @@ pub record UntouchedInC : Type 0 where
   pub write-plan : (site : Site) (table out out′ : List ℕ) (r : Answer) → DuggWritePlan site table out r out′ → Refused (r .number) → out′ ≡ out
   pub write-sheet : (site : Site) (out out′ : List ℕ) (r : Answer) → DuggWriteSheet site out r out′ → Refused (r .number) → out′ ≡ out
   pub tidy : (sheet out out′ : List ℕ) (r : Answer) → DuggTidy sheet out r out′ → Refused (r .number) → out′ ≡ out
+  pub words : (given : Answer) (call : ℕ) (out out′ : List ℕ) (r : Answer) → DuggWords given call out r out′ → Refused (r .number) → out′ ≡ out
+  pub why : (site : Site) (out out′ : List ℕ) (r : Answer) → DuggWhy site out r out′ → Refused (r .number) → out′ ≡ out
+  pub list : (bytes out out′ : List ℕ) (r : Answer) → DuggList bytes out r out′ → Refused (r .number) → out′ ≡ out

@@ -1,4 +1,4 @@
--- `lister::main` is safe: what `head` ensures of its answer keeps the rows within the table. Assumes nothing.
+-- `lister::main` is safe: what `listed_head` ensures of its answer keeps the rows within the table. Assumes nothing.
 use native.Mathlib.Omega.{arith}
 use borrow.Author.Needs.{needs}
 use Rattle.lister.proofs.main.Statement.{statement}
@@ -6,7 +6,7 @@ use Rattle.lister.proofs.main.Tie as tie
 
 print-rows-requires : tie.Need-print-rows-requires
 print-rows-requires c κs =
-    let f = c .before .before .before .before .before .before .head .ensures .1 .1 .1 in
+    let f = c .before .before .before .before .before .before .listed-head .ensures .1 .1 .1 in
     ((f .few, f .narrow, omega (arith, f .within), f .some), omega arith)
 
 pub main-spec : {M : Type 1} → statement M

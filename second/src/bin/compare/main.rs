@@ -3,6 +3,7 @@
 //!
 //!     compare SAMPLES                   the limits of a site, spare cells, the sample files, random cases from a fixed seed
 //!     compare --seconds N --seed S      random cases only, from fresh seeds, for N seconds
+//!     compare --replay                  the limits of a site alone; each case goes to standard output, for the bindings
 
 mod admit_limits;
 mod admits;
@@ -22,6 +23,7 @@ mod mend_limits;
 mod mends;
 mod numberings;
 mod random;
+mod replay;
 mod rule_limits;
 mod run;
 mod samples;
@@ -37,6 +39,7 @@ mod word_tables;
 
 use random::Random;
 use run::Run;
+use std::io::{stdout, BufWriter};
 use std::path::Path;
 use std::process::ExitCode;
 use std::time::{Duration, Instant};
@@ -54,29 +57,42 @@ fn main() -> ExitCode {
             (Ok(seconds), Ok(seed)) => fresh(seconds, seed),
             _ => usage(),
         },
+        ["--replay"] => replayed(),
         _ => usage(),
     }
 }
 
 fn usage() -> ExitCode {
-    eprintln!("usage: compare SAMPLES | compare --seconds N --seed S");
+    eprintln!("usage: compare SAMPLES | compare --seconds N --seed S | compare --replay");
     ExitCode::from(2)
+}
+
+/// The limits of a site, through every call.
+fn limits(run: &mut Run) {
+    boundary::compare(run);
+    sheet_limits::compare(run);
+    tidies::compare(run);
+    admit_limits::compare(run);
+    word_limits::compare(run);
+    mend_limits::compare(run);
+    heaviest_limits::compare(run);
+    blocked_limits::compare(run);
+    rule_limits::compare(run);
+    search_limits::compare(run);
+    find_limits::compare(run);
+    load_change_limits::compare(run);
+}
+
+fn replayed() -> ExitCode {
+    let mut run = Run { replay: Some(Box::new(BufWriter::new(stdout()))), ..Run::default() };
+    limits(&mut run);
+    eprintln!("{} cases", run.cases);
+    ExitCode::SUCCESS
 }
 
 fn fixed(dir: &Path) -> ExitCode {
     let mut run = Run::default();
-    boundary::compare(&mut run);
-    sheet_limits::compare(&mut run);
-    tidies::compare(&mut run);
-    admit_limits::compare(&mut run);
-    word_limits::compare(&mut run);
-    mend_limits::compare(&mut run);
-    heaviest_limits::compare(&mut run);
-    blocked_limits::compare(&mut run);
-    rule_limits::compare(&mut run);
-    search_limits::compare(&mut run);
-    find_limits::compare(&mut run);
-    load_change_limits::compare(&mut run);
+    limits(&mut run);
     println!("boundaries: {} cases", run.cases);
     let before = run.cases;
     spares::compare(&mut run);

@@ -2,7 +2,9 @@
 
 use crate::calls::{LIBRARY, SECOND};
 use crate::case::{Call, Case, Seen};
+use crate::replay;
 use second::site::Site;
+use std::io::Write;
 
 /// What `find` can say: the verdict and by which way. That none exists is never shown by the renumbered site.
 const VERDICTS: [[u64; 2]; 6] = [[0, 0], [0, 2], [0, 3], [1, 1], [1, 3], [2, 3]];
@@ -17,6 +19,8 @@ pub struct Run {
     pub over: [u64; 2],
     /// How often `tidy` was done, and refused with 13 and with 17.
     pub tidied: [u64; 3],
+    /// Where each case goes with what the library gave, if that is asked for.
+    pub replay: Option<Box<dyn Write>>,
 }
 
 impl Run {
@@ -30,6 +34,9 @@ impl Run {
             library.print("the library");
             second.print("the second program");
             std::process::exit(1);
+        }
+        if let Some(to) = &mut self.replay {
+            replay::write(to.as_mut(), case, &library).expect("the cases can be written");
         }
         self.cases += 1;
         self.given[second.answer.number as usize] += 1;

@@ -1,0 +1,3 @@
+-- The laws of crate `listhead`, module by module.
+pub mod Heading
+pub mod Printed

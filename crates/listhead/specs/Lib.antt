@@ -1,0 +1,3 @@
+-- The definitions of crate `listhead`, module by module.
+pub mod Listing
+pub mod Parts

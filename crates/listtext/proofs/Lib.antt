@@ -1,0 +1,3 @@
+-- The laws of crate `listtext`, module by module.
+pub mod Rows
+pub mod Whole

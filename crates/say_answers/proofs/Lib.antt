@@ -1,0 +1,2 @@
+-- The laws of crate `say_answers`, module by module.
+pub mod Example

@@ -1,0 +1,2 @@
+-- The laws of crate `whytext`, module by module.
+pub mod Firsts

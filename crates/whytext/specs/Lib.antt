@@ -1,0 +1,2 @@
+-- The definitions of crate `whytext`, module by module.
+pub mod Text

@@ -1,0 +1,2 @@
+-- The laws of crate `wordtext`, module by module.
+pub mod Kept
