@@ -27,7 +27,7 @@ for name, site, calls in [("3 cells", tunnel(3, 3, 2), 5000), ("the largest site
     python["clash, " + name] = best(lambda: site.clash(1, 2), 5000)
     python["plan, " + name] = best(lambda: site.plan_into(table), calls)
 
-print("## Through the bindings")
+print("\n## Through the bindings")
 print()
 print("The call as C makes it, through the crate for Rust, and through the package for Python; `over C` is what Python adds. The table of `plan` is lent, and never copied.")
 print()
