@@ -1,7 +1,7 @@
 // Whether a table is the greedy plan, tested in place: each row is made anew from the words of the rows before it, and compared.
 //
 // What it costs, for I cells and N positions: one pass over a row's words to make it, one to compare it and one to join it to the words. The local room is
-// a word and two bytes for each position, 12 kilobytes: no second table.
+// a word and two bytes for each position, 12 kilobytes, and for up to 64 positions 384 bytes: no second table.
 use rowwords::load_of;
 use rowwords::next_row;
 ghost use mathlib.Core.Path.{_≡_};
@@ -60,6 +60,73 @@ fn test_rows(
     true
 }
 
+// The same in lent room: bytes for a mask and a row, and words that are 0.
+fn test_in(
+    table: &[u8],
+    mask: &mut [u8],
+    row: &mut [u8],
+    words: &mut [u32],
+    cells: usize,
+    slots: usize,
+    channels: usize,
+    loads: &[u16; 32],
+    clash: &[u32; 32],
+    blocked: &[u64; 32],
+) -> bool
+    requires { ⌜ (0 < cells) × (cells ≤ 32) × (channels ≤ 16) × (slots * channels ≤ 2048) × (cells * (slots * channels) ≤ length (now table)) ⌝ }
+    requires { ⌜ (length (now mask) ≡ slots * channels) × (length (now row) ≡ slots * channels) × (slots * channels ≤ length (now words)) ⌝ }
+    requires { ⌜ Zeros (slots * channels) (now words) × EitherWay (now clash) ⌝ }
+    ensures { λ r. ⌜ r ≡ isPlan (netBy cells (slots * channels) (now (loads .entry)) (now (clash .entry)) (isOpen (now (blocked .entry))))
+        (now (table .entry)) ⌝ }
+{
+    positions::bars(blocked, mask);
+    test_rows(
+        table,
+        row,
+        words,
+        cells,
+        slots,
+        channels,
+        loads,
+        clash,
+        mask,
+        blocked,
+    )
+}
+
+// Whether a table of at most 64 positions is the greedy plan: the room is cleared for so many alone.
+fn is_small_plan(
+    table: &[u8],
+    cells: usize,
+    slots: usize,
+    channels: usize,
+    loads: &[u16; 32],
+    clash: &[u32; 32],
+    blocked: &[u64; 32],
+) -> bool
+    requires { ⌜ (0 < cells) × (cells ≤ 32) × (channels ≤ 16) × (slots * channels ≤ 64) × (cells * (slots * channels) ≤ length (now table)) ⌝ }
+    requires { ⌜ EitherWay (now clash) ⌝ }
+    ensures { λ r. ⌜ r ≡ isPlan (netBy cells (slots * channels) (now (loads .entry)) (now (clash .entry)) (isOpen (now (blocked .entry))))
+        (now (table .entry)) ⌝ }
+{
+    let n = slots * channels;
+    let mut mask = [0u8; 64];
+    let mut row = [0u8; 64];
+    let mut words = [0u32; 64];
+    test_in(
+        table,
+        &mut mask[..n],
+        &mut row[..n],
+        &mut words,
+        cells,
+        slots,
+        channels,
+        loads,
+        clash,
+        blocked,
+    )
+}
+
 // Whether a table is the greedy plan, byte for byte.
 pub fn is_plan(
     table: &[u8],
@@ -76,12 +143,15 @@ pub fn is_plan(
         (now (table .entry)) ⌝ }
 {
     let n = slots * channels;
+    if n <= 64 {
+        return is_small_plan(table, cells, slots, channels, loads, clash, blocked);
+    }
     let mut mask = [0u8; 2048];
-    positions::bars(blocked, &mut mask[..n]);
-    let mut words = [0u32; 2048];
     let mut row = [0u8; 2048];
-    test_rows(
+    let mut words = [0u32; 2048];
+    test_in(
         table,
+        &mut mask[..n],
         &mut row[..n],
         &mut words,
         cells,
@@ -89,7 +159,6 @@ pub fn is_plan(
         channels,
         loads,
         clash,
-        &mask,
         blocked,
     )
 }

@@ -1,7 +1,7 @@
 // The greedy plan from a cell on, where the rows before it stand. The function that writes is lent the part of the table from that cell's row on, and no more.
 //
 // What it costs: one pass over a row's words to mark it, one to fill it and one to join it to the words, whatever the clashes. The local room is a word and a
-// byte for each position: no second table.
+// byte for each position: no second table. Of at most 64 positions only so many are cleared.
 use planner::PlanAnswer;
 use rowwords::load_of;
 use rowwords::next_row;
@@ -71,7 +71,86 @@ fn rows_from(
 }
 
 // The greedy plan from cell `first` on, by index, where the rows before it are planned: they are read, and never written while every cell finds room.
-// Where one finds none, the site's part is made idle, the rows before included.
+// Where one finds none, the site's part is made idle, the rows before included. The room is lent: bytes for a mask, and words that are 0.
+fn plan_in(
+    table: &mut [u8],
+    mask: &mut [u8],
+    words: &mut [u32],
+    first: usize,
+    cells: usize,
+    slots: usize,
+    channels: usize,
+    loads: &[u16; 32],
+    clash: &[u32; 32],
+    blocked: &[u64; 32],
+) -> PlanAnswer
+    requires { ⌜ (first ≤ cells) × (cells ≤ 32) × (channels ≤ 16) × (slots * channels ≤ 2048) × (cells * (slots * channels) ≤ length (now table)) ⌝ }
+    requires { ⌜ (length (now mask) ≡ slots * channels) × (slots * channels ≤ length (now words)) × Zeros (slots * channels) (now words) ⌝ }
+    requires { ⌜ PlannedTo (netBy cells (slots * channels) (now loads) (now clash) (isOpen (now blocked))) first (now table) × EitherWay (now clash) ⌝ }
+    ensures answer { λ r. ⌜ r ≡ answerOf (greedy (netBy cells (slots * channels) (now (loads .entry)) (now (clash .entry))
+        (isOpen (now (blocked .entry))))) ⌝ }
+    ensures table { λ _. ⌜ now (table .exit) ≡ leaves (netBy cells (slots * channels) (now (loads .entry)) (now (clash .entry))
+        (isOpen (now (blocked .entry)))) (now (table .entry)) ⌝ }
+{
+    let n = slots * channels;
+    let from = first * n;
+    positions::bars(blocked, mask);
+    gather(words, table, n, first);
+    let answer = rows_from(
+        &mut table[from..],
+        first,
+        cells,
+        slots,
+        channels,
+        loads,
+        clash,
+        mask,
+        words,
+        blocked,
+    );
+    let PlanAnswer::Done = answer else {
+        rows::clear(&mut table[..from]);
+        return answer;
+    };
+    PlanAnswer::Done
+}
+
+// The same for at most 64 positions: the room is cleared for so many alone.
+fn plan_small_from(
+    table: &mut [u8],
+    first: usize,
+    cells: usize,
+    slots: usize,
+    channels: usize,
+    loads: &[u16; 32],
+    clash: &[u32; 32],
+    blocked: &[u64; 32],
+) -> PlanAnswer
+    requires { ⌜ (first ≤ cells) × (cells ≤ 32) × (channels ≤ 16) × (slots * channels ≤ 64) × (cells * (slots * channels) ≤ length (now table)) ⌝ }
+    requires { ⌜ PlannedTo (netBy cells (slots * channels) (now loads) (now clash) (isOpen (now blocked))) first (now table) × EitherWay (now clash) ⌝ }
+    ensures answer { λ r. ⌜ r ≡ answerOf (greedy (netBy cells (slots * channels) (now (loads .entry)) (now (clash .entry))
+        (isOpen (now (blocked .entry))))) ⌝ }
+    ensures table { λ _. ⌜ now (table .exit) ≡ leaves (netBy cells (slots * channels) (now (loads .entry)) (now (clash .entry))
+        (isOpen (now (blocked .entry)))) (now (table .entry)) ⌝ }
+{
+    let n = slots * channels;
+    let mut mask = [0u8; 64];
+    let mut words = [0u32; 64];
+    plan_in(
+        table,
+        &mut mask[..n],
+        &mut words,
+        first,
+        cells,
+        slots,
+        channels,
+        loads,
+        clash,
+        blocked,
+    )
+}
+
+// The same for any number of positions.
 pub fn plan_from(
     table: &mut [u8],
     first: usize,
@@ -90,26 +169,21 @@ pub fn plan_from(
         (isOpen (now (blocked .entry)))) (now (table .entry)) ⌝ }
 {
     let n = slots * channels;
-    let from = first * n;
+    if n <= 64 {
+        return plan_small_from(table, first, cells, slots, channels, loads, clash, blocked);
+    }
     let mut mask = [0u8; 2048];
-    positions::bars(blocked, &mut mask[..n]);
     let mut words = [0u32; 2048];
-    gather(&mut words, table, n, first);
-    let answer = rows_from(
-        &mut table[from..],
+    plan_in(
+        table,
+        &mut mask[..n],
+        &mut words,
         first,
         cells,
         slots,
         channels,
         loads,
         clash,
-        &mask,
-        &mut words,
         blocked,
-    );
-    let PlanAnswer::Done = answer else {
-        rows::clear(&mut table[..from]);
-        return answer;
-    };
-    PlanAnswer::Done
+    )
 }

@@ -10,12 +10,12 @@ use native.Mathlib.Omega.{arith}
 use types.Run.{OneOf}
 use denote.Enum.Declared.{tagOf}
 use borrow.Rule.Slice.PartMut.{midOf, putMid}
-use lib.ListN.{length, getD, take, drop, replicate, length-drop, length-replicate, take-append-drop, List·getD-append}
+use lib.ListN.{length, getD, take, drop, replicate, length-drop, length-replicate, take-append-drop}
 use lib.ListN.{replicate-append-replicate}
 use lib.Seq.{length-take-le, take-all, take-at, drop-at, drop-drop, drop-length, drop-append-le}
 use Rattle.laws.specs.Part.{listOf}
 use Rattle.laws.proofs.Part.{back, length-put, take-put-end, drop-put-after, getD-put}
-use Rattle.laws.proofs.Stores.{length-list, list-at}
+use Rattle.laws.proofs.Stores.{list-at}
 use Rattle.positions.specs.Blocked.{barOf}
 use Rattle.theory.specs.Net.{Net}
 use Rattle.theory.specs.Greedy.{row, Outcome, planned, noRoom, run, greedy}
@@ -58,18 +58,13 @@ module _ (at n : ℕ) (p r : List ℕ) (long : length r ≡ n) (fits : at + n �
   made-rows a t e h =
       ap (take (at + n)) (back at n p r) ∙ take-put-end at n r p long fits ∙ ap (λ (l : List ℕ). l ++ r) e ∙ sym (drop-append-le a t r h)
 
--- zeros of which the first n are lent
-abbrev pub zeros : List ℕ
-zeros = replicate 2048 0
+-- of m zeros the first n are lent
+pub cut : (m n : ℕ) → n ≤ m → n ≡ length (take {A = ℕ} n (replicate m 0))
+cut m n h = sym (length-take-le n (replicate m 0) (subst (λ (k : ℕ). n ≤ k) (sym (length-replicate {A = ℕ} m 0)) h))
 
-pub cut : (n : ℕ) → n ≤ 2048 → n ≡ length (take n zeros)
-cut n h = sym (length-take-le n zeros (subst (λ (k : ℕ). n ≤ k) (sym (length-replicate {A = ℕ} 2048 0)) h))
-
--- a mask whose first n bytes are made bars the blocked positions
-pub mask-barred : (blocked m rest : List ℕ) (n : ℕ) → m ≡ listOf (barOf blocked) n → MaskBars n blocked (m ++ rest)
-mask-barred blocked m rest n is k h =
-    let long : length m ≡ n = ap length is ∙ length-list (barOf blocked) n in
-    List·getD-append m rest 0 k (omega arith) ∙ ap (λ (l : List ℕ). getD l k 0) is ∙ list-at (barOf blocked) n k h
+-- a mask of n bytes bars the blocked positions
+pub mask-barred : (blocked m : List ℕ) (n : ℕ) → m ≡ listOf (barOf blocked) n → MaskBars n blocked m
+mask-barred blocked m n is k h = ap (λ (l : List ℕ). getD l k 0) is ∙ list-at (barOf blocked) n k h
 
 -- the arm that takes every other answer
 pub not-done : (a : PlanAnswer) → OneOf (1 ∷ 2 ∷ 3 ∷ []) (tagOf the-type a) → a ≡ Done → ⊥
