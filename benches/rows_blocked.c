@@ -40,6 +40,7 @@ static bool has(const maker *m, int operation)
     switch (operation) {
     case PLAN: return m->plan != NULL;
     case CHECK: return m->check != NULL;
+    case MEND: return m->mend != NULL;
     default: return m->read_site != NULL;
     }
 }
