@@ -1,16 +1,17 @@
 // The checker of finished tables: the first reservation on a blocked position, then the first clash, then the first wrong number of reservations.
 //
-// What it costs, for I cells and N positions: each row is read once to join its cell to a word for each position and to try it there against the cells joined
-// before it (I times N steps), and each row is counted where it stands in the table (I times N steps, sixteen or more bytes at once). Both are passes over
-// neighbouring places without a branch, and the search for a clash ends at the first 64 positions that have one. Pairs of cells are looked at at one position,
-// the one that the answer names. Nothing of the table is copied; the local room is two words for each of 64 positions.
-// Where some of 64 positions are blocked, each row is read there once more, as bytes; where none is, only their word is looked at.
+// What it costs, for I cells and N positions: each row is read once, a block of 128 positions at a time, sixteen bytes at once, and each block becomes two
+// words of 64 bits, which are held against those of the cells above it in its clash row; and each row is counted where it stands in the table (I times N steps,
+// sixteen or more bytes at once). The search for a clash ends at the first block that has one. Fewer than 128 positions are looked at by a word for each, which
+// every cell is joined to. Pairs of cells are looked at at one position, the one that the answer names. Nothing of the table is copied; the local room is two
+// words for each cell, or for each of 64 positions.
+// Where some of 128 positions are blocked, each row is read there once more; where none is, only their two words are looked at.
 ghost use mathlib.Core.Path.{_≡_};
 ghost use mathlib.Core.Bool.{_&&_, not};
 ghost use Prim.Native.Nat.{_+_, _-_, _*_, _≤_, _<_};
 ghost use lib.Dec.{eqb};
 ghost use lib.ListN.{length};
-ghost use Rattle.laws.specs.Bits.{bitAt, bitIn};
+ghost use Rattle.laws.specs.Bits.{bitAt, bitIn, wordOf};
 ghost use Rattle.laws.specs.Choice.{pick};
 ghost use Rattle.laws.specs.Search.{first};
 ghost use Rattle.theory.specs.Net.{unblocked};
@@ -18,8 +19,14 @@ ghost use Rattle.theory.specs.Greedy.{sends, reserved};
 ghost use Rattle.theory.specs.Verdict.{lowestBarred, lowestClash, openVerdict, tableVerdict};
 ghost use Rattle.site.specs.Reach.{isOpen, netIn};
 ghost use Rattle.checker.specs.Marks.{barNet, clashNet, clashingIn, heldIn, markSet, Marks, heldRow};
+ghost use Rattle.blocks.specs.Order.{lowOrder, highOrder, bitOfTwo};
 ghost use Rattle.checker.specs.Check.{verdictOf, checkAnswer};
 ghost use Rattle.laws.specs.Part.{Zeros};
+use blocks::Block;
+use blocks::block_of;
+use blocks::block_of_bits;
+use blocks::lowest_place;
+use clashblocks::block_clash;
 use rowcounts::cell_count;
 use rowcounts::lowest_wrong;
 use site::Fault;
@@ -85,6 +92,43 @@ fn clash_in(table: &[u8], n: usize, from: usize, m: usize, clash: &[u32; 32], ce
     lowest_marked(&marks, m)
 }
 
+// The lowest of the 128 positions from `at` on that has a clash, counted from `at`; 128 where there is none.
+fn clash_block(table: &[u8], n: usize, at: usize, clash: &[u32; 32], cells: usize) -> usize
+    requires { ⌜ (cells ≤ 32) × (at + 128 ≤ n) × (cells * n ≤ length (now table)) ⌝ }
+    ensures { λ r. ⌜ r ≡ first (λ k. clashingIn cells n (now (clash .entry)) (now (table .entry)) (at + k)) 0 128 ⌝ }
+{
+    let met = block_clash(table, n, at, clash, cells);
+    lowest_place(met.low, met.high)
+}
+
+// Where the block begins that has position `from`: there, or 128 before the end where fewer are left.
+fn block_at(from: usize, n: usize) -> usize
+    requires { ⌜ (from < n) × (128 ≤ n) ⌝ }
+    ensures { λ r. ⌜ (r ≤ from) × (from < r + 128) × (r + 128 ≤ n) ⌝ }
+{
+    if n - from < 128 {
+        return n - 128;
+    }
+    from
+}
+
+// The lowest position with a clash, a block at a time; n where there is none. The last block may begin inside the one before it.
+fn clash_by_blocks(table: &[u8], n: usize, clash: &[u32; 32], cells: usize) -> usize
+    requires { ⌜ (cells ≤ 32) × (128 ≤ n) × (cells * n ≤ length (now table)) ⌝ }
+    ensures { λ r. ⌜ r ≡ lowestClash (clashNet cells n (now (clash .entry))) (reserved n (now (table .entry))) ⌝ }
+{
+    let mut from: usize = 0;
+    while from < n {
+        let at = block_at(from, n);
+        let p = clash_block(table, n, at, clash, cells);
+        if p < 128 {
+            return at + p;
+        }
+        from = at + 128;
+    }
+    from
+}
+
 // How many of the positions that are left are looked at together.
 fn together(left: usize) -> usize
     requires { ⌜ 0 < left ⌝ }
@@ -96,8 +140,8 @@ fn together(left: usize) -> usize
     64
 }
 
-// The lowest position with a clash; n where there is none.
-fn lowest_clash(table: &[u8], n: usize, clash: &[u32; 32], cells: usize) -> usize
+// The lowest position with a clash, 64 positions at a time; n where there is none.
+fn clash_by_words(table: &[u8], n: usize, clash: &[u32; 32], cells: usize) -> usize
     requires { ⌜ (cells ≤ 32) × (cells * n ≤ length (now table)) ⌝ }
     ensures { λ r. ⌜ r ≡ lowestClash (clashNet cells n (now (clash .entry))) (reserved n (now (table .entry))) ⌝ }
 {
@@ -111,6 +155,17 @@ fn lowest_clash(table: &[u8], n: usize, clash: &[u32; 32], cells: usize) -> usiz
         from += m;
     }
     from
+}
+
+// The lowest position with a clash; n where there is none. Fewer positions than a block has are looked at by words.
+fn lowest_clash(table: &[u8], n: usize, clash: &[u32; 32], cells: usize) -> usize
+    requires { ⌜ (cells ≤ 32) × (cells * n ≤ length (now table)) ⌝ }
+    ensures { λ r. ⌜ r ≡ lowestClash (clashNet cells n (now (clash .entry))) (reserved n (now (table .entry))) ⌝ }
+{
+    if n < 128 {
+        return clash_by_words(table, n, clash, cells);
+    }
+    clash_by_blocks(table, n, clash, cells)
 }
 
 // A mark that is set where a byte is a reservation, and else as it was.
@@ -183,6 +238,38 @@ fn barred_in(table: &[u8], n: usize, from: usize, m: usize, word: u64, cells: us
     lowest_in(word, &marks, m)
 }
 
+// The positions of a block that some cell reserves.
+fn held_block(table: &[u8], n: usize, from: usize, cells: usize) -> Block
+    requires { ⌜ (cells ≤ 32) × (from + 128 ≤ n) × (cells * n ≤ length (now table)) ⌝ }
+    ensures low { λ r. ⌜ r .low ≡ wordOf (lowOrder (λ k. heldIn cells n (now (table .entry)) (from + k))) 64 ⌝ }
+    ensures high { λ r. ⌜ r .high ≡ wordOf (highOrder (λ k. heldIn cells n (now (table .entry)) (from + k))) 64 ⌝ }
+{
+    let mut low: u64 = 0;
+    let mut high: u64 = 0;
+    for i in 0..cells {
+        let b = block_of(table, i * n + from);
+        low = low | b.low;
+        high = high | b.high;
+    }
+    Block {
+        low: low,
+        high: high,
+    }
+}
+
+// The lowest of the 128 positions from `from` on that is a bit of two words and that some cell reserves, counted from `from`; 128 where there is none.
+fn barred_block(table: &[u8], n: usize, from: usize, x: u64, y: u64, cells: usize) -> usize
+    requires { ⌜ (cells ≤ 32) × (from + 128 ≤ n) × (cells * n ≤ length (now table)) ⌝ }
+    ensures { λ r. ⌜ r ≡ first (λ k. bitOfTwo x y k && heldIn cells n (now (table .entry)) (from + k)) 0 128 ⌝ }
+{
+    if (x | y) == 0 {
+        return 128;
+    }
+    let shut = block_of_bits(x, y);
+    let held = held_block(table, n, from, cells);
+    lowest_place(shut.low & held.low, shut.high & held.high)
+}
+
 // The lowest blocked position that some cell reserves; n where there is none.
 fn lowest_barred(table: &[u8], n: usize, blocked: &[u64; 32], cells: usize) -> usize
     requires { ⌜ (cells ≤ 32) × (n ≤ 2048) × (cells * n ≤ length (now table)) ⌝ }
@@ -190,6 +277,21 @@ fn lowest_barred(table: &[u8], n: usize, blocked: &[u64; 32], cells: usize) -> u
 {
     let mut from: usize = 0;
     while from < n {
+        if 128 <= n - from {
+            let q = barred_block(
+                table,
+                n,
+                from,
+                blocked[from / 64],
+                blocked[from / 64 + 1],
+                cells,
+            );
+            if q < 128 {
+                return from + q;
+            }
+            from += 128;
+            continue;
+        }
         let m = together(n - from);
         let p = barred_in(table, n, from, m, blocked[from / 64], cells);
         if p < m {

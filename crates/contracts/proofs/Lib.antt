@@ -6,6 +6,7 @@ pub mod SiteOne
 pub mod ResizeOne
 pub mod ClashcountOne
 pub mod WordsOne
+pub mod BlocksOne
 pub mod LoadsOne
 pub mod TextOne
 pub mod FlowlistOne
@@ -23,6 +24,7 @@ pub mod PlantestOne
 pub mod ReplanOne
 pub mod HandheldOne
 pub mod RowcountsOne
+pub mod ClashblocksOne
 pub mod CheckerOne
 pub mod OnewayOne
 pub mod SearchOne

@@ -6,6 +6,7 @@ pub mod SiteSays
 pub mod ResizeSays
 pub mod ClashcountSays
 pub mod WordsSays
+pub mod BlocksSays
 pub mod LoadsSays
 pub mod TextSays
 pub mod FlowlistSays
@@ -23,6 +24,7 @@ pub mod PlantestSays
 pub mod ReplanSays
 pub mod HandheldSays
 pub mod RowcountsSays
+pub mod ClashblocksSays
 pub mod CheckerSays
 pub mod OnewaySays
 pub mod SearchSays

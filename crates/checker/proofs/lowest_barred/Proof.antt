@@ -9,7 +9,7 @@ use Rattle.laws.proofs.Search.{ended}
 use Rattle.theory.specs.Greedy.{reserved}
 use Rattle.theory.specs.Verdict.{barredAt, lowestBarred}
 use Rattle.checker.specs.Marks.{barNet}
-use Rattle.checker.proofs.Barred.{word-test}
+use Rattle.checker.proofs.Barred.{word-test, two-test}
 use Rattle.checker.proofs.Lowest.{part-found, part-missed}
 use borrow.Author.Needs.{needs}
 use Rattle.checker.proofs.lowest_barred.Statement.{statement}
@@ -30,6 +30,66 @@ loop-holds : tie.Need-loop-holds Inv-loop μ-loop
 unfolding lowestBarred
 loop-holds c = (omega arith, (λ _. omega arith), refl)
 
+sub-if1 : tie.Need-sub-if1 Inv-loop μ-loop
+sub-if1 c = search needs
+
+mul-barred-block : tie.Need-mul-barred-block Inv-loop μ-loop
+mul-barred-block c = search needs
+
+element-copy-out-barred-block : tie.Need-element-copy-out-barred-block Inv-loop μ-loop
+element-copy-out-barred-block c = search needs
+
+add-barred-block : tie.Need-add-barred-block Inv-loop μ-loop
+add-barred-block c = search needs
+
+mul-barred-block-2 : tie.Need-mul-barred-block-2 Inv-loop μ-loop
+mul-barred-block-2 c = search needs
+
+element-copy-out-barred-block-2 : tie.Need-element-copy-out-barred-block-2 Inv-loop μ-loop
+element-copy-out-barred-block-2 c = search needs
+
+barred-block-requires : tie.Need-barred-block-requires Inv-loop μ-loop
+barred-block-requires c κs = search needs
+
+-- what the block's search finds, by the test
+module _ (c : tie.After-barred-block Inv-loop μ-loop) where
+  abbrev block : tie.In-loop Inv-loop μ-loop
+  block = c .before .before .before .before
+
+  found-block : let a = block .before .before .before .args in
+      c .barred-block .result ≡ first (λ k. test (a .table .now) (a .n) (a .blocked .now) (a .cells) (block .before .loop .from + k)) 0 128
+  found-block =
+      let a = block .before .before .before .args in
+      let l = block .before .loop in
+      c .barred-block .ensures ∙ two-test (a .cells) (a .n) (a .table .now) (a .blocked .now) (l .from) (l .inv .1 (block .loop-test .taken))
+
+add-result : tie.Need-add-result Inv-loop μ-loop
+add-result c = omega arith
+
+returns : tie.Need-returns Inv-loop μ-loop
+returns c =
+    let at = c .before .before .before .before .before .before in
+    let a = at .before .before .args in
+    part-found (test (a .table .now) (a .n) (a .blocked .now) (a .cells)) (at .loop .from) 128 (a .n) (omega arith) (at .loop .inv .2)
+    (found-block (c .before)) (omega (arith, c .if2 .taken))
+
+add-from : tie.Need-add-from Inv-loop μ-loop
+add-from c = search needs
+
+loop-less : tie.Need-loop-less Inv-loop μ-loop
+loop-less c = search needs
+
+loop-again : tie.Need-loop-again Inv-loop μ-loop
+loop-again c =
+    let at = c .before .before .before .before .before .before in
+    let a = at .before .before .args in
+    let here = at .loop .inv .1 (c .before .before .before .before .before .loop-test .taken) in (
+      omega arith,
+      (λ h. omega (arith, here)),
+      part-missed (test (a .table .now) (a .n) (a .blocked .now) (a .cells)) (at .loop .from) 128 (a .n) (omega arith) (at .loop .inv .2)
+          (found-block (c .before)) (omega (arith, c .if2 .left)),
+    )
+
 sub-together : tie.Need-sub-together Inv-loop μ-loop
 sub-together c = search needs
 
@@ -48,7 +108,7 @@ barred-in-requires c κs = search needs
 -- what the part's search finds, by the test
 module _ (c : tie.After-barred-in Inv-loop μ-loop) where
   abbrev turn : tie.In-loop Inv-loop μ-loop
-  turn = c .before .before .before
+  turn = c .before .before .before .before
 
   abbrev parts : tie.After-together Inv-loop μ-loop
   parts = c .before .before
@@ -62,35 +122,35 @@ module _ (c : tie.After-barred-in Inv-loop μ-loop) where
       c .barred-in .ensures
       ∙ word-test (a .cells) (a .n) (a .table .now) (a .blocked .now) (l .from) (parts .together .result) (l .inv .1 (turn .loop-test .taken)) (omega arith)
 
-add-result : tie.Need-add-result Inv-loop μ-loop
-add-result c = omega arith
-
-returns : tie.Need-returns Inv-loop μ-loop
-returns c =
-    let at = c .before .before .before .before .before in
-    let a = at .before .before .args in
-    part-found (test (a .table .now) (a .n) (a .blocked .now) (a .cells)) (at .loop .from) (c .before .before .before .together .result) (a .n) (omega arith)
-    (at .loop .inv .2) (found-part (c .before)) (c .if1 .taken)
-
-add-from : tie.Need-add-from Inv-loop μ-loop
-add-from c = search needs
-
-loop-less : tie.Need-loop-less Inv-loop μ-loop
-loop-less c = search needs
-
-loop-again : tie.Need-loop-again Inv-loop μ-loop
-loop-again c =
-    let at = c .before .before .before .before .before in
-    let a = at .before .before .args in
-    let more = at .loop .inv .1 (c .before .before .before .before .loop-test .taken) in (
-      omega arith,
-      (λ h. omega (arith, more)),
-      part-missed (test (a .table .now) (a .n) (a .blocked .now) (a .cells)) (at .loop .from) (c .before .before .before .together .result) (a .n) (omega arith)
-          (at .loop .inv .2) (found-part (c .before)) (c .if1 .left),
-    )
+add-result-2 : tie.Need-add-result-2 Inv-loop μ-loop
+add-result-2 c = omega arith
 
 returns-2 : tie.Need-returns-2 Inv-loop μ-loop
 returns-2 c =
+    let at = c .before .before .before .before .before .before in
+    let a = at .before .before .args in
+    part-found (test (a .table .now) (a .n) (a .blocked .now) (a .cells)) (at .loop .from) (c .before .before .before .together .result) (a .n) (omega arith)
+    (at .loop .inv .2) (found-part (c .before)) (c .if3 .taken)
+
+add-from-2 : tie.Need-add-from-2 Inv-loop μ-loop
+add-from-2 c = search needs
+
+loop-less-2 : tie.Need-loop-less-2 Inv-loop μ-loop
+loop-less-2 c = search needs
+
+loop-again-2 : tie.Need-loop-again-2 Inv-loop μ-loop
+loop-again-2 c =
+    let at = c .before .before .before .before .before .before in
+    let a = at .before .before .args in
+    let more = at .loop .inv .1 (c .before .before .before .before .before .loop-test .taken) in (
+      omega arith,
+      (λ h. omega (arith, more)),
+      part-missed (test (a .table .now) (a .n) (a .blocked .now) (a .cells)) (at .loop .from) (c .before .before .before .together .result) (a .n) (omega arith)
+          (at .loop .inv .2) (found-part (c .before)) (c .if3 .left),
+    )
+
+returns-3 : tie.Need-returns-3 Inv-loop μ-loop
+returns-3 c =
     let at = c .before in
     let a = at .before .before .args in
     ended (test (a .table .now) (a .n) (a .blocked .now) (a .cells)) (at .loop .from) (a .n) (at .loop .inv .2) (omega arith)
@@ -102,14 +162,26 @@ lowest-barred-spec =
     Inv-loop
     μ-loop
     loop-holds
-    sub-together
-    together-requires
-    mul-barred-in
-    element-copy-out-barred-in
-    barred-in-requires
+    sub-if1
+    mul-barred-block
+    element-copy-out-barred-block
+    add-barred-block
+    mul-barred-block-2
+    element-copy-out-barred-block-2
+    barred-block-requires
     add-result
     returns
     add-from
     loop-less
     loop-again
-    returns-2)
+    sub-together
+    together-requires
+    mul-barred-in
+    element-copy-out-barred-in
+    barred-in-requires
+    add-result-2
+    returns-2
+    add-from-2
+    loop-less-2
+    loop-again-2
+    returns-3)

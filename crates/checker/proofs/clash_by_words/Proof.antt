@@ -1,4 +1,4 @@
--- `checker::lowest_clash` meets its contract: a search: what is left gives the answer. Assumes nothing.
+-- `checker::clash_by_words` meets its contract: a search: what is left gives the answer. Assumes nothing.
 use mathlib.Core.Path.{_≡_, refl}
 use mathlib.Core.Bool.{Bool}
 use mathlib.Core.List.{List}
@@ -11,8 +11,8 @@ use Rattle.theory.specs.Verdict.{lowestClash}
 use Rattle.checker.specs.Marks.{clashNet, clashing}
 use Rattle.checker.proofs.Lowest.{part-found, part-missed}
 use borrow.Author.Needs.{needs}
-use Rattle.checker.proofs.lowest_clash.Statement.{statement}
-use Rattle.checker.proofs.lowest_clash.Tie as tie
+use Rattle.checker.proofs.clash_by_words.Statement.{statement}
+use Rattle.checker.proofs.clash_by_words.Tie as tie
 
 abbrev test : List ℕ → ℕ → List ℕ → ℕ → ℕ → Bool
 test table n clash cells = clashing (clashNet cells n clash) (reserved n table)
@@ -69,8 +69,8 @@ returns-2 c =
     let a = at .before .before .args in
     ended (test (a .table .now) (a .n) (a .clash .now) (a .cells)) (at .loop .from) (a .n) (at .loop .inv .1) (omega arith)
 
-pub lowest-clash-spec : {M : Type 1} → statement M
-lowest-clash-spec =
+pub clash-by-words-spec : {M : Type 1} → statement M
+clash-by-words-spec =
     tie.close
     (tie.spec
     Inv-loop

@@ -1,0 +1,3 @@
+-- The laws of crate `blocks`, module by module.
+pub mod Columns
+pub mod Places

@@ -1,0 +1,2 @@
+-- The definitions of crate `blocks`, module by module.
+pub mod Order

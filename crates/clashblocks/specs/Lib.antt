@@ -1,0 +1,2 @@
+-- The definitions of crate `clashblocks`, module by module.
+pub mod Above
