@@ -1,2 +1,2 @@
 -- The definitions of crate `changelist`, module by module.
-pub mod Words
+pub mod Sets

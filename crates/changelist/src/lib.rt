@@ -1,24 +1,16 @@
-// The changes of a mended table, by the words that say who stands where: stored in the table, and listed, four numbers each.
+// The changes of a mended table, by the sets that say who stands where and who stood: stored in the table, and listed, four numbers each.
+//
+// What it costs: a look at each word of 64 positions, and some steps for each change, which is the lowest bit that is left of those in which the words differ.
 ghost use mathlib.Core.Path.{_≡_};
+ghost use mathlib.Core.Bool.{not};
 ghost use mathlib.Core.List.{[], _∷_};
 ghost use Prim.Native.Nat.{_+_, _*_, _≤_, _<_};
 ghost use lib.ListN.{length};
 ghost use lib.Seq.{sets};
-ghost use Rattle.laws.specs.Sum.{bit};
-ghost use Rattle.theory.specs.Greedy.{reserved};
-ghost use Rattle.mending.specs.Changes.{differ, change, cellChanges, follow};
-ghost use Rattle.standing.specs.Words.{standsIn};
-ghost use Rattle.changelist.specs.Words.{cellCount, allCount, tableWith, listWith, CellsCounted};
-
-// Whether one of the two is a reservation and the other silence.
-fn differs(is: bool, was: bool) -> bool
-    ensures { λ r. ⌜ r ≡ differ is was ⌝ }
-{
-    if was {
-        return !is;
-    }
-    is
-}
+ghost use Rattle.laws.specs.Bits.{bitAt};
+ghost use Rattle.mending.specs.Changes.{changeEntry, cellChanges, follow};
+ghost use Rattle.standing.specs.Sets.{standsIn};
+ghost use Rattle.changelist.specs.Sets.{wordChanges, wordCount, cellCount, allCount, tableWith, listWith, WordInside, RowWithin, AllWithin};
 
 // Writes one change.
 fn note(list: &mut [u16], at: usize, cell: u16, position: u16, was: u16, is: u16)
@@ -31,8 +23,8 @@ fn note(list: &mut [u16], at: usize, cell: u16, position: u16, was: u16, is: u16
     list[at + 3] = is;
 }
 
-// Stores and lists the change at cell i and position k, if there is one; answers where the next one goes.
-fn list_at(
+// Stores and lists a change at cell i and position k: what stands there now stood not.
+fn list_change(
     table: &mut [u8],
     list: &mut [u16],
     n: usize,
@@ -40,47 +32,69 @@ fn list_at(
     k: usize,
     is: bool,
     at: usize,
-) -> usize
-    requires { ⌜ (i < 32) × (n ≤ 2048) × (k < n) × (i * n + n ≤ length (now table)) ⌝ }
-    requires { ⌜ at + 4 * bit (differ is (reserved n (now table) i k)) ≤ length (now list) ⌝ }
-    ensures table { λ _. ⌜ now (table .exit) ≡ follow n (change is (reserved n (now (table .entry)) i k) i k) (now (table .entry)) ⌝ }
-    ensures list { λ _. ⌜ now (list .exit) ≡ sets (now (list .entry)) at (change is (reserved n (now (table .entry)) i k) i k) ⌝ }
-    ensures next { λ r. ⌜ r ≡ at + 4 * bit (differ is (reserved n (now (table .entry)) i k)) ⌝ }
+)
+    requires { ⌜ (i < 32) × (n ≤ 2048) × (k < n) × (i * n + n ≤ length (now table)) × (at + 4 ≤ length (now list)) ⌝ }
+    ensures table { λ _. ⌜ now (table .exit) ≡ follow n (changeEntry is (not is) i k) (now (table .entry)) ⌝ }
+    ensures list { λ _. ⌜ now (list .exit) ≡ sets (now (list .entry)) at (changeEntry is (not is) i k) ⌝ }
 {
-    let x = i * n + k;
-    let was = table[x] == 1;
-    if differs(is, was) {
-        table[x] = is as u8;
-        note(list, at, (i + 1) as u16, k as u16, was as u16, is as u16);
-        return at + 4;
-    }
-    at
+    let was = !is;
+    table[i * n + k] = is as u8;
+    note(list, at, (i + 1) as u16, k as u16, was as u16, is as u16);
 }
 
-// Stores and lists the changes of cell i, of which there are `many`; answers where the next one goes. A cell without changes is not looked at.
+// Stores and lists the changes of cell i at the 64 positions from `from` on, by the word of those where it stands and the word of those where it stood; answers
+// where the next change goes.
+fn list_word(
+    table: &mut [u8],
+    list: &mut [u16],
+    n: usize,
+    i: usize,
+    from: usize,
+    is: u64,
+    was: u64,
+    at: usize,
+) -> usize
+    requires { ⌜ (i < 32) × (n ≤ 2048) × (i * n + n ≤ length (now table)) × WordInside (bitAt is) (bitAt was) from n
+        × (at + 4 * wordCount (bitAt is) (bitAt was) 64 ≤ length (now list)) ⌝ }
+    ensures table { λ _. ⌜ now (table .exit) ≡ follow n (wordChanges (bitAt is) (bitAt was) i from 64) (now (table .entry)) ⌝ }
+    ensures list { λ _. ⌜ now (list .exit) ≡ sets (now (list .entry)) at (wordChanges (bitAt is) (bitAt was) i from 64) ⌝ }
+    ensures next { λ r. ⌜ r ≡ at + 4 * wordCount (bitAt is) (bitAt was) 64 ⌝ }
+{
+    let mut rest = is ^ was;
+    let mut next = at;
+    while rest != 0 {
+        let b = u64::trailing_zeros(rest) as usize;
+        let stands = (is >> b) % 2 == 1;
+        list_change(table, list, n, i, from + b, stands, next);
+        next += 4;
+        rest = rest & (rest - 1);
+    }
+    next
+}
+
+// Stores and lists the changes of cell i; answers where the next one goes.
 pub fn list_cell(
     table: &mut [u8],
     list: &mut [u16],
-    words: &[u32],
+    stands: &[u64],
+    old: &[u64],
+    w: usize,
     n: usize,
     i: usize,
-    many: usize,
     at: usize,
 ) -> usize
-    requires { ⌜ (i < 32) × (n ≤ 2048) × (n ≤ length (now words)) × (i * n + n ≤ length (now table)) ⌝ }
-    requires { ⌜ (many ≡ cellCount n i (now words) (now table)) × (at + 4 * cellCount n i (now words) (now table) ≤ length (now list)) ⌝ }
-    ensures table { λ _. ⌜ now (table .exit) ≡ follow n (cellChanges (standsIn (now (words .entry))) (reserved n (now (table .entry))) i n)
-        (now (table .entry)) ⌝ }
-    ensures list { λ _. ⌜ now (list .exit) ≡ sets (now (list .entry)) at (cellChanges (standsIn (now (words .entry))) (reserved n (now (table .entry))) i n) ⌝ }
-    ensures next { λ r. ⌜ r ≡ at + 4 * cellCount n i (now (words .entry)) (now (table .entry)) ⌝ }
+    requires { ⌜ (i < 32) × (n ≤ 2048) × (w ≤ 32) × (i * n + n ≤ length (now table)) × (i * w + w ≤ length (now stands)) × (i * w + w ≤ length (now old)) ⌝ }
+    requires { ⌜ RowWithin w i n (now stands) (now old) × (at + 4 * cellCount w i (now stands) (now old) ≤ length (now list)) ⌝ }
+    ensures table { λ _. ⌜ now (table .exit)
+        ≡ follow n (cellChanges (standsIn w (now (stands .entry))) (standsIn w (now (old .entry))) i (64 * w)) (now (table .entry)) ⌝ }
+    ensures list { λ _. ⌜ now (list .exit)
+        ≡ sets (now (list .entry)) at (cellChanges (standsIn w (now (stands .entry))) (standsIn w (now (old .entry))) i (64 * w)) ⌝ }
+    ensures next { λ r. ⌜ r ≡ at + 4 * cellCount w i (now (stands .entry)) (now (old .entry)) ⌝ }
 {
-    if many == 0 {
-        return at;
-    }
     let mut next = at;
-    for k in 0..n {
-        let is = (words[k] >> i) % 2 == 1;
-        next = list_at(table, list, n, i, k, is, next);
+    for j in 0..w {
+        let x = i * w + j;
+        next = list_word(table, list, n, i, 64 * j, stands[x], old[x], next);
     }
     next
 }
@@ -89,18 +103,20 @@ pub fn list_cell(
 pub fn list_all(
     table: &mut [u8],
     list: &mut [u16],
-    words: &[u32],
-    counts: &[usize],
+    stands: &[u64],
+    old: &[u64],
+    w: usize,
     n: usize,
     cells: usize,
 )
-    requires { ⌜ (cells ≤ 32) × (n ≤ 2048) × (n ≤ length (now words)) × (cells ≤ length (now counts)) × (cells * n ≤ length (now table)) ⌝ }
-    requires { ⌜ CellsCounted cells n (now words) (now table) (now counts) × (4 * allCount cells n (now words) (now table) ≤ length (now list)) ⌝ }
-    ensures table { λ _. ⌜ now (table .exit) ≡ tableWith cells n (now (words .entry)) (now (table .entry)) ⌝ }
-    ensures list { λ _. ⌜ now (list .exit) ≡ listWith cells n (now (words .entry)) (now (table .entry)) (now (list .entry)) ⌝ }
+    requires { ⌜ (cells ≤ 32) × (n ≤ 2048) × (w ≤ 32) × (cells * n ≤ length (now table)) × (cells * w ≤ length (now stands))
+        × (cells * w ≤ length (now old)) ⌝ }
+    requires { ⌜ AllWithin w cells n (now stands) (now old) × (4 * allCount w cells (now stands) (now old) ≤ length (now list)) ⌝ }
+    ensures table { λ _. ⌜ now (table .exit) ≡ tableWith w cells n (now (stands .entry)) (now (old .entry)) (now (table .entry)) ⌝ }
+    ensures list { λ _. ⌜ now (list .exit) ≡ listWith w cells (now (stands .entry)) (now (old .entry)) (now (list .entry)) ⌝ }
 {
     let mut at: usize = 0;
     for i in 0..cells {
-        at = list_cell(table, list, words, n, i, counts[i], at);
+        at = list_cell(table, list, stands, old, w, n, i, at);
     }
 }

@@ -3,33 +3,32 @@
 use mathlib.Core.Path.{_≡_, refl}
 use mathlib.Core.List.{List}
 use Prim.Native.Nat.{_*_, _+_, ℕ}
-use Rattle.changelist.specs.Words.{cellCount, listWith, tableWith}
+use Rattle.changelist.specs.Sets.{cellCount, listWith, tableWith}
 use Rattle.contracts.specs.ChangelistSays.{ChangelistListAll, ChangelistListCell}
 use Rattle.mending.specs.Changes.{cellChanges, follow}
-use Rattle.standing.specs.Words.{standsIn}
-use Rattle.theory.specs.Greedy.{reserved}
+use Rattle.standing.specs.Sets.{standsIn}
 use lib.Seq.{sets}
 
 -- changelist::list_cell
-pub changelistListCell-one : (table : List ℕ) (list : List ℕ) (words : List ℕ) (n : ℕ) (i : ℕ) (many : ℕ) (at : ℕ)
-    → (r : ℕ) × (table′ : List ℕ) × (list′ : List ℕ) × (ChangelistListCell table list words n i many at r table′ list′)
-    × ((q : ℕ) (table″ : List ℕ) (list″ : List ℕ) → ChangelistListCell table list words n i many at q table″ list″
+pub changelistListCell-one : (table : List ℕ) (list : List ℕ) (stands : List ℕ) (old : List ℕ) (w : ℕ) (n : ℕ) (i : ℕ) (at : ℕ)
+    → (r : ℕ) × (table′ : List ℕ) × (list′ : List ℕ) × (ChangelistListCell table list stands old w n i at r table′ list′)
+    × ((q : ℕ) (table″ : List ℕ) (list″ : List ℕ) → ChangelistListCell table list stands old w n i at q table″ list″
     → (q ≡ r) × (table″ ≡ table′) × (list″ ≡ list′))
-changelistListCell-one table list words n i many at = (
-  at + 4 * cellCount n i words table,
-  follow n (cellChanges (standsIn words) (reserved n table) i n) table,
-  sets list at (cellChanges (standsIn words) (reserved n table) i n),
+changelistListCell-one table list stands old w n i at = (
+  at + 4 * cellCount w i stands old,
+  follow n (cellChanges (standsIn w stands) (standsIn w old) i (64 * w)) table,
+  sets list at (cellChanges (standsIn w stands) (standsIn w old) i (64 * w)),
   record { answer = refl; table-after = refl; list-after = refl },
   λ q table″ list″ says. (says .answer, says .table-after, says .list-after),
 )
 
 -- changelist::list_all
-pub changelistListAll-one : (table : List ℕ) (list : List ℕ) (words : List ℕ) (counts : List ℕ) (n : ℕ) (cells : ℕ)
-    → (table′ : List ℕ) × (list′ : List ℕ) × (ChangelistListAll table list words counts n cells table′ list′)
-    × ((table″ : List ℕ) (list″ : List ℕ) → ChangelistListAll table list words counts n cells table″ list″ → (table″ ≡ table′) × (list″ ≡ list′))
-changelistListAll-one table list words counts n cells = (
-  tableWith cells n words table,
-  listWith cells n words table list,
+pub changelistListAll-one : (table : List ℕ) (list : List ℕ) (stands : List ℕ) (old : List ℕ) (w : ℕ) (n : ℕ) (cells : ℕ)
+    → (table′ : List ℕ) × (list′ : List ℕ) × (ChangelistListAll table list stands old w n cells table′ list′)
+    × ((table″ : List ℕ) (list″ : List ℕ) → ChangelistListAll table list stands old w n cells table″ list″ → (table″ ≡ table′) × (list″ ≡ list′))
+changelistListAll-one table list stands old w n cells = (
+  tableWith w cells n stands old table,
+  listWith w cells stands old list,
   record { table-after = refl; list-after = refl },
   λ table″ list″ says. (says .table-after, says .list-after),
 )

@@ -7,6 +7,7 @@ pub mod ResizeOne
 pub mod ClashcountOne
 pub mod WordsOne
 pub mod BlocksOne
+pub mod BlockwordsOne
 pub mod LoadsOne
 pub mod TextOne
 pub mod FlowlistOne
@@ -30,6 +31,11 @@ pub mod OnewayOne
 pub mod SearchOne
 pub mod HeaviestOne
 pub mod SharesOne
+pub mod RecordsOne
+pub mod PlanbitsOne
+pub mod PackingOne
+pub mod SetwordsOne
+pub mod SetsOne
 pub mod StandingOne
 pub mod ChangelistOne
 pub mod MenderOne
@@ -39,7 +45,6 @@ pub mod WordtableOne
 pub mod FinderOne
 pub mod RoomsOne
 pub mod AdmissionOne
-pub mod RecordsOne
 pub mod LinesOne
 pub mod PutlinesOne
 pub mod BlocklistOne
@@ -50,7 +55,6 @@ pub mod SiteheadOne
 pub mod ReachpairsOne
 pub mod BlockbitsOne
 pub mod SitefileOne
-pub mod PlanbitsOne
 pub mod PlanfileOne
 pub mod CleaningOne
 pub mod LinefaultsOne

@@ -4,12 +4,24 @@ use mathlib.Core.Path.{_≡_, refl}
 use mathlib.Core.Bool.{Bool, not}
 use mathlib.Core.List.{List}
 use Prim.Native.Nat.{_^_, ℕ}
-use Rattle.contracts.specs.PositionsSays.{PositionsBars, PositionsBitWeight, PositionsFirstPast, PositionsIsBlocked, PositionsNoneBlocked}
-use Rattle.contracts.specs.PositionsSays.{PositionsOpenCount}
+use Rattle.contracts.specs.PositionsSays.{PositionsBars, PositionsBitWeight, PositionsBitsIn, PositionsFirstPast, PositionsIsBlocked}
+use Rattle.contracts.specs.PositionsSays.{PositionsNoneBlocked, PositionsOpenCount}
+use Rattle.laws.specs.Bits.{bitAt}
 use Rattle.laws.specs.Choice.{pick}
 use Rattle.laws.specs.Part.{listOf}
+use Rattle.laws.specs.Sum.{count}
 use Rattle.positions.specs.Blocked.{anyIn, barOf, blockedAt, firstPast, mostPositions, openIn}
 use lib.ListN.{length}
+
+-- positions::bits_in
+pub positionsBitsIn-one : (x : ℕ)
+    → (r : ℕ) × (PositionsBitsIn x r)
+    × ((q : ℕ) → PositionsBitsIn x q → (q ≡ r))
+positionsBitsIn-one x = (
+  count (bitAt x) 64,
+  record { answer = refl },
+  λ q says. says .answer,
+)
 
 -- positions::bit_weight
 pub positionsBitWeight-one : (t : Bool) (b : ℕ)

@@ -7,6 +7,7 @@ pub mod ResizeSays
 pub mod ClashcountSays
 pub mod WordsSays
 pub mod BlocksSays
+pub mod BlockwordsSays
 pub mod LoadsSays
 pub mod TextSays
 pub mod FlowlistSays
@@ -30,6 +31,11 @@ pub mod OnewaySays
 pub mod SearchSays
 pub mod HeaviestSays
 pub mod SharesSays
+pub mod RecordsSays
+pub mod PlanbitsSays
+pub mod PackingSays
+pub mod SetwordsSays
+pub mod SetsSays
 pub mod StandingSays
 pub mod ChangelistSays
 pub mod MenderSays
@@ -39,7 +45,6 @@ pub mod WordtableSays
 pub mod FinderSays
 pub mod RoomsSays
 pub mod AdmissionSays
-pub mod RecordsSays
 pub mod LinesSays
 pub mod PutlinesSays
 pub mod BlocklistSays
@@ -50,7 +55,6 @@ pub mod SiteheadSays
 pub mod ReachpairsSays
 pub mod BlockbitsSays
 pub mod SitefileSays
-pub mod PlanbitsSays
 pub mod PlanfileSays
 pub mod CleaningSays
 pub mod LinefaultsSays

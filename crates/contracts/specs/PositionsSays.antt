@@ -4,10 +4,16 @@ use mathlib.Core.Path.{_≡_}
 use mathlib.Core.Bool.{Bool, not}
 use mathlib.Core.List.{List}
 use Prim.Native.Nat.{_^_, ℕ}
+use Rattle.laws.specs.Bits.{bitAt}
 use Rattle.laws.specs.Choice.{pick}
 use Rattle.laws.specs.Part.{listOf}
+use Rattle.laws.specs.Sum.{count}
 use Rattle.positions.specs.Blocked.{anyIn, barOf, blockedAt, firstPast, mostPositions, openIn}
 use lib.ListN.{length}
+
+-- positions::bits_in
+pub record PositionsBitsIn (x : ℕ) (r : ℕ) : Type 0 where
+  pub answer : r ≡ count (bitAt x) 64
 
 -- positions::bit_weight
 pub record PositionsBitWeight (t : Bool) (b : ℕ) (r : ℕ) : Type 0 where

@@ -1,9 +1,9 @@
--- How a call ends. Where every cell stands, the words and counts are those of what stands, so that the changes that are written are the rule's.
+-- How a call ends. Where every cell stands, the sets are those of what stands and of what stood, so that the changes that are written are the rule's.
 -- And the ways out of the call, each with its answer, its table and its list. Assumes nothing.
-use mathlib.Core.Path.{_≡_, refl, sym, ap, _∙_}
+use mathlib.Core.Path.{_≡_, refl, sym, ap, ap₂, _∙_}
 use mathlib.Core.Bool.{Bool, false}
 use mathlib.Core.List.{List}
-use Prim.Native.Nat.{ℕ, _+_, _≤_, _<_}
+use Prim.Native.Nat.{ℕ, _+_, _-_, _*_, _≤_, _<_}
 use native.Mathlib.Omega.{arith}
 use borrow.Author.Tests.{lt-ltb, le-ltb}
 use lib.ListN.{length}
@@ -17,14 +17,15 @@ use Rattle.site.specs.declared.Site.{Site}
 use Rattle.site.specs.declared.Fault.{Fault}
 use Rattle.site.specs.declared.Fault.the-variants.{Fine}
 use Rattle.mending.specs.Mend.{mend, overlay}
-use Rattle.mending.specs.Changes.{changes, follow}
-use Rattle.mending.proofs.Changes.{count-cong, number-cong, changes-cong}
+use Rattle.mending.specs.Changes.{differ, changes, follow}
+use Rattle.mending.proofs.Changes.{changes-length, changes-cong}
 use Rattle.mending.proofs.Mended.{mended-follows}
 use Rattle.standing.specs.Stand.{numberOf, stoodOf}
-use Rattle.standing.specs.Words.{standsIn, TwoWay, Says}
+use Rattle.standing.specs.Sets.{standsIn, TwoWay, Says}
 use Rattle.standing.specs.declared.Stood.the-variants.{All, Short}
 use Rattle.mender.specs.Mend.{listedChanges, mendAnswerOf, tableAfter, listAfter, mendAnswer, mendTable, mendList}
-use Rattle.changelist.specs.Words.{allCount, CellsCounted}
+use Rattle.changelist.specs.Sets.{allCount, listedIn, tableWith, AllWithin}
+use Rattle.changelist.proofs.Lists.{changes-within}
 use Rattle.mender.specs.declared.MendAnswer.the-variants.{TableShort, NoRoom, Refused}
 
 -- ---- what stands, by the answer of the cells' turns
@@ -62,30 +63,45 @@ module _ (s : Net) (u l : List ℕ) (cell short : ℕ) (lack : Lacking s u cell 
 
 -- ---- every cell stands
 
-module _ (s : Net) (u words counts : List ℕ) (number : ℕ) (all : Whole s u number) (says : Says (s .cells) (s .width) (all .table) u words counts) where
+module _ (s : Net) (w : ℕ) (u stands old : List ℕ) (number : ℕ) (wide : s .width ≤ 64 * w) (all : Whole s u number)
+    (says : Says (s .cells) (s .width) w (all .table) u stands old) where
   abbrev t : List ℕ
   t = all .table
 
-  -- what stands now, as the words have it and as it is, and what stood
+  -- what stands now and what stood, as the sets have it, and as it is
   abbrev is : Reserved
-  is = standsIn words
-
-  abbrev stands : Reserved
-  stands = reserved (s .width) t
+  is = standsIn w stands
 
   abbrev was : Reserved
-  was = reserved (s .width) u
+  was = standsIn w old
 
-  pub end-counted : CellsCounted (s .cells) (s .width) words u counts
-  end-counted i h = says .counted i h ∙ sym (count-cong is stands was was i (s .width) (λ k m. says .stands i k h m) (λ k _. refl))
+  abbrev so : Reserved
+  so = reserved (s .width) t
 
-  pub end-number : number ≡ allCount (s .cells) (s .width) words u
-  end-number = all .all ∙ sym (number-cong is stands was was (s .width) (s .cells) (says .stands) (λ i k _ _. refl))
+  abbrev stood : Reserved
+  stood = reserved (s .width) u
 
-  pub end-list : changes (standsIn words) (reserved (s .width) u) (s .width) (s .cells) ≡ listedChanges s u t
-  end-list = changes-cong is stands was was (s .width) (s .cells) (says .stands) (λ i k _ _. refl)
+  pub end-within : AllWithin w (s .cells) (s .width) stands old
+  end-within i l k h m = ap₂ differ (says .none-past i k l h m .0) (says .none-past i k l h m .1)
 
-  pub end-table : follow (s .width) (changes (standsIn words) (reserved (s .width) u) (s .width) (s .cells)) u ≡ overlay t u
+  pub end-list : listedIn w (s .cells) stands old ≡ listedChanges s u t
+  end-list =
+      let e : 64 * w ≡ s .width + (64 * w - s .width) = omega arith in
+      ap (λ m. changes is was m (s .cells)) e
+      ∙ changes-within is was (s .width) (64 * w - s .width) (s .cells) (λ i k l h m. end-within i l k h (omega arith))
+      ∙ changes-cong is so was stood (s .width) (s .cells) (says .stands-at) (says .stood-at)
+
+  pub end-number : number ≡ allCount w (s .cells) stands old
+  end-number =
+      omega (
+        arith,
+        all .all,
+        changes-length is was (64 * w) (s .cells),
+        changes-length so stood (s .width) (s .cells),
+        ap length end-list,
+      )
+
+  pub end-table : tableWith w (s .cells) (s .width) stands old u ≡ overlay t u
   end-table = ap (λ z. follow (s .width) z u) end-list ∙ mended-follows s u t (all .mends)
 
 -- ---- the call

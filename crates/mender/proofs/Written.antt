@@ -1,4 +1,4 @@
--- How the two calls end, once every cell has had its turn. Done: the words and counts give the table and the list that are left, for any list with room.
+-- How the two calls end, once every cell has had its turn. Done: the sets give the table and the list that are left, for any list with room.
 -- Not done: the answer is the same for any list, and nothing is written. Assumes nothing.
 use mathlib.Core.Path.{_≡_, refl, sym, ap, _∙_}
 use mathlib.Core.Bool.{Bool, true, false, false≢true}
@@ -20,15 +20,17 @@ use Rattle.site.specs.declared.Site.{Site}
 use Rattle.site.specs.declared.Fault.{Fault}
 use Rattle.site.specs.declared.Fault.the-variants.{Fine, Size, Rule, Load, Reach, Blocked}
 use Rattle.site.proofs.Faults.{fine-sized, Sized}
+use Rattle.mending.specs.Changes.{follow}
 use Rattle.mending.specs.Mend.{mend, overlay}
+use Rattle.mending.proofs.Changes.{changes-none}
 use Rattle.standing.specs.Stand.{numberOf}
-use Rattle.standing.specs.Words.{Says}
-use Rattle.mender.specs.Mend.{listedChanges, mendAnswerOf, mendAnswer, mendTable, mendList, listRoom, MendStands}
-use Rattle.changelist.specs.Words.{allCount, tableWith, listWith, CellsCounted}
+use Rattle.standing.specs.Sets.{standsIn, Says}
+use Rattle.mender.specs.Mend.{listedChanges, mendAnswerOf, mendAnswer, mendTable, mendList, listRoom, MendStands, wordsFor}
+use Rattle.changelist.specs.Sets.{allCount, listedIn, tableWith, listWith, AllWithin}
 use Rattle.mender.specs.declared.MendAnswer.{MendAnswer}
 use Rattle.mender.specs.declared.MendAnswer.the-variants.{Done, TableShort, NoRoom, ListShort, Refused}
 use Rattle.mender.proofs.MendAnswer.{the-type}
-use Rattle.mender.proofs.Ends.{Whole, end-counted, end-number, end-table, end-list}
+use Rattle.mender.proofs.Ends.{Whole, end-within, end-number, end-table, end-list}
 use Rattle.mender.proofs.Meaning.{Mended, done-means, done-leaves, means-done, means-short, untouched}
 use Rattle.mender.proofs.Room.{room-for}
 
@@ -42,7 +44,7 @@ isDone (Refused f) = false
 
 -- ---- done
 
-module _ {a : MendAnswer} {s : Site} {u words counts : List ℕ} (st : MendStands a s u words counts) {number : ℕ} (e : a ≡ Done number) where
+module _ {a : MendAnswer} {s : Site} {u stands old : List ℕ} (st : MendStands a s u stands old) {number : ℕ} (e : a ≡ Done number) where
   pub mended : Mended s u (listRoom s) number
   mended = done-means s u (listRoom s) number (sym (st .answers) ∙ e)
 
@@ -52,14 +54,20 @@ module _ {a : MendAnswer} {s : Site} {u words counts : List ℕ} (st : MendStand
   abbrev whole : Whole (netOf s) u number
   whole = record { table = mended .stands; mends = mended .mends; all = mended .number }
 
-  says : Says (s .cells) (positions s) (mended .stands) u words counts
+  abbrev words : ℕ
+  words = wordsFor (positions s)
+
+  wide : positions s ≤ 64 * wordsFor (positions s)
+  wide = omega arith
+
+  says : Says (s .cells) (positions s) (wordsFor (positions s)) (mended .stands) u stands old
   says = st .says number e (mended .stands) (mended .mends)
 
-  pub counted : CellsCounted (s .cells) (positions s) words u counts
-  counted = end-counted (netOf s) u words counts number whole says
+  pub within : AllWithin (wordsFor (positions s)) (s .cells) (positions s) stands old
+  within = end-within (netOf s) words u stands old number wide whole says
 
-  pub number-is : number ≡ allCount (s .cells) (positions s) words u
-  number-is = end-number (netOf s) u words counts number whole says
+  pub number-is : number ≡ allCount (wordsFor (positions s)) (s .cells) stands old
+  number-is = end-number (netOf s) words u stands old number wide whole says
 
   -- a list with room
   module _ (l : List ℕ) (room : 4 * number ≤ length l) where
@@ -72,11 +80,19 @@ module _ {a : MendAnswer} {s : Site} {u words counts : List ℕ} (st : MendStand
         done-leaves s u l (mended .fine) (mended .long) (mended .stands) (mended .mends)
         (le-ltb (length l) (4 * numberOf (netOf s) u (mended .stands)) (omega (arith, mended .number)))
 
-    pub table-done : tableWith (s .cells) (positions s) words u ≡ mendTable s u l
-    table-done = end-table (netOf s) u words counts number whole says ∙ sym (left .0)
+    pub table-done : tableWith (wordsFor (positions s)) (s .cells) (positions s) stands old u ≡ mendTable s u l
+    table-done = end-table (netOf s) words u stands old number wide whole says ∙ sym (left .0)
 
-    pub list-done : listWith (s .cells) (positions s) words u l ≡ mendList s u l
-    list-done = ap (sets l 0) (end-list (netOf s) u words counts number whole says) ∙ sym (left .1)
+    pub list-done : listWith (wordsFor (positions s)) (s .cells) stands old l ≡ mendList s u l
+    list-done = ap (sets l 0) (end-list (netOf s) words u stands old number wide whole says) ∙ sym (left .1)
+
+    -- nothing changes
+    pub none-done : number ≡ 0 → (u ≡ mendTable s u l) × (l ≡ mendList s u l)
+    unfolding follow
+    none-done z =
+        let none : listedIn words (s .cells) stands old ≡ [] =
+        changes-none (standsIn words stands) (standsIn words old) (64 * words) (s .cells) (sym number-is ∙ z) in
+        (sym (ap (λ (c : List ℕ). follow (positions s) c u) none) ∙ table-done, sym (ap (λ (c : List ℕ). sets l 0 c) none) ∙ list-done)
 
   -- a list without
   module _ (l : List ℕ) (over : length l < 4 * number) where
@@ -114,7 +130,7 @@ module _ (s : Site) (u : List ℕ) where
   same-by l (Reach k) b o h = refl
   same-by l (Blocked k) b o h = refl
 
-module _ {a : MendAnswer} {s : Site} {u words counts : List ℕ} (st : MendStands a s u words counts) (h : OneOf (1 ∷ 2 ∷ 3 ∷ 4 ∷ []) (tagOf the-type a))
+module _ {a : MendAnswer} {s : Site} {u stands old : List ℕ} (st : MendStands a s u stands old) (h : OneOf (1 ∷ 2 ∷ 3 ∷ 4 ∷ []) (tagOf the-type a))
     (l : List ℕ) where
   pub answer-other : a ≡ mendAnswer s u l
   unfolding mendAnswer

@@ -2,7 +2,7 @@
 use mathlib.Core.Path.{_≡_}
 use mathlib.Core.Bool.{Bool}
 use mathlib.Core.List.{List}
-use Prim.Native.Nat.{ℕ, _+_, _*_}
+use Prim.Native.Nat.{ℕ, _+_, _*_, _/_, _≤_}
 use lib.Dec.{ltb}
 use lib.ListN.{length, replicate}
 use lib.Seq.{sets}
@@ -12,9 +12,10 @@ use Rattle.theory.specs.Greedy.{reserved, Outcome, planned, noRoom}
 use Rattle.site.specs.Record.{positions, size, faultOf, isFine}
 use Rattle.site.specs.Reach.{netOf}
 use Rattle.site.specs.declared.Site.{Site}
+use Rattle.site.specs.declared.Fault.the-variants.{Fine}
 use Rattle.mending.specs.Mend.{mend, overlay}
 use Rattle.mending.specs.Changes.{changes}
-use Rattle.standing.specs.Words.{Says}
+use Rattle.standing.specs.Sets.{Says}
 use Rattle.standing.specs.Stand.{numberOf}
 use Rattle.mender.specs.declared.MendAnswer.{MendAnswer}
 use Rattle.mender.specs.declared.MendAnswer.the-variants.{Done, TableShort, NoRoom, ListShort, Refused}
@@ -71,7 +72,20 @@ mendList s u l = called s u l l (listAfter (netOf s) u l (mend (netOf s) u))
 abbrev pub listRoom : Site → List ℕ
 listRoom s = roomOf (size s)
 
--- an answer for such a list, and where it is done the words and counts say what stands
-pub record MendStands (answer : MendAnswer) (s : Site) (u words counts : List ℕ) : Type 0 where
+-- how many words of 64 the positions take
+abbrev pub wordsFor : ℕ → ℕ
+wordsFor n = (n + 63) / 64
+
+-- room for the sets of a good site's cells
+abbrev pub SetRoom : Site → ℕ → Type 0
+SetRoom s words = faultOf s ≡ Fine → s .cells * wordsFor (positions s) ≤ words
+
+-- room for the changes of one row of a good site
+abbrev pub RowRoom : Site → ℕ → Type 0
+RowRoom s numbers = faultOf s ≡ Fine → 4 * (64 * wordsFor (positions s)) ≤ numbers
+
+-- an answer for such a list, and where it is done the sets say what stands and what stood
+pub record MendStands (answer : MendAnswer) (s : Site) (u stands old : List ℕ) : Type 0 where
   pub answers : answer ≡ mendAnswer s u (listRoom s)
-  pub says : (number : ℕ) → answer ≡ Done number → (t : List ℕ) → mend (netOf s) u ≡ planned t → Says (s .cells) (positions s) t u words counts
+  pub says : (number : ℕ) → answer ≡ Done number → (t : List ℕ) → mend (netOf s) u ≡ planned t
+      → Says (s .cells) (positions s) (wordsFor (positions s)) t u stands old

@@ -1,5 +1,6 @@
 -- Whoever follows the list has the mended table: each change is one store, and where nothing changes the byte stays.
 --     follow-changes      the changes, laid over the old table, give the new one
+--     follow-append       one list after another
 --     follow-cell, follow-later, follow-below      a cell at a time: what is stored, and that later positions and cells are as they were
 -- Assumes nothing.
 use mathlib.Core.Path.{_≡_, refl, sym, ap, _∙_}
@@ -21,7 +22,7 @@ use Rattle.mending.proofs.Overlay.{overlay-more, overlay-past}
 use Rattle.mending.proofs.Changes.{cell-length, changes-length}
 
 -- one list of changes after another
-follow-append : (n m : ℕ) (a b u : List ℕ) → length a ≡ 4 * m → follow n (a ++ b) u ≡ follow n b (follow n a u)
+pub follow-append : (n m : ℕ) (a b u : List ℕ) → length a ≡ 4 * m → follow n (a ++ b) u ≡ follow n b (follow n a u)
 unfolding follow
 follow-append n m [] b u e = refl
 follow-append n m (c ∷ []) b u e = absurd (omega arith)

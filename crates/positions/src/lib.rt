@@ -23,7 +23,7 @@ fn has_bit(x: u64, b: usize) -> bool
 }
 
 // How many bits a word has.
-fn ones(x: u64) -> usize
+pub fn bits_in(x: u64) -> usize
     ensures { λ r. ⌜ r ≡ count (bitAt x) 64 ⌝ }
 {
     u64::count_ones(x) as usize
@@ -72,7 +72,7 @@ fn blocked_count(set: &[u64; 32], n: usize) -> usize
     let whole = n / 64;
     let mut c: usize = 0;
     for j in 0..whole {
-        c += ones(set[j]);
+        c += bits_in(set[j]);
     }
     let rest = n % 64;
     if rest == 0 {

@@ -1,6 +1,6 @@
 -- The laws of crate `standing`, module by module.
-pub mod Rows
-pub mod Passes
+pub mod Free
+pub mod Keeping
+pub mod Within
 pub mod Standing
 pub mod Turns
-pub mod Laid

@@ -1,4 +1,4 @@
 -- The definitions of crate `standing`, module by module.
-pub mod Words
+pub mod Sets
 pub mod Stand
 pub mod Turns

@@ -1,4 +1,4 @@
--- What the turns of all cells come to: how many changes, or the cell that finds no room; and what the words and counts then say.
+-- What the turns of all cells come to: how many changes, or the cell that finds no room; and what the sets then say.
 use mathlib.Core.Path.{_≡_}
 use mathlib.Core.List.{List}
 use Prim.Native.Nat.{ℕ, _+_}
@@ -7,7 +7,7 @@ use Rattle.theory.specs.Greedy.{reserved, Outcome, planned, noRoom}
 use Rattle.site.specs.Reach.{isOpen, netBy}
 use Rattle.mending.specs.Mend.{mend}
 use Rattle.mending.specs.Changes.{changeCount}
-use Rattle.standing.specs.Words.{Says}
+use Rattle.standing.specs.Sets.{Says}
 use Rattle.standing.specs.declared.Stood.{Stood}
 use Rattle.standing.specs.declared.Stood.the-variants.{All, Short}
 
@@ -30,6 +30,6 @@ module _ (cells n : ℕ) (loads clash blocked u : List ℕ) where
   abbrev pub stoodBy : Stood
   stoodBy = stoodOf (netBy cells n loads clash (isOpen blocked)) u mendBy
 
-  -- the words and counts say what stands, where every cell finds room
-  abbrev pub SaysBy : List ℕ → List ℕ → Type 0
-  SaysBy words counts = (t : List ℕ) → mendBy ≡ planned t → Says cells n t u words counts
+  -- the sets say what stands and what stood, where every cell finds room
+  abbrev pub SaysBy : ℕ → List ℕ → List ℕ → Type 0
+  SaysBy w stands old = (t : List ℕ) → mendBy ≡ planned t → Says cells n w t u stands old

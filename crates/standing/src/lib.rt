@@ -1,28 +1,28 @@
-// The cells' turns, on a word for each position: each cell keeps of a table from another planner what it may, then adds what is lacking.
+// The cells' turns, on sets of positions: each cell keeps of a table from another planner what it may, then adds what is lacking.
 //
-// What it costs, for I cells and N positions: each row is read once to keep what may be kept of it, and the words once more, up to the last position that is
-// added, where something is lacking (at most 2 I N steps, without a branch but for the end). The table is not written. Where a position is blocked, the words
-// are read twice more.
-use positions::is_blocked;
-use positions::none_blocked;
+// What it costs, for I cells and N positions: each row is packed once into words of 64 positions; then all is done a word at a time. Of the cells before it, a
+// cell looks only at those that clash with it. The table is not written. The local room is three sets, for up to 128 positions of two words each.
+use sets::first_positions;
+use sets::join_set;
+use sets::keep_all;
+use sets::meet_of;
+use sets::pack_cell;
+use sets::put_set;
+use sets::take_away;
+use sets::take_first;
+use sets::unlike_count;
 ghost use mathlib.Core.Path.{_≡_};
-ghost use mathlib.Core.Bool.{_&&_, not};
-ghost use Prim.Native.Nat.{_+_, _-_, _*_, _^_, _≤_, _<_};
-ghost use lib.Dec.{eqb, ltb};
+ghost use mathlib.Core.Bool.{_&&_, _||_, not};
+ghost use Prim.Native.Nat.{_+_, _-_, _*_, _≤_, _<_};
 ghost use lib.ListN.{length, getD};
-ghost use Rattle.laws.specs.Choice.{pick};
+ghost use lib.Seq.{sets};
 ghost use Rattle.laws.specs.Few.{firstFew};
-ghost use Rattle.laws.specs.Part.{Zeros};
-ghost use Rattle.laws.specs.Sum.{bit, count};
-ghost use Rattle.theory.specs.Greedy.{sends, reserved};
-ghost use Rattle.positions.specs.Blocked.{mostPositions};
-ghost use Rattle.mending.specs.Keep.{keepAt, standAt};
-ghost use Rattle.standing.specs.Words.{freeAt, turnMask, wordsLaid, Starts, joined, oldAt, dropCount, shortCount, turnCount, TwoWay};
+ghost use Rattle.laws.specs.Sum.{count};
+ghost use Rattle.mending.specs.Keep.{standAt};
+ghost use Rattle.sets.specs.Sets.{inSet, setIn};
+ghost use Rattle.standing.specs.Sets.{standsIn, vacantAt, freeBy, OpenIn, OldIn, shortCount, turnCount, TwoWay};
 ghost use Rattle.standing.specs.Stand.{stoodBy, SaysBy};
-ghost use Rattle.standing.specs.Turns.{turnedBy, countedBy, wordsBy, countsBy};
-
-// A word with every bit.
-const EVERY_BIT: u32 = 4294967295;
+ghost use Rattle.standing.specs.Turns.{packedRows, turnedBy};
 
 // What stands once every cell has had its turn: the number of changes, or a cell's number and how many of its fragments found no room.
 pub enum Stood {
@@ -30,87 +30,68 @@ pub enum Stood {
     Short(usize, usize),
 }
 
-// Whether an old reservation is kept: no clashing cell stands there, and something of the load is left.
-fn keeps(shared: u32, byte: u8, left: usize) -> bool
-    ensures { λ r. ⌜ r ≡ (eqb shared 0 && sends byte && ltb 0 left) ⌝ }
+// Packs the rows of a table of n positions into sets of w words, one after the other.
+fn pack_rows(old: &mut [u64], table: &[u8], w: usize, n: usize, cells: usize)
+    requires { ⌜ (cells ≤ 32) × (w ≤ 32) × (n ≤ 64 * w) × (cells * n ≤ length (now table)) × (cells * w ≤ length (now old)) ⌝ }
+    ensures { λ _. ⌜ now (old .exit) ≡ packedRows w n (now (table .entry)) (now (old .entry)) cells ⌝ }
 {
-    (shared == 0) & (byte == 1) & (0 < left)
-}
-
-// The bits where a cell is to stand, else 0.
-fn weight(is: bool, bits: u32) -> u32
-    ensures { λ r. ⌜ r ≡ pick is bits 0 ⌝ }
-{
-    if is {
-        return bits;
-    }
-    0
-}
-
-// 1 for an old reservation that is not kept, else 0.
-fn dropped(byte: u8, kept: bool) -> usize
-    ensures { λ r. ⌜ r ≡ bit (sends byte && not kept) ⌝ }
-{
-    ((byte == 1) & !kept) as usize
-}
-
-// What keeping leaves: the fragments still to be placed, and how many reservations are dropped.
-struct Kept {
-    left: usize,
-    dropped: usize,
-}
-
-// Keeps the first `load` reservations of a row, whose bytes begin at `from`, that are free of the mask: the bit is joined to their words.
-fn keep_row(
-    words: &mut [u32],
-    table: &[u8],
-    from: usize,
-    n: usize,
-    load: usize,
-    bit: u32,
-    mask: u32,
-) -> Kept
-    requires { ⌜ (n ≤ length (now words)) × (from + n ≤ length (now table)) ⌝ }
-    ensures words { λ _. ⌜ now (words .exit)
-        ≡ joined (now (words .entry)) (keepAt (freeAt (now (words .entry)) mask) (oldAt (now (table .entry)) from) load n) bit n ⌝ }
-    ensures left { λ r. ⌜ r .left ≡ load - count (λ k. freeAt (now (words .entry)) mask k && oldAt (now (table .entry)) from k) n ⌝ }
-    ensures dropped { λ r. ⌜ r .dropped ≡ dropCount (freeAt (now (words .entry)) mask) (oldAt (now (table .entry)) from) load n ⌝ }
-{
-    let mut left = load;
-    let mut gone: usize = 0;
-    for k in 0..n {
-        let byte = table[from + k];
-        let word = words[k];
-        let kept = keeps(word & mask, byte, left);
-        words[k] = word | weight(kept, bit);
-        left -= kept as usize;
-        gone += dropped(byte, kept);
-    }
-    Kept {
-        left: left,
-        dropped: gone,
+    for i in 0..cells {
+        let from = i * w;
+        let to = from + w;
+        pack_cell(&mut old[from..to], table, w, n, i);
     }
 }
 
-// Adds the first `load` positions that are free of the mask, in rising position: the bit is joined to their words. Answers how many fragments found no room.
-fn add_row(words: &mut [u32], n: usize, load: usize, bit: u32, mask: u32) -> usize
-    requires { ⌜ n ≤ length (now words) ⌝ }
-    ensures words { λ _. ⌜ now (words .exit) ≡ joined (now (words .entry)) (firstFew (freeAt (now (words .entry)) mask) load) bit n ⌝ }
-    ensures left { λ r. ⌜ r ≡ load - count (freeAt (now (words .entry)) mask) n ⌝ }
+// The open positions of n, in w words: those that are not blocked.
+fn open_set(vacant: &mut [u64], blocked: &[u64], w: usize, n: usize)
+    requires { ⌜ (w ≤ length (now vacant)) × (w ≤ length (now blocked)) × (w ≤ 32) ⌝ }
+    ensures { λ _. ⌜ now (vacant .exit) ≡ sets (now (vacant .entry)) 0 (setIn (vacantAt n (now (blocked .entry))) w) ⌝ }
 {
-    let mut left = load;
-    let mut k: usize = 0;
-    while k < n {
-        if left == 0 {
-            return 0;
-        }
-        let word = words[k];
-        let free = (word & mask) == 0;
-        words[k] = word | weight(free, bit);
-        left -= free as usize;
-        k += 1;
+    first_positions(vacant, w, n);
+    take_away(vacant, blocked, 0, w);
+}
+
+// Takes the set that begins at word `at` away, where it counts.
+fn take_clashing(free: &mut [u64], stands: &[u64], at: usize, w: usize, counts: bool)
+    requires { ⌜ (w ≤ length (now free)) × (at + w ≤ length (now stands)) ⌝ }
+    ensures { λ _. ⌜ now (free .exit)
+        ≡ sets (now (free .entry)) 0 (setIn (λ k. inSet (now (free .entry)) k && not (counts && inSet (now (stands .entry)) (64 * at + k))) w) ⌝ }
+{
+    if counts {
+        take_away(free, stands, at, w);
+        return;
     }
-    left
+    keep_all(free, w);
+}
+
+// The open positions where none of the i cells below that the clash row has stands. Cell a's set begins at word a * w.
+fn free_set(free: &mut [u64], vacant: &[u64], stands: &[u64], w: usize, i: usize, row: u32)
+    requires { ⌜ (i < 32) × (w ≤ 32) × (w ≤ length (now free)) × (w ≤ length (now vacant)) × (i * w ≤ length (now stands)) ⌝ }
+    ensures { λ _. ⌜ now (free .exit) ≡ sets (now (free .entry)) 0
+        (setIn (freeBy (inSet (now (vacant .entry))) w row (now (stands .entry)) i) w) ⌝ }
+{
+    meet_of(free, vacant, vacant, w);
+    for a in 0..i {
+        let clashes = (row >> a) % 2 == 1;
+        take_clashing(free, stands, a * w, w, clashes);
+    }
+}
+
+// Joins the lowest of the free positions that a cell does not stand at yet, so many of them; answers how many are lacking still.
+fn add_free(here: &mut [u64], free: &mut [u64], w: usize, lacking: usize) -> usize
+    requires { ⌜ (w ≤ length (now here)) × (w ≤ length (now free)) × (w ≤ 32) ⌝ }
+    ensures here { λ _. ⌜ now (here .exit) ≡ sets (now (here .entry)) 0
+        (setIn (λ k. inSet (now (here .entry)) k || firstFew (λ q. inSet (now (free .entry)) q && not (inSet (now (here .entry)) q)) lacking k) w) ⌝ }
+    ensures short { λ r. ⌜ r ≡ lacking - count (λ q. inSet (now (free .entry)) q && not (inSet (now (here .entry)) q)) (64 * w) ⌝ }
+{
+    if lacking == 0 {
+        keep_all(here, w);
+        return 0;
+    }
+    take_away(free, here, 0, w);
+    let short = take_first(free, w, lacking);
+    join_set(here, free, w);
+    short
 }
 
 // What a cell's turn comes to: the fragments that found no room, and the number of changes.
@@ -119,24 +100,51 @@ struct Turn {
     changes: usize,
 }
 
-// Cell i's turn, where the words have the cells below it: it keeps what it may, then adds what is lacking.
-// The whole clash row may be asked, since no later cell is in the words; and its own bit, which only the word of a blocked position has before its turn.
-fn stand_cell(words: &mut [u32], table: &[u8], n: usize, i: usize, load: usize, row: u32) -> Turn
-    requires { ⌜ (i < 32) × (n ≤ 2048) × (n ≤ length (now words)) × (i * n + n ≤ length (now table)) ⌝ }
-    ensures words { λ _. ⌜ now (words .exit)
-        ≡ joined (now (words .entry)) (standAt (freeAt (now (words .entry)) (turnMask row i)) (reserved n (now (table .entry)) i) load n) (2 ^ i) n ⌝ }
-    ensures short { λ r. ⌜ r .short ≡ shortCount (freeAt (now (words .entry)) (turnMask row i)) (reserved n (now (table .entry)) i) load n ⌝ }
-    ensures changes { λ r. ⌜ r .changes ≡ turnCount (freeAt (now (words .entry)) (turnMask row i)) (reserved n (now (table .entry)) i) load n ⌝ }
+// The set of the positions that a cell stands at, by the free positions and the old reservations. The free ones are used up.
+fn stand(here: &mut [u64], free: &mut [u64], old: &[u64], w: usize, load: usize) -> Turn
+    requires { ⌜ (w ≤ length (now here)) × (w ≤ length (now free)) × (w ≤ length (now old)) × (w ≤ 32) ⌝ }
+    ensures here { λ _. ⌜ now (here .exit)
+        ≡ sets (now (here .entry)) 0 (setIn (standAt (inSet (now (free .entry))) (inSet (now (old .entry))) load (64 * w)) w) ⌝ }
+    ensures short { λ r. ⌜ r .short ≡ shortCount (inSet (now (free .entry))) (inSet (now (old .entry))) load (64 * w) ⌝ }
+    ensures changes { λ r. ⌜ r .changes ≡ turnCount (inSet (now (free .entry))) (inSet (now (old .entry))) load (64 * w) ⌝ }
 {
-    let bit = 1u32 << i;
-    let mask = row | bit;
-    let kept = keep_row(words, table, i * n, n, load, bit, mask);
-    let lacking = kept.left;
-    let short = add_row(words, n, lacking, bit, mask);
+    meet_of(here, free, old, w);
+    let lacking = take_first(here, w, load);
+    let short = add_free(here, free, w, lacking);
+    let changes = unlike_count(here, old, w);
     Turn {
         short: short,
-        changes: kept.dropped + (lacking - short),
+        changes: changes,
     }
+}
+
+// Cell i's turn, where the sets have the cells below it: it keeps what it may, then adds what is lacking. Its set is stored at word i * w.
+fn stand_cell(
+    stands: &mut [u64],
+    free: &mut [u64],
+    here: &mut [u64],
+    vacant: &[u64],
+    old: &[u64],
+    w: usize,
+    i: usize,
+    load: usize,
+    row: u32,
+) -> Turn
+    requires { ⌜ (i < 32) × (w ≤ 32) × (i * w + w ≤ length (now stands)) × (i * w + w ≤ length (now old)) ⌝ }
+    requires { ⌜ (w ≤ length (now free)) × (w ≤ length (now here)) × (w ≤ length (now vacant)) ⌝ }
+    ensures stands { λ _. ⌜ now (stands .exit) ≡ sets (now (stands .entry)) (i * w)
+        (setIn (standAt (freeBy (inSet (now (vacant .entry))) w row (now (stands .entry)) i) (standsIn w (now (old .entry)) i) load (64 * w)) w) ⌝ }
+    ensures short { λ r. ⌜ r .short
+        ≡ shortCount (freeBy (inSet (now (vacant .entry))) w row (now (stands .entry)) i) (standsIn w (now (old .entry)) i) load (64 * w) ⌝ }
+    ensures changes { λ r. ⌜ r .changes
+        ≡ turnCount (freeBy (inSet (now (vacant .entry))) w row (now (stands .entry)) i) (standsIn w (now (old .entry)) i) load (64 * w) ⌝ }
+{
+    free_set(free, vacant, stands, w, i, row);
+    let from = i * w;
+    let to = from + w;
+    let turn = stand(here, free, &old[from..to], w, load);
+    put_set(stands, from, here, w);
+    turn
 }
 
 // The load of the cell at index i.
@@ -147,92 +155,149 @@ fn load_of(loads: &[u16; 32], i: usize) -> u16
     loads[i]
 }
 
-// One word where a test holds, else another.
-fn laid_word(is: bool, word: u32, other: u32) -> u32
-    ensures { λ r. ⌜ r ≡ pick is word other ⌝ }
-{
-    if is {
-        return word;
-    }
-    other
-}
-
-// Lays a word down at the blocked positions of the first n. Where nothing is blocked no position is looked at.
-fn lay_blocked(words: &mut [u32], blocked: &[u64; 32], n: usize, word: u32)
-    requires { ⌜ (n ≤ mostPositions) × (n ≤ length (now words)) ⌝ }
-    ensures { λ _. ⌜ now (words .exit) ≡ wordsLaid (now (words .entry)) (now (blocked .entry)) word n ⌝ }
-{
-    if none_blocked(blocked) {
-        return;
-    }
-    for k in 0..n {
-        let is = is_blocked(blocked, k);
-        let other = words[k];
-        words[k] = laid_word(is, word, other);
-    }
-}
-
-// The cells in rising number, each in its turn. The words that are lent are 0 at the open positions and have every bit at the blocked ones;
-// words and counts come back with who stands where, and how many changes each cell has. Which are blocked only the contract asks.
+// The cells in rising number, each in its turn, by the sets of their old reservations. The sets come back with who stands where; the room that is lent beside
+// them is used up. Which positions are blocked, and the table, only the contract asks.
 fn stand_turns(
-    words: &mut [u32],
-    counts: &mut [usize],
+    stands: &mut [u64],
+    free: &mut [u64],
+    here: &mut [u64],
+    vacant: &[u64],
+    old: &[u64],
     table: &[u8],
+    w: usize,
     n: usize,
     cells: usize,
     loads: &[u16; 32],
     clash: &[u32; 32],
-    blocked: &[u64; 32],
+    blocked: &[u64],
 ) -> Stood
-    requires { ⌜ (cells ≤ 32) × (n ≤ 2048) × (n ≤ length (now words)) × (cells ≤ length (now counts)) × (cells * n ≤ length (now table)) ⌝ }
-    requires { ⌜ Starts n (now blocked) (now words) × TwoWay (now clash) ⌝ }
+    requires { ⌜ (cells ≤ 32) × (w ≤ 32) × (n ≤ 64 * w) × (cells * w ≤ length (now stands)) × (cells * w ≤ length (now old)) ⌝ }
+    requires { ⌜ (w ≤ length (now free)) × (w ≤ length (now here)) × (w ≤ length (now vacant)) ⌝ }
+    requires { ⌜ OpenIn w n (now blocked) (now vacant) × OldIn w cells n (now table) (now old) × TwoWay (now clash) ⌝ }
     ensures answer { λ r. ⌜ r ≡ stoodBy cells n (now (loads .entry)) (now (clash .entry)) (now (blocked .entry)) (now (table .entry)) ⌝ }
-    ensures words { λ _. ⌜ now (words .exit)
-        ≡ turnedBy cells n (now (loads .entry)) (now (clash .entry)) (now (blocked .entry)) (now (table .entry)) (now (words .entry)) ⌝ }
-    ensures counts { λ _. ⌜ now (counts .exit)
-        ≡ countedBy cells n (now (loads .entry)) (now (clash .entry)) (now (blocked .entry)) (now (table .entry)) (now (words .entry)) (now (counts .entry)) ⌝ }
-    ensures says { λ _. ⌜ SaysBy cells n (now (loads .entry)) (now (clash .entry)) (now (blocked .entry)) (now (table .entry))
-        (wordsLaid (now (words .exit)) (now (blocked .entry)) 0 n) (now (counts .exit)) ⌝ }
+    ensures stands { λ _. ⌜ now (stands .exit)
+        ≡ turnedBy w cells n (now (loads .entry)) (now (clash .entry)) (now (blocked .entry)) (now (table .entry)) (now (stands .entry)) ⌝ }
+    ensures says { λ _. ⌜ SaysBy cells n (now (loads .entry)) (now (clash .entry)) (now (blocked .entry)) (now (table .entry)) w (now (stands .exit))
+        (now (old .entry)) ⌝ }
 {
     let mut number: usize = 0;
     for i in 0..cells {
         let load = load_of(loads, i) as usize;
-        let turn = stand_cell(words, table, n, i, load, clash[i]);
+        let turn = stand_cell(stands, free, here, vacant, old, w, i, load, clash[i]);
         let short = turn.short;
         if 0 < short {
             return Stood::Short(i + 1, short);
         }
-        let changes = turn.changes;
-        counts[i] = changes;
-        number += changes;
+        number += turn.changes;
     }
     Stood::All(number)
 }
 
-// Every cell's turn, none on a blocked position. The words and counts that are lent are 0;
-// they come back with who stands where, and how many changes each cell has.
-pub fn stand_all(
-    words: &mut [u32],
-    counts: &mut [usize],
+// Every cell's turn for at most 128 positions, none on a blocked one: the room is cleared for so many alone.
+fn stand_small(
+    stands: &mut [u64],
+    old: &[u64],
     table: &[u8],
+    w: usize,
     n: usize,
     cells: usize,
     loads: &[u16; 32],
     clash: &[u32; 32],
-    blocked: &[u64; 32],
+    blocked: &[u64],
 ) -> Stood
-    requires { ⌜ (cells ≤ 32) × (n ≤ 2048) × (n ≤ length (now words)) × (cells ≤ length (now counts)) × (cells * n ≤ length (now table)) ⌝ }
-    requires { ⌜ Zeros n (now words) × TwoWay (now clash) ⌝ }
+    requires { ⌜ (cells ≤ 32) × (w ≤ 2) × (n ≤ 64 * w) × (cells * w ≤ length (now stands)) × (cells * w ≤ length (now old)) ⌝ }
+    requires { ⌜ (w ≤ length (now blocked)) × OldIn w cells n (now table) (now old) × TwoWay (now clash) ⌝ }
     ensures answer { λ r. ⌜ r ≡ stoodBy cells n (now (loads .entry)) (now (clash .entry)) (now (blocked .entry)) (now (table .entry)) ⌝ }
-    ensures words { λ _. ⌜ now (words .exit)
-        ≡ wordsBy cells n (now (loads .entry)) (now (clash .entry)) (now (blocked .entry)) (now (table .entry)) (now (words .entry)) ⌝ }
-    ensures counts { λ _. ⌜ now (counts .exit)
-        ≡ countsBy cells n (now (loads .entry)) (now (clash .entry)) (now (blocked .entry)) (now (table .entry)) (now (words .entry)) (now (counts .entry)) ⌝ }
-    ensures says { λ _. ⌜ SaysBy cells n (now (loads .entry)) (now (clash .entry)) (now (blocked .entry)) (now (table .entry)) (now (words .exit))
-        (now (counts .exit)) ⌝ }
+    ensures stands { λ _. ⌜ now (stands .exit)
+        ≡ turnedBy w cells n (now (loads .entry)) (now (clash .entry)) (now (blocked .entry)) (now (table .entry)) (now (stands .entry)) ⌝ }
+    ensures says { λ _. ⌜ SaysBy cells n (now (loads .entry)) (now (clash .entry)) (now (blocked .entry)) (now (table .entry)) w (now (stands .exit))
+        (now (old .entry)) ⌝ }
 {
-    lay_blocked(words, blocked, n, EVERY_BIT);
-    let stood = stand_turns(words, counts, table, n, cells, loads, clash, blocked);
-    lay_blocked(words, blocked, n, 0);
-    stood
+    let mut vacant = [0u64; 2];
+    open_set(&mut vacant, blocked, w, n);
+    let mut free = [0u64; 2];
+    let mut here = [0u64; 2];
+    stand_turns(
+        stands,
+        &mut free,
+        &mut here,
+        &vacant,
+        old,
+        table,
+        w,
+        n,
+        cells,
+        loads,
+        clash,
+        blocked,
+    )
+}
+
+// The same for more positions.
+fn stand_large(
+    stands: &mut [u64],
+    old: &[u64],
+    table: &[u8],
+    w: usize,
+    n: usize,
+    cells: usize,
+    loads: &[u16; 32],
+    clash: &[u32; 32],
+    blocked: &[u64],
+) -> Stood
+    requires { ⌜ (cells ≤ 32) × (w ≤ 32) × (n ≤ 64 * w) × (cells * w ≤ length (now stands)) × (cells * w ≤ length (now old)) ⌝ }
+    requires { ⌜ (w ≤ length (now blocked)) × OldIn w cells n (now table) (now old) × TwoWay (now clash) ⌝ }
+    ensures answer { λ r. ⌜ r ≡ stoodBy cells n (now (loads .entry)) (now (clash .entry)) (now (blocked .entry)) (now (table .entry)) ⌝ }
+    ensures stands { λ _. ⌜ now (stands .exit)
+        ≡ turnedBy w cells n (now (loads .entry)) (now (clash .entry)) (now (blocked .entry)) (now (table .entry)) (now (stands .entry)) ⌝ }
+    ensures says { λ _. ⌜ SaysBy cells n (now (loads .entry)) (now (clash .entry)) (now (blocked .entry)) (now (table .entry)) w (now (stands .exit))
+        (now (old .entry)) ⌝ }
+{
+    let mut vacant = [0u64; 32];
+    open_set(&mut vacant, blocked, w, n);
+    let mut free = [0u64; 32];
+    let mut here = [0u64; 32];
+    stand_turns(
+        stands,
+        &mut free,
+        &mut here,
+        &vacant,
+        old,
+        table,
+        w,
+        n,
+        cells,
+        loads,
+        clash,
+        blocked,
+    )
+}
+
+// Every cell's turn, none on a blocked position. The sets come back with who stands where, and who stood.
+pub fn stand_all(
+    stands: &mut [u64],
+    old: &mut [u64],
+    table: &[u8],
+    w: usize,
+    n: usize,
+    cells: usize,
+    loads: &[u16; 32],
+    clash: &[u32; 32],
+    blocked: &[u64],
+) -> Stood
+    requires { ⌜ (cells ≤ 32) × (w ≤ 32) × (n ≤ 64 * w) × (cells * n ≤ length (now table)) × (cells * w ≤ length (now stands))
+        × (cells * w ≤ length (now old)) ⌝ }
+    requires { ⌜ (w ≤ length (now blocked)) × TwoWay (now clash) ⌝ }
+    ensures answer { λ r. ⌜ r ≡ stoodBy cells n (now (loads .entry)) (now (clash .entry)) (now (blocked .entry)) (now (table .entry)) ⌝ }
+    ensures stands { λ _. ⌜ now (stands .exit)
+        ≡ turnedBy w cells n (now (loads .entry)) (now (clash .entry)) (now (blocked .entry)) (now (table .entry)) (now (stands .entry)) ⌝ }
+    ensures old { λ _. ⌜ now (old .exit) ≡ packedRows w n (now (table .entry)) (now (old .entry)) cells ⌝ }
+    ensures says { λ _. ⌜ SaysBy cells n (now (loads .entry)) (now (clash .entry)) (now (blocked .entry)) (now (table .entry)) w (now (stands .exit))
+        (now (old .exit)) ⌝ }
+{
+    pack_rows(old, table, w, n, cells);
+    if w <= 2 {
+        return stand_small(stands, old, table, w, n, cells, loads, clash, blocked);
+    }
+    stand_large(stands, old, table, w, n, cells, loads, clash, blocked)
 }

@@ -4,7 +4,7 @@ use mathlib.Core.Bool.{false≢true}
 use mathlib.Core.List.{List}
 use Prim.Native.Nat.{ℕ, _≤_, _<_}
 use native.Mathlib.Omega.{arith}
-use lib.ListN.{length}
+use lib.ListN.{length, length-map}
 use Rattle.theory.specs.Net.{Net}
 use Rattle.site.specs.Record.{faultOf, positions, size}
 use Rattle.site.specs.Reach.{isOpen, netIn, netOf, netBy}
@@ -57,6 +57,16 @@ returns-2 c =
       says = λ n e. absurd (false≢true (ap isDone e));
     }
 
+add-w : tie.Need-add-w
+add-w c =
+    let told = c .before .before .before .before .before .before .before in
+    omega (arith, few-positions (fine-sized (start told .args .site) (fine told)))
+
+blocked-long : tie.Need-slice-aggregate-stand-all
+blocked-long c =
+    let told = c .before .before .before .before .before .before .before .before .before .before .before .before in
+    sym (start told .good .0 .1 .1 .1 .1 .1 .1 .1 .0 .1 .0 .1) ∙ length-map (start told .args .site .blocked) _
+
 stand-all-requires : tie.Need-stand-all-requires
 stand-all-requires c κs =
     let long = c .before .before .before .before .before .before .before .before in
@@ -65,8 +75,15 @@ stand-all-requires c κs =
     let sized = fine-sized (s .args .site) (fine told) in
     let few = few-positions sized in
     let rows = c .before .before .before .before .before .clash-rows in (
-      (sized .cells-most, few, omega (arith, few, s .pre .0), omega (arith, sized .cells-most, s .pre .1), omega (arith, long .if1 .left)),
-      ((λ k l. s .pre .2 k (omega (arith, few))), both-ways (s .args .site) (rows .result) (rows .ensures .1 (fine told))),
+      (
+        sized .cells-most,
+        omega (arith, few),
+        omega arith,
+        omega (arith, long .if1 .left),
+        s .pre .0 (fine told),
+        s .pre .1 (fine told),
+      ),
+      (omega (arith, few, blocked-long c), both-ways (s .args .site) (rows .result) (rows .ensures .1 (fine told))),
     )
 
 -- every cell has had its turn: how, for the site's own problem
@@ -130,6 +147,8 @@ stand-site-spec =
     mul-if1
     returns-2
     (λ c κs. search needs)
+    add-w
+    blocked-long
     stand-all-requires
     (λ c. search needs)
     (λ c. search needs)

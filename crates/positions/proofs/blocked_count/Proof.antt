@@ -22,20 +22,20 @@ loop-holds : tie.Need-loop-holds Inv-loop μ-loop
 unfolding sum
 loop-holds c = (omega arith, refl)
 
-mul-ones : tie.Need-mul-ones Inv-loop μ-loop
-mul-ones c = search needs
+mul-bits-in : tie.Need-mul-bits-in Inv-loop μ-loop
+mul-bits-in c = search needs
 
-element-copy-out-ones : tie.Need-element-copy-out-ones Inv-loop μ-loop
-element-copy-out-ones c = search needs
+element-copy-out-bits-in : tie.Need-element-copy-out-bits-in Inv-loop μ-loop
+element-copy-out-bits-in c = search needs
 
-ones-requires : tie.Need-ones-requires Inv-loop μ-loop
-ones-requires c κs = search needs
+bits-in-requires : tie.Need-bits-in-requires Inv-loop μ-loop
+bits-in-requires c κs = search needs
 
 add-c : tie.Need-add-c Inv-loop μ-loop
 add-c c =
     let l = c .before .before .before in
     let s = l .before .args .set .now in
-    omega (arith, c .ones .ensures, count-most (blockedAt s) (64 * l .loop .j), count-most (bitAt (getD s (l .loop .j) 0)) 64)
+    omega (arith, c .bits-in .ensures, count-most (blockedAt s) (64 * l .loop .j), count-most (bitAt (getD s (l .loop .j) 0)) 64)
 
 add-j : tie.Need-add-j Inv-loop μ-loop
 add-j c = search needs
@@ -47,7 +47,7 @@ loop-again : tie.Need-loop-again Inv-loop μ-loop
 loop-again c =
     let l = c .before .before .before in
     let s = l .before .args .set .now in
-    (omega arith, omega (arith, c .ones .ensures, count-word s (l .loop .j)))
+    (omega arith, omega (arith, c .bits-in .ensures, count-word s (l .loop .j)))
 
 returns : tie.Need-returns Inv-loop μ-loop
 returns c =
@@ -96,9 +96,9 @@ blocked-count-spec =
     Inv-loop
     μ-loop
     loop-holds
-    mul-ones
-    element-copy-out-ones
-    ones-requires
+    mul-bits-in
+    element-copy-out-bits-in
+    bits-in-requires
     add-c
     add-j
     loop-less

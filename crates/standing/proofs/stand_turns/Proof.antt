@@ -1,80 +1,113 @@
--- `standing::stand_turns` meets its contract: at the head of the loop the words and counts are those of the run so far (`Standing`). Assumes nothing.
+-- `standing::stand_turns` meets its contract: at the head of the loop the sets are those of the run so far (`Standing`). Assumes nothing.
 use mathlib.Core.Path.{_≡_, refl, sym, ap, _∙_}
 use Prim.Native.Nat.{_+_, _-_, _*_, _≤_, _<_}
 use native.Mathlib.Omega.{arith}
-use lib.ListN.{length, getD, length-set}
-use lib.Seq.{sets, length-sets}
-use Rattle.laws.specs.Part.{listOf}
+use lib.ListN.{length, getD}
+use lib.Seq.{sets}
 use Rattle.laws.proofs.Grid.{row-before}
 use Rattle.laws.proofs.Sums.{count-most}
 use Rattle.theory.specs.Greedy.{reserved}
 use Rattle.site.specs.Reach.{isOpen, netBy}
 use Rattle.mending.specs.Keep.{standAt}
 use Rattle.mending.specs.Changes.{differ}
+use Rattle.sets.specs.Sets.{setIn}
 use Rattle.standing.specs.Stand.{stoodOf}
-use Rattle.standing.specs.Turns.{turnWords, turnChanges, turnsOf, metOf}
-use Rattle.standing.specs.Words.{freeAt, turnMask, wordsLaid}
+use Rattle.standing.specs.Turns.{turnSets, turnsOf}
+use Rattle.standing.specs.Sets.{freeIn, shortCount, turnCount}
 use Rattle.standing.proofs.Standing.{Standing, none-yet, turn-stops, turn-goes, stood-all, stood-says, short-says}
-use Rattle.standing.proofs.Turns.{no-words, no-counts, turn-joins, turn-counts}
+use Rattle.standing.proofs.Turns.{no-sets, turn-stored}
+use Rattle.standing.proofs.Within.{set-here, short-here, changes-here}
 use borrow.Author.Needs.{needs}
 use Rattle.standing.proofs.stand_turns.Statement.{statement}
 use Rattle.standing.proofs.stand_turns.Tie as tie
 
 abbrev Inv-loop : tie.InvT-loop
-Inv-loop words₀ counts₀ table n cells loads clash blocked number₀ i₀ words counts number i =
+Inv-loop stands₀ free₀ here₀ vacant old table w n cells loads clash blocked number₀ i₀ stands free here number i =
     (i ≤ cells)
-    × (length words ≡ length words₀)
-    × (length counts ≡ length counts₀)
-    × Standing (netBy cells n loads clash (isOpen blocked)) table i words counts number
+    × (length stands ≡ length stands₀)
+    × (length free ≡ length free₀)
+    × (length here ≡ length here₀)
+    × Standing (netBy cells n loads clash (isOpen blocked)) table w i stands number
     × (number ≤ i * 2048)
-    × (words ≡ turnWords n loads clash table words₀ i)
-    × (counts ≡ sets counts₀ 0 (listOf (turnChanges n loads clash table words₀) i))
+    × (stands ≡ turnSets w n loads clash blocked table stands₀ i)
 
 abbrev μ-loop : tie.MeasureT-loop
-μ-loop words₀ counts₀ table n cells loads clash blocked number₀ i₀ words counts number i = cells - i
+μ-loop stands₀ free₀ here₀ vacant old table w n cells loads clash blocked number₀ i₀ stands free here number i = cells - i
 
 -- the cell's turn is over
 module _ (c : tie.After-stand-cell Inv-loop μ-loop) where
   abbrev at : tie.At-loop Inv-loop μ-loop
-  at = c .before .before .before .before .before
+  at = c .before .before .before .before .before .before .before
 
   abbrev start : tie.Start Inv-loop μ-loop
-  start = c .before .before .before .before .before .before .before .before .before
+  start = at .before .before .before .before .before .before .before .before
 
-  own : c .before .before .before .load-of .result ≡ getD (start .args .loads .now) (at .loop .i) 0
-  own = c .before .before .before .load-of .ensures
+  inside : at .loop .i < start .args .cells
+  inside = c .before .before .before .before .before .before .loop-test .taken
 
-  long : length (c .stand-cell .last .0) ≡ length (at .loop .words)
-  long = ap length (c .stand-cell .ensures .0) ∙ simp length-sets
+  own : c .before .before .before .before .before .load-of .result ≡ getD (start .args .loads .now) (at .loop .i) 0
+  own = c .before .before .before .before .before .load-of .ensures
+
+  -- over the n positions of the site
+  set-now : c .stand-cell .last .0 ≡ sets (at .loop .stands) (at .loop .i * start .args .w)
+      (setIn (standAt (freeIn (start .args .w) (start .args .n) (start .args .blocked .now) (getD (start .args .clash .now) (at .loop .i) 0) (at .loop .stands)
+      (at .loop .i)) (reserved (start .args .n) (start .args .table .now) (at .loop .i)) (c .before .before .before .before .before .load-of .result)
+      (start .args .n)) (start .args .w))
+  set-now =
+      let a = start .args in
+      let l = at .loop in
+      c .stand-cell .ensures .0
+      ∙ ap (sets (l .stands) (l .i * a .w))
+      (set-here (a .w) (a .n) (a .blocked .now) (a .vacant .now) (l .stands) (a .table .now) (a .old .now) (getD (a .clash .now) (l .i) 0) (l .i)
+      (c .before .before .before .before .before .load-of .result) (start .pre .0 .2) (start .pre .1 .1 .0) (λ k h. start .pre .1 .1 .1 (l .i) k inside h))
+
+  short-now : c .stand-cell .result .short ≡ shortCount (freeIn (start .args .w) (start .args .n) (start .args .blocked .now)
+      (getD (start .args .clash .now) (at .loop .i) 0) (at .loop .stands) (at .loop .i)) (reserved (start .args .n) (start .args .table .now) (at .loop .i))
+      (c .before .before .before .before .before .load-of .result) (start .args .n)
+  short-now =
+      let a = start .args in
+      let l = at .loop in
+      c .stand-cell .ensures .1 .0
+      ∙ short-here (a .w) (a .n) (a .blocked .now) (a .vacant .now) (l .stands) (a .table .now) (a .old .now) (getD (a .clash .now) (l .i) 0) (l .i)
+      (c .before .before .before .before .before .load-of .result) (start .pre .0 .2) (start .pre .1 .1 .0) (λ k h. start .pre .1 .1 .1 (l .i) k inside h)
+
+  changes-now : c .stand-cell .result .changes ≡ turnCount (freeIn (start .args .w) (start .args .n) (start .args .blocked .now)
+      (getD (start .args .clash .now) (at .loop .i) 0) (at .loop .stands) (at .loop .i)) (reserved (start .args .n) (start .args .table .now) (at .loop .i))
+      (c .before .before .before .before .before .load-of .result) (start .args .n)
+  changes-now =
+      let a = start .args in
+      let l = at .loop in
+      c .stand-cell .ensures .1 .1
+      ∙ changes-here (a .w) (a .n) (a .blocked .now) (a .vacant .now) (l .stands) (a .table .now) (a .old .now) (getD (a .clash .now) (l .i) 0) (l .i)
+      (c .before .before .before .before .before .load-of .result) (start .pre .0 .2) (start .pre .1 .1 .0) (λ k h. start .pre .1 .1 .1 (l .i) k inside h)
 
   few : c .stand-cell .result .changes ≤ start .args .n
   few =
       let a = start .args in
       let i = at .loop .i in
-      let free = freeAt (at .loop .words) (turnMask (getD (a .clash .now) i 0) i) in
+      let free = freeIn (a .w) (a .n) (a .blocked .now) (getD (a .clash .now) i 0) (at .loop .stands) i in
       let old = reserved (a .n) (a .table .now) i in
-      let load = c .before .before .before .load-of .result in
-      omega (arith, c .stand-cell .ensures .1 .1, count-most (λ k. differ (standAt free old load (a .n) k) (old k)) (a .n))
+      let load = c .before .before .before .before .before .load-of .result in
+      omega (arith, changes-now, count-most (λ k. differ (standAt free old load (a .n) k) (old k)) (a .n))
 
-  stored : c .stand-cell .last .0
-      ≡ turnWords (start .args .n) (start .args .loads .now) (start .args .clash .now) (start .args .table .now) (start .args .words .now) (at .loop .i + 1)
+  stored : c .stand-cell .last .0 ≡ turnSets (start .args .w) (start .args .n) (start .args .loads .now) (start .args .clash .now) (start .args .blocked .now)
+      (start .args .table .now) (start .args .stands .now) (at .loop .i + 1)
   stored =
       let a = start .args in
-      turn-joins (a .n) (a .loads .now) (a .clash .now) (a .table .now) (a .words .now) (a .counts .now) (at .loop .i) (at .loop .words) (at .loop .inv .5) own
-      (c .stand-cell .last .0) (c .stand-cell .ensures .0)
+      turn-stored (a .w) (a .n) (a .loads .now) (a .clash .now) (a .blocked .now) (a .table .now) (a .stands .now) (at .loop .i) (at .loop .stands)
+      (at .loop .inv .6) own (c .stand-cell .last .0) set-now
 
 loop-holds : tie.Need-loop-holds Inv-loop μ-loop
 loop-holds c =
-    let b = c .before .before .before in
-    let a = b .args in
+    let a = c .before .before .before .before .before .before .before .args in
     let net = netBy (a .cells) (a .n) (a .loads .now) (a .clash .now) (isOpen (a .blocked .now)) in (
       omega arith,
       refl,
       refl,
-      none-yet net (a .table .now) (a .words .now) (a .counts .now) (b .pre .1 .0),
+      refl,
+      none-yet net (a .table .now) (a .w) (a .stands .now),
       omega arith,
-      no-words (a .n) (a .loads .now) (a .clash .now) (a .table .now) (a .words .now) (a .counts .now),
-      no-counts (a .n) (a .loads .now) (a .clash .now) (a .table .now) (a .words .now) (a .counts .now),
+      no-sets (a .w) (a .n) (a .loads .now) (a .clash .now) (a .blocked .now) (a .table .now) (a .stands .now),
     )
 
 load-of-requires : tie.Need-load-of-requires Inv-loop μ-loop
@@ -91,58 +124,48 @@ element-copy-out-stand-cell c = search needs
 
 stand-cell-requires : tie.Need-stand-cell-requires Inv-loop μ-loop
 stand-cell-requires c κs =
-    let l = c .before .before .before .before .loop in
-    let b = c .before .before .before .before .before .before .before .before in
-    let a = b .args in
-    let row = row-before (a .n) (c .before .before .before .loop-test .taken) in
-    (omega arith, b .pre .0 .1, omega (arith, b .pre .0 .2, l .inv .1), omega (arith, row, b .pre .0 .4))
+    let l = c .before .before .before .before .before .before .loop in
+    let b = c .before .before .before .before .before .before .before .before .before .before .before .before .before .before in
+    let inside = c .before .before .before .before .before .loop-test .taken in
+    let word = row-before (b .args .w) inside in (
+      (omega (arith, inside, b .pre .0 .0), b .pre .0 .1, omega (arith, word, b .pre .0 .3, l .inv .1), omega (arith, word, b .pre .0 .4)),
+      (omega (arith, b .pre .1 .0 .0, l .inv .2), omega (arith, b .pre .1 .0 .1, l .inv .3), b .pre .1 .0 .2),
+    )
 
--- the cell's bit is one of 32
-fits-word : (c : tie.After-stand-cell Inv-loop μ-loop) → at c .loop .i < 32
-fits-word c = omega (arith, c .before .before .before .before .loop-test .taken, start c .pre .0 .0)
-
-add-t23 : tie.Need-add-t23 Inv-loop μ-loop
-add-t23 c = let b = c .before .before .before in omega (arith, start b .pre .0 .0, at b .loop .inv .0)
+add-t30 : tie.Need-add-t30 Inv-loop μ-loop
+add-t30 c = let b = c .before .before .before .before .before .before .before in omega (arith, start b .pre .0 .0, inside b)
 
 same-length : tie.Need-same-length Inv-loop μ-loop
-same-length c = let b = c .before .before .before in long b ∙ at b .loop .inv .1
+same-length c = search needs
 
 same-length-2 : tie.Need-same-length-2 Inv-loop μ-loop
-same-length-2 c = let b = c .before .before .before in at b .loop .inv .2
+same-length-2 c = search needs
+
+same-length-3 : tie.Need-same-length-3 Inv-loop μ-loop
+same-length-3 c = search needs
 
 returns : tie.Need-returns Inv-loop μ-loop
 returns c =
-    let b = c .before .before .before in
+    let b = c .before .before .before .before .before .before .before in
     let l = at b .loop in
     let a = start b .args in
     let net = netBy (a .cells) (a .n) (a .loads .now) (a .clash .now) (isOpen (a .blocked .now)) in
-    let e = turn-stops (a .cells) (a .n) (a .loads .now) (a .clash .now) (a .blocked .now) (a .table .now) (start b .pre .1 .1) (l .i) (fits-word b) (l .words)
-    (l .counts) (l .number) (l .inv .3) (own b) (b .stand-cell .ensures .1 .0) (omega (arith, c .if1 .taken)) (a .cells)
-    (b .before .before .before .before .loop-test .taken) in
-    let f = turnChanges (a .n) (a .loads .now) (a .clash .now) (a .table .now) (a .words .now) in (
+    let e =
+    turn-stops (a .w) (a .cells) (a .n) (a .loads .now) (a .clash .now) (a .blocked .now) (a .table .now) (start b .pre .1 .1 .2) (l .i) (l .stands) (l .number)
+    (l .inv .4) (own b) (short-now b) (omega (arith, c .if1 .taken)) (a .cells) (inside b) in (
       sym (ap (stoodOf net (a .table .now)) e),
       (
-        stored b ∙ sym (ap (λ o. turnWords (a .n) (a .loads .now) (a .clash .now) (a .table .now) (a .words .now) (turnsOf (a .cells) o)) e),
-        (
-          l .inv .6 ∙ sym (ap (λ o. sets (a .counts .now) 0 (listOf f (metOf (a .cells) o))) e),
-          short-says net (a .table .now) (wordsLaid (b .stand-cell .last .0) (a .blocked .now) 0 (a .n)) (l .counts) (l .i) (b .stand-cell .result .short) e,
-        ),
+        stored b
+            ∙ sym (ap (λ o. turnSets (a .w) (a .n) (a .loads .now) (a .clash .now) (a .blocked .now) (a .table .now) (a .stands .now)
+            (turnsOf (a .cells) o)) e),
+        short-says net (a .table .now) (a .w) (b .stand-cell .last .0) (a .old .now) (l .i) (b .stand-cell .result .short) e,
       ),
     )
 
-mul-counts : tie.Need-mul-counts Inv-loop μ-loop
-mul-counts c = search needs
-
-slice-write-counts : tie.Need-slice-write-counts Inv-loop μ-loop
-slice-write-counts c = let b = c .before .before .before in omega (
-  arith,
-  b .before .before .before .before .loop-test .taken,
-  start b .pre .0 .3,
-  at b .loop .inv .2,
-)
-
 add-number : tie.Need-add-number Inv-loop μ-loop
-add-number c = let b = c .before .before .before in omega (arith, few b, at b .loop .inv .4, start b .pre .0 .0, start b .pre .0 .1, at b .loop .inv .0)
+add-number c =
+    let b = c .before .before .before .before .before .before .before .before in
+    omega (arith, few b, at b .loop .inv .5, start b .pre .0 .0, start b .pre .0 .1, start b .pre .0 .2, at b .loop .inv .0)
 
 add-i : tie.Need-add-i Inv-loop μ-loop
 add-i c = search needs
@@ -152,46 +175,44 @@ loop-less c = search needs
 
 loop-again : tie.Need-loop-again Inv-loop μ-loop
 loop-again c =
-    let b = c .before .before .before in
+    let b = c .before .before .before .before .before .before .before .before in
     let l = at b .loop in
     let a = start b .args in
-    let none : b .stand-cell .result .short ≡ 0 = omega (arith, c .if1 .left) in
-    let inside = b .before .before .before .before .loop-test .taken in (
-      omega (arith, inside),
-      long b ∙ l .inv .1,
-      length-set (l .counts) (l .i) _ ∙ l .inv .2,
-      turn-goes (a .cells) (a .n) (a .loads .now) (a .clash .now) (a .blocked .now) (a .table .now) (start b .pre .1 .1) (l .i) (fits-word b) (l .words)
-          (l .counts) (l .number) (l .inv .3) (own b) (b .stand-cell .ensures .1 .0) none (b .stand-cell .last .0) (b .stand-cell .ensures .0)
-          (omega (arith, start b .pre .0 .2, l .inv .1)) (b .stand-cell .ensures .1 .1) (omega (arith, inside, start b .pre .0 .3, l .inv .2)),
-      omega (arith, few b, l .inv .4, start b .pre .0 .1),
+    let none : b .stand-cell .result .short ≡ 0 = omega (arith, c .before .if1 .left) in (
+      omega (arith, inside b),
+      b .stand-cell .kept .0 ∙ l .inv .1,
+      b .stand-cell .kept .1 .0 ∙ l .inv .2,
+      b .stand-cell .kept .1 .1 .0 ∙ l .inv .3,
+      turn-goes (a .w) (a .cells) (a .n) (a .loads .now) (a .clash .now) (a .blocked .now) (a .table .now) (start b .pre .1 .1 .2) (l .i) (l .stands)
+          (l .number) (l .inv .4) (own b) (short-now b) none (b .stand-cell .last .0) (set-now b)
+          (omega (arith, row-before (a .w) (inside b), start b .pre .0 .3, l .inv .1)) (start b .pre .0 .2) (changes-now b),
+      omega (arith, few b, l .inv .5, start b .pre .0 .1, start b .pre .0 .2),
       stored b,
-      turn-counts (a .n) (a .loads .now) (a .clash .now) (a .table .now) (a .words .now) (a .counts .now) (l .i) (l .words) (l .inv .5) (own b)
-          (b .stand-cell .ensures .1 .1) (l .counts) (l .inv .6),
     )
 
-same-length-3 : tie.Need-same-length-3 Inv-loop μ-loop
-same-length-3 c = c .before .loop .inv .1
-
 same-length-4 : tie.Need-same-length-4 Inv-loop μ-loop
-same-length-4 c = c .before .loop .inv .2
+same-length-4 c = search needs
+
+same-length-5 : tie.Need-same-length-5 Inv-loop μ-loop
+same-length-5 c = search needs
+
+same-length-6 : tie.Need-same-length-6 Inv-loop μ-loop
+same-length-6 c = search needs
 
 returns-2 : tie.Need-returns-2 Inv-loop μ-loop
 returns-2 c =
     let l = c .before .loop in
-    let a = c .before .before .before .before .before .args in
+    let b = c .before .before .before .before .before .before .before .before .before in
+    let a = b .args in
     let net = netBy (a .cells) (a .n) (a .loads .now) (a .clash .now) (isOpen (a .blocked .now)) in
     let e : l .i ≡ a .cells = omega arith in
-    let st : Standing net (a .table .now) (a .cells) (l .words) (l .counts) (l .number) = rw e at (l .inv .3) in
-    let f = turnChanges (a .n) (a .loads .now) (a .clash .now) (a .table .now) (a .words .now) in
-    let w = turnWords (a .n) (a .loads .now) (a .clash .now) (a .table .now) (a .words .now) in (
-      stood-all net (a .table .now) (l .words) (l .counts) (l .number) st,
+    let st : Standing net (a .table .now) (a .w) (a .cells) (l .stands) (l .number) = rw e at (l .inv .4) in
+    let s = turnSets (a .w) (a .n) (a .loads .now) (a .clash .now) (a .blocked .now) (a .table .now) (a .stands .now) in (
+      stood-all net (a .table .now) (a .w) (l .stands) (l .number) st,
       (
-        l .inv .5 ∙ ap w e ∙ sym (ap (λ o. w (turnsOf (a .cells) o)) (st .runs)),
-        (
-          l .inv .6 ∙ ap (λ m. sets (a .counts .now) 0 (listOf f m)) e ∙ sym (ap (λ o. sets (a .counts .now) 0 (listOf f (metOf (a .cells) o))) (st .runs)),
-          stood-says (a .cells) (a .n) (a .loads .now) (a .clash .now) (a .blocked .now) (a .table .now) (l .words) (l .counts) (l .number) st
-              (omega (arith, c .before .before .before .before .before .pre .0 .2, l .inv .1)),
-        ),
+        l .inv .6 ∙ ap s e ∙ sym (ap (λ o. s (turnsOf (a .cells) o)) (st .runs)),
+        stood-says (a .cells) (a .n) (a .loads .now) (a .clash .now) (a .blocked .now) (a .table .now) (a .w) (l .stands) (a .old .now) (l .number) st
+            (b .pre .0 .2) (b .pre .1 .1 .1),
       ),
     )
 
@@ -207,16 +228,16 @@ stand-turns-spec =
     mul-stand-cell
     element-copy-out-stand-cell
     stand-cell-requires
-    add-t23
+    add-t30
     same-length
     same-length-2
+    same-length-3
     returns
-    mul-counts
-    slice-write-counts
     add-number
     add-i
     loop-less
     loop-again
-    same-length-3
     same-length-4
+    same-length-5
+    same-length-6
     returns-2)

@@ -1,0 +1,3 @@
+-- The laws of crate `blockwords`, module by module.
+pub mod Trades
+pub mod Places

@@ -1,0 +1,2 @@
+-- The laws of crate `packing`.
+pub mod Packed

@@ -1,0 +1,2 @@
+-- The definitions of crate `packing`.
+pub mod Packed
