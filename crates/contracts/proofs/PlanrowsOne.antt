@@ -5,14 +5,17 @@ use mathlib.Core.List.{List}
 use Prim.Native.Nat.{_*_, ℕ}
 use Rattle.contracts.specs.PlanrowsSays.{PlanrowsPlanRow}
 use Rattle.laws.specs.Bits.{bitIn}
-use Rattle.planrows.specs.Row.{opens, rowPlanned, rowShort}
+use Rattle.planrows.specs.Row.{marksIn, opens, rowPlanned}
+use Rattle.rows.specs.Bars.{barRow}
+use Rattle.rows.specs.Stretch.{filledBy}
+use Rattle.rows.specs.declared.Filled.{Filled}
 
 -- planrows::plan_row
-pub planrowsPlanRow-one : (table : List ℕ) (slots : ℕ) (channels : ℕ) (i : ℕ) (load : ℕ) (clash : List ℕ) (mask : List ℕ)
-    → (r : ℕ) × (table′ : List ℕ) × (PlanrowsPlanRow table slots channels i load clash mask r table′)
-    × ((q : ℕ) (table″ : List ℕ) → PlanrowsPlanRow table slots channels i load clash mask q table″ → (q ≡ r) × (table″ ≡ table′))
-planrowsPlanRow-one table slots channels i load clash mask = (
-  rowShort (slots * channels) (bitIn clash) (opens mask) i load table,
+pub planrowsPlanRow-one : (table : List ℕ) (slots : ℕ) (channels : ℕ) (i : ℕ) (load : ℕ) (clash : List ℕ) (mask : List ℕ) (starts : List ℕ) (ends : List ℕ)
+    → (r : Filled) × (table′ : List ℕ) × (PlanrowsPlanRow table slots channels i load clash mask starts ends r table′)
+    × ((q : Filled) (table″ : List ℕ) → PlanrowsPlanRow table slots channels i load clash mask starts ends q table″ → (q ≡ r) × (table″ ≡ table′))
+planrowsPlanRow-one table slots channels i load clash mask starts ends = (
+  filledBy slots channels load (barRow (opens mask) 0 (marksIn (slots * channels) (bitIn clash) table i)),
   rowPlanned (slots * channels) (bitIn clash) (opens mask) i load table,
   record { answer = refl; table-after = refl },
   λ q table″ says. (says .answer, says .table-after),

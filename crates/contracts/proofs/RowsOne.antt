@@ -3,30 +3,42 @@
 use mathlib.Core.Path.{_≡_, refl}
 use mathlib.Core.List.{List}
 use Prim.Native.Nat.{_*_, ℕ}
-use Rattle.contracts.specs.RowsSays.{RowsClear, RowsFillRow, RowsForbidRow, RowsLayMask, RowsLift}
-use Rattle.laws.specs.Part.{part, put}
+use Rattle.contracts.specs.RowsSays.{RowsClear, RowsCoverRow, RowsFillRow, RowsForbidRow, RowsLayMask, RowsLift}
+use Rattle.laws.specs.Part.{listOf, part, put}
 use Rattle.rows.specs.Bars.{lifted}
-use Rattle.theory.specs.Greedy.{fill, forbid, unmet}
+use Rattle.rows.specs.Stretch.{coverAt, filledBy}
+use Rattle.rows.specs.declared.Filled.{Filled}
+use Rattle.theory.specs.Greedy.{fill, forbid}
 use Rattle.theory.specs.Net.{unblocked}
 use lib.ListN.{length, replicate, take}
 
 -- rows::fill_row
 pub rowsFillRow-one : (row : List ℕ) (slots : ℕ) (channels : ℕ) (load : ℕ)
-    → (r : ℕ) × (row′ : List ℕ) × (RowsFillRow row slots channels load r row′)
-    × ((q : ℕ) (row″ : List ℕ) → RowsFillRow row slots channels load q row″ → (q ≡ r) × (row″ ≡ row′))
+    → (r : Filled) × (row′ : List ℕ) × (RowsFillRow row slots channels load r row′)
+    × ((q : Filled) (row″ : List ℕ) → RowsFillRow row slots channels load q row″ → (q ≡ r) × (row″ ≡ row′))
 rowsFillRow-one row slots channels load = (
-  unmet unblocked 0 load row,
+  filledBy slots channels load row,
   fill unblocked 0 load row,
   record { answer = refl; row-after = refl },
   λ q row″ says. (says .answer, says .row-after),
 )
 
 -- rows::forbid_row
-pub rowsForbidRow-one : (table : List ℕ) (n : ℕ) (j : ℕ) (i : ℕ)
-    → (table′ : List ℕ) × (RowsForbidRow table n j i table′)
-    × ((table″ : List ℕ) → RowsForbidRow table n j i table″ → (table″ ≡ table′))
-rowsForbidRow-one table n j i = (
+pub rowsForbidRow-one : (table : List ℕ) (n : ℕ) (j : ℕ) (i : ℕ) (start : ℕ) (end : ℕ)
+    → (table′ : List ℕ) × (RowsForbidRow table n j i start end table′)
+    × ((table″ : List ℕ) → RowsForbidRow table n j i start end table″ → (table″ ≡ table′))
+rowsForbidRow-one table n j i start end = (
   put (i * n) n (forbid (part (j * n) n table) (part (i * n) n table)) table,
+  record { table-after = refl },
+  λ table″ says. says .table-after,
+)
+
+-- rows::cover_row
+pub rowsCoverRow-one : (table : List ℕ) (n : ℕ) (j : ℕ) (i : ℕ)
+    → (table′ : List ℕ) × (RowsCoverRow table n j i table′)
+    × ((table″ : List ℕ) → RowsCoverRow table n j i table″ → (table″ ≡ table′))
+rowsCoverRow-one table n j i = (
+  put (i * n) n (listOf (coverAt n table j i) n) table,
   record { table-after = refl },
   λ table″ says. says .table-after,
 )

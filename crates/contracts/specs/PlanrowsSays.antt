@@ -4,10 +4,13 @@ use mathlib.Core.Path.{_≡_}
 use mathlib.Core.List.{List}
 use Prim.Native.Nat.{_*_, ℕ}
 use Rattle.laws.specs.Bits.{bitIn}
-use Rattle.planrows.specs.Row.{opens, rowPlanned, rowShort}
+use Rattle.planrows.specs.Row.{marksIn, opens, rowPlanned}
+use Rattle.rows.specs.Bars.{barRow}
+use Rattle.rows.specs.Stretch.{filledBy}
+use Rattle.rows.specs.declared.Filled.{Filled}
 
 -- planrows::plan_row
-pub record PlanrowsPlanRow (table : List ℕ) (slots : ℕ) (channels : ℕ) (i : ℕ) (load : ℕ) (clash : List ℕ) (mask : List ℕ) (r : ℕ)
-    (table′ : List ℕ) : Type 0 where
-  pub answer : r ≡ rowShort (slots * channels) (bitIn clash) (opens mask) i load table
+pub record PlanrowsPlanRow (table : List ℕ) (slots : ℕ) (channels : ℕ) (i : ℕ) (load : ℕ) (clash : List ℕ) (mask : List ℕ) (starts : List ℕ) (ends : List ℕ)
+    (r : Filled) (table′ : List ℕ) : Type 0 where
+  pub answer : r ≡ filledBy slots channels load (barRow (opens mask) 0 (marksIn (slots * channels) (bitIn clash) table i))
   pub table-after : table′ ≡ rowPlanned (slots * channels) (bitIn clash) (opens mask) i load table

@@ -15,11 +15,9 @@ use Rattle.site.specs.declared.Edited.{Edited}
 use Rattle.site.specs.declared.Fault.{Fault}
 use Rattle.site.specs.declared.Fault.the-variants.{Fine}
 use Rattle.site.proofs.Edits.{done-new, set-load-fine}
-use Rattle.site.proofs.Reach.{clash-sym}
 use Rattle.planner.specs.Plan.{planAnswer, planTable}
 use Rattle.planner.specs.Loop.{PlannedTo}
 use Rattle.planner.specs.declared.PlanAnswer.{PlanAnswer}
-use Rattle.rowwords.specs.Code.{EitherWay}
 use Rattle.rowwords.proofs.Runs.{plan-front}
 use Rattle.handheld.specs.Change.{tableIsPlan, changeOf, inOrder, changeTable, changedOf}
 use Rattle.handheld.specs.declared.Changed.{Changed}
@@ -111,11 +109,6 @@ module _ (s : Site) (cell v : ℕ) (t : List ℕ) where
       )
 
 -- ---- the plan from the cell on
-
--- clash rows that state who clashes say it both ways
-pub either-way : (s : Site) (rows : List ℕ) → bitIn rows ≡ clashOf s → EitherWay rows
-either-way s rows e a b =
-    ap (λ (f : ℕ → ℕ → Bool). f a b) e ∙ clash-sym (s .rule) (s .reach) a b ∙ sym (ap (λ (f : ℕ → ℕ → Bool). f b a) e)
 
 module _ (s : Site) (rows : List ℕ) (is : bitIn rows ≡ clashOf s) where
   pub same-net : netBy (s .cells) (positions s) (s .loads) rows (isOpen (s .blocked)) ≡ netOf s

@@ -13,7 +13,6 @@ use Rattle.theory.specs.Greedy.{marked, fill, row, held, Outcome, planned, noRo
 use Rattle.theory.proofs.Row.{marked-length}
 use Rattle.site.specs.Reach.{netIn}
 use Rattle.planner.specs.Plan.{answerOf, tableOf, leaves}
-use Rattle.planner.specs.Loop.{PlannedTo}
 use Rattle.planner.proofs.Marked.{marked-alike}
 
 fill-alike : (u v : ℕ → Bool) (k l : ℕ) (r : List ℕ) → ((p : ℕ) → p < length r → u (k + p) ≡ v (k + p)) → fill u k l r ≡ fill v k l r
@@ -48,9 +47,6 @@ module _ (cells n : ℕ) (loads : List ℕ) (clash : ℕ → ℕ → Bool) (u v 
   unfolding run
   run-alike zero = refl
   run-alike (suc i) = ap (next one (row one) i) (run-alike i) ∙ next-alike i (run other (row other) i)
-
-  pub planned-alike : (i : ℕ) (t : List ℕ) → PlannedTo (netIn cells n loads clash u) i t → PlannedTo (netIn cells n loads clash v) i t
-  planned-alike i t h = sym (run-alike i) ∙ h
 
   pub answer-alike : answerOf (greedy (netIn cells n loads clash v)) ≡ answerOf (greedy (netIn cells n loads clash u))
   answer-alike = ap answerOf (sym (run-alike cells))

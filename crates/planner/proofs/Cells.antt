@@ -1,21 +1,18 @@
--- A cell more of the greedy run, over a table whose first rows are its rows so far: the run goes on with the table, or ends short.
--- Where it is done, the rows that it began with stand as they were. Assumes nothing.
+-- A cell more of the greedy run, over a table whose first rows are its rows so far: the run goes on with the table, or ends short. Assumes nothing.
 use mathlib.Core.Bool.{Bool}
 use mathlib.Core.Path.{_≡_, refl, sym, ap, _∙_}
 use mathlib.Core.List.{List, _++_}
 use Prim.Native.Nat.{ℕ, _+_, _-_, _*_, _≤_, _<_}
 use native.Mathlib.Numerals.{add-one}
-use native.Mathlib.Nat.{suc-mul, zero-mul, mul-le-mul-right}
+use native.Mathlib.Nat.{suc-mul, zero-mul}
 use native.Mathlib.Omega.{arith}
-use lib.Seq.{length-take-le, take-take}
+use lib.Seq.{length-take-le}
 use lib.ListN.{length, take, drop, getD, replicate, take-append-drop}
 use Rattle.laws.proofs.Part.{length-put, take-put-end, drop-put-after}
 use Rattle.theory.specs.Net.{Net}
 use Rattle.theory.specs.Greedy.{marked, fill, unmet, row, held, Outcome, planned, noRoom, run}
 use Rattle.theory.proofs.Loops.{run-next, run-stop, run-stays}
 use Rattle.theory.proofs.Row.{row-length, row-short}
-use Rattle.theory.proofs.Run.{run-begins}
-use Rattle.theory.proofs.Exact.{greedy-fair}
 use Rattle.planner.specs.Plan.{tableOf}
 use Rattle.planrows.specs.Row.{marksIn, rowPlanned, rowShort}
 use Rattle.planner.specs.Loop.{PlannedTo}
@@ -70,15 +67,6 @@ module _ (cells n : ℕ) (loads : List ℕ) (clash : ℕ → ℕ → Bool) (usab
 pub no-rows : (s : Net) (t : List ℕ) → PlannedTo s 0 t
 unfolding run
 no-rows s t = rw zero-mul refl
-
--- a finished run has left the rows before cell i as they were, where they were planned
-pub rows-kept : (s : Net) (i : ℕ) (t t₀ : List ℕ) → PlannedTo s i t₀ → PlannedTo s (s .cells) t → i ≤ s .cells → take (i * s .width) t ≡ take (i * s .width) t₀
-rows-kept s i t t₀ before done h =
-    let e = run-begins s (row s) (greedy-fair s) (s .cells) (take (s .cells * s .width) t) done i h in
-    let within : i * s .width ≤ s .cells * s .width = mul-le-mul-right (s .width) h in
-    let q : planned (take (i * s .width) (take (s .cells * s .width) t)) ≡ planned (take (i * s .width) t₀) = sym e ∙ before in
-    let r : take (i * s .width) (take (s .cells * s .width) t) ≡ take (i * s .width) t₀ = cc in
-    sym (take-take (i * s .width) (s .cells * s .width) t within) ∙ r
 
 -- what the table holds at the end of a finished run, and of one that ended short, where z is what `clear` left of the first m bytes
 pub end-done : {o : Outcome} (m : ℕ) (t t₀ : List ℕ) → o ≡ planned (take m t) → drop m t ≡ drop m t₀ → t ≡ tableOf m o ++ drop m t₀

@@ -6,3 +6,4 @@ pub mod MaskLaws
 pub mod Answer
 pub mod Given
 pub mod Meaning
+pub mod Before

@@ -4,13 +4,11 @@ use site::Fault;
 use site::Site;
 ghost use mathlib.Core.Path.{_≡_};
 ghost use Prim.Native.Nat.{_*_, _≤_, _<_};
-ghost use lib.ListN.{length, getD, take};
+ghost use lib.ListN.{length, getD};
 ghost use Rattle.laws.specs.Bits.{bitIn};
 ghost use Rattle.theory.specs.Greedy.{greedy};
 ghost use Rattle.planner.specs.Plan.{planAnswer, planTable, answerOf, leaves};
-ghost use Rattle.planrows.specs.Row.{opens, Masks};
-ghost use Rattle.planner.specs.Loop.{PlannedTo};
-ghost use Rattle.planner.specs.declared.PlanAnswer.the-variants.{Done};
+ghost use Rattle.planrows.specs.Row.{opens, Masks, EitherWay};
 ghost use Rattle.site.specs.Reach.{netIn, isOpen};
 
 // What the planner answers: done; 4, the table is short; 5, a cell's number and how many of its fragments found no room; or what is wrong with the record.
@@ -29,11 +27,12 @@ fn load_of(loads: &[u16; 32], i: usize) -> u16
     loads[i]
 }
 
-// The greedy plan from cell `first` on, by index, where the rows before it are planned: they stay as they are. The site's bytes are the first
-// cells * slots * channels of the table; where a cell finds no room they are made idle.
+// The greedy plan, row by row. The site's bytes are the first cells * slots * channels of the table; where a cell finds no room they are made idle.
+// The room that is lent is for where each row's reserved positions start, and where they end.
 fn plan_rows(
     table: &mut [u8],
-    first: usize,
+    starts: &mut [u16; 32],
+    ends: &mut [u16; 32],
     cells: usize,
     slots: usize,
     channels: usize,
@@ -41,32 +40,32 @@ fn plan_rows(
     clash: &[u32; 32],
     mask: &[u8],
 ) -> PlanAnswer
-    requires { ⌜ (first ≤ cells) × (cells ≤ 32) × (channels ≤ 16) ⌝ }
-    requires { ⌜ (cells * (slots * channels) ≤ length (now table)) × Masks (slots * channels) (now mask) ⌝ }
-    requires { ⌜ PlannedTo (netIn cells (slots * channels) (now loads) (bitIn (now clash)) (opens (now mask))) first (now table) ⌝ }
+    requires { ⌜ (cells ≤ 32) × (channels ≤ 16) × (slots * channels ≤ 2048) × (length (now starts) ≡ 32) × (length (now ends) ≡ 32) ⌝ }
+    requires { ⌜ (cells * (slots * channels) ≤ length (now table)) × Masks (slots * channels) (now mask) × EitherWay (now clash) ⌝ }
     ensures answer { λ r. ⌜ r ≡ answerOf (greedy (netIn cells (slots * channels) (now (loads .entry)) (bitIn (now (clash .entry)))
         (opens (now (mask .entry))))) ⌝ }
     ensures table { λ _. ⌜ now (table .exit) ≡ leaves (netIn cells (slots * channels) (now (loads .entry)) (bitIn (now (clash .entry)))
         (opens (now (mask .entry)))) (now (table .entry)) ⌝ }
-    ensures kept { λ r. ⌜ (r ≡ Done → take (first * (slots * channels)) (now (table .exit)) ≡ take (first * (slots * channels)) (now (table .entry))) ⌝ }
 {
-    for i in first..cells {
+    for i in 0..cells {
         let load = load_of(loads, i) as usize;
-        let short = plan_row(table, slots, channels, i, load, clash, mask);
+        let row = plan_row(table, slots, channels, i, load, clash, mask, starts, ends);
+        let short = row.left;
         if 0 < short {
             let end = cells * (slots * channels);
             rows::clear(&mut table[..end]);
             let cell = i + 1;
             return PlanAnswer::NoRoom(cell, short);
         }
+        starts[i] = row.from as u16;
+        ends[i] = row.to as u16;
     }
     PlanAnswer::Done
 }
 
 // The same where these positions are blocked: rows are planned with a mask only where there are any.
-fn plan_from(
+fn plan_blocked(
     table: &mut [u8],
-    first: usize,
     cells: usize,
     slots: usize,
     channels: usize,
@@ -74,22 +73,41 @@ fn plan_from(
     clash: &[u32; 32],
     blocked: &[u64; 32],
 ) -> PlanAnswer
-    requires { ⌜ (first ≤ cells) × (cells ≤ 32) × (channels ≤ 16) × (slots * channels ≤ 2048) ⌝ }
-    requires { ⌜ cells * (slots * channels) ≤ length (now table) ⌝ }
-    requires { ⌜ PlannedTo (netIn cells (slots * channels) (now loads) (bitIn (now clash)) (isOpen (now blocked))) first (now table) ⌝ }
+    requires { ⌜ (cells ≤ 32) × (channels ≤ 16) × (slots * channels ≤ 2048) × (cells * (slots * channels) ≤ length (now table)) × EitherWay (now clash) ⌝ }
     ensures answer { λ r. ⌜ r ≡ answerOf (greedy (netIn cells (slots * channels) (now (loads .entry)) (bitIn (now (clash .entry)))
         (isOpen (now (blocked .entry))))) ⌝ }
     ensures table { λ _. ⌜ now (table .exit) ≡ leaves (netIn cells (slots * channels) (now (loads .entry)) (bitIn (now (clash .entry)))
         (isOpen (now (blocked .entry)))) (now (table .entry)) ⌝ }
-    ensures kept { λ r. ⌜ (r ≡ Done → take (first * (slots * channels)) (now (table .exit)) ≡ take (first * (slots * channels)) (now (table .entry))) ⌝ }
 {
+    let mut starts = [0u16; 32];
+    let mut ends = [0u16; 32];
     if positions::none_blocked(blocked) {
-        return plan_rows(table, first, cells, slots, channels, loads, clash, b"");
+        return plan_rows(
+            table,
+            &mut starts,
+            &mut ends,
+            cells,
+            slots,
+            channels,
+            loads,
+            clash,
+            b"",
+        );
     }
     let n = slots * channels;
     let mut mask = [0u8; 2048];
     positions::bars(blocked, &mut mask[..n]);
-    plan_rows(table, first, cells, slots, channels, loads, clash, &mask)
+    plan_rows(
+        table,
+        &mut starts,
+        &mut ends,
+        cells,
+        slots,
+        channels,
+        loads,
+        clash,
+        &mask,
+    )
 }
 
 // Plans the site into the lent table: the planner's answer for any site and any table.
@@ -111,5 +129,5 @@ pub fn plan(site: Site, table: &mut [u8]) -> PlanAnswer
     let loads = site.loads;
     let clash = site.clash_rows();
     let blocked = site.blocked;
-    plan_from(table, 0, cells, slots, channels, &loads, &clash, &blocked)
+    plan_blocked(table, cells, slots, channels, &loads, &clash, &blocked)
 }

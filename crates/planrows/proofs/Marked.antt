@@ -5,6 +5,7 @@ use mathlib.Core.Bool.{Bool, true, false, _&&_}
 use mathlib.Core.List.{List, [], _∷_}
 use Prim.Native.Nat.{ℕ, zero, suc, _+_, _-_, _*_, _≤_, _<_}
 use native.Mathlib.Numerals.{add-one}
+use native.Mathlib.Nat.{add-zero}
 use native.Mathlib.Omega.{arith}
 use borrow.Rule.Slice.PartMut.{midOf, putMid}
 use lib.ListN.{length, getD, take, replicate}
@@ -14,17 +15,19 @@ use Rattle.laws.specs.Sum.{any}
 use Rattle.laws.proofs.Part.{put-part, length-put, part-put, part-put-before, put-put, part-take, length-part, take-put, lent, back}
 use Rattle.laws.proofs.Grid.{row-before}
 use Rattle.rows.specs.Bars.{barRow, lifted}
-use Rattle.rows.proofs.Bars.{bars-length, forbid-bars, fill-bars, unmet-bars}
+use Rattle.rows.proofs.Bars.{bars-length, forbid-bars, lift-bars, fill-bars, unmet-bars}
+use Rattle.rows.specs.Stretch.{SameBut, SendsIn}
 use Rattle.theory.specs.Net.{Net, unblocked}
 use Rattle.theory.specs.Greedy.{rowAt, reserved, forbid, marked, fill, unmet}
 use Rattle.theory.proofs.Row.{forbid-length, either-length, marked-length, marked-at, fill-length}
 use Rattle.site.specs.Reach.{netIn}
 use Rattle.planrows.specs.Row.{marksIn, marksOn, marksHere, rowPlanned, rowShort, opens}
+use Rattle.planrows.proofs.Sent.{same-but-is, same-but-lifted, planned-sends}
 
 -- ---- marks on a row that need not be idle
 
 module _ (n : ℕ) (clash : ℕ → ℕ → Bool) where
-  on-length : (t : List ℕ) (i : ℕ) (r : List ℕ) (j : ℕ) → length (marksOn n clash t i r j) ≡ length r
+  pub on-length : (t : List ℕ) (i : ℕ) (r : List ℕ) (j : ℕ) → length (marksOn n clash t i r j) ≡ length r
   unfolding marksOn
   on-length t i r zero = refl
   on-length t i r (suc j) =
@@ -38,6 +41,22 @@ module _ (n : ℕ) (clash : ℕ → ℕ → Bool) where
       pick (clash j i)
       (forbid (part-take (j * n) n (i * n) t (row-before n h) fits x) (on-take i t r fits j (omega arith) x))
       (on-take i t r fits j (omega arith) x))
+
+  -- cells that do not clash leave no mark
+  on-more : (t : List ℕ) (i : ℕ) (r : List ℕ) (j d : ℕ) → ((m : ℕ) → j ≤ m → m < j + d → clash m i ≡ false)
+      → marksOn n clash t i r j ≡ marksOn n clash t i r (j + d)
+  unfolding marksOn
+  on-more t i r j zero none = rw add-zero refl
+  on-more t i r j (suc d) none =
+      let e : j + suc d ≡ suc (j + d) = omega arith in
+      on-more t i r j d (λ m a b. none m a (omega arith))
+      ∙ rw (e, none (j + d) (omega arith) (omega arith)) refl
+
+  on-skip : (t : List ℕ) (i : ℕ) (r : List ℕ) (j k : ℕ) → j ≤ k → ((m : ℕ) → j ≤ m → m < k → clash m i ≡ false)
+      → marksOn n clash t i r j ≡ marksOn n clash t i r k
+  on-skip t i r j k l none =
+      let e : j + (k - j) ≡ k = omega arith in
+      on-more t i r j (k - j) (λ m a b. none m a (omega arith)) ∙ ap (marksOn n clash t i r) e
 
   -- on an idle row they are the planner's
   on-idle : (t : List ℕ) (i j : ℕ) → marksOn n clash t i (replicate n 0) j ≡ marked (netIn 0 n [] clash unblocked) t i j
@@ -84,6 +103,10 @@ module _ (n : ℕ) (clash : ℕ → ℕ → Bool) (i : ℕ) (t : List ℕ) (fits
   unfolding marksOn
   marks-none = sym (put-part (i * n) n t fits)
 
+  -- the cells from j to k do not mark it
+  pub marks-skip : {u : List ℕ} (j k : ℕ) → j ≤ k → ((m : ℕ) → j ≤ m → m < k → clash m i ≡ false) → u ≡ marks n clash i j t → u ≡ marks n clash i k t
+  marks-skip j k l none is = is ∙ ap (λ (r : List ℕ). put (i * n) n r t) (on-skip n clash t i (part (i * n) n t) j k l none)
+
   module _ {u v : List ℕ} (j : ℕ) (is : u ≡ marks n clash i j t) where
     pub marks-yes : j < i → true ≡ clash j i → v ≡ put (i * n) n (forbid (part (j * n) n u) (part (i * n) n u)) u → v ≡ marks n clash i (j + 1) t
     unfolding marksOn
@@ -92,10 +115,6 @@ module _ (n : ℕ) (clash : ℕ → ℕ → Bool) (i : ℕ) (t : List ℕ) (fits
         let theirs : part (j * n) n u ≡ part (j * n) n t = rw is (part-put-before (i * n) n m t (here-long j) fits (j * n) n (row-before n before)) in
         let mine : part (i * n) n u ≡ m = rw is (part-put (i * n) n m t (here-long j) fits) in
         e ∙ rw (theirs, mine, is, put-put (i * n) n m t (here-long j) fits, add-one, ← yes′) refl
-
-    pub marks-no : false ≡ clash j i → v ≡ u → v ≡ marks n clash i (j + 1) t
-    unfolding marksOn
-    marks-no no′ e = e ∙ is ∙ rw (add-one, ← no′) refl
 
 -- ---- a row that is put, lent again and handed back
 
@@ -153,6 +172,9 @@ module _ (n : ℕ) (clash : ℕ → ℕ → Bool) (i : ℕ) (t : List ℕ) (fits
       as-planned : marksOn n clash t i z i ≡ marksIn n clash t i
       as-planned = ap (λ (r : List ℕ). marksOn n clash t i r i) idle ∙ on-idle n clash t i i
 
+      pub open-marks : marksHere n clash t₁ i ≡ marksIn n clash t i
+      open-marks = here-laid ∙ as-planned
+
       pub open-row : {t₂ : List ℕ} (load : ℕ) → t₂ ≡ put (i * n) n (fill unblocked 0 load (marksHere n clash t₁ i)) t₁
           → t₂ ≡ rowPlanned n clash unblocked i load t
       open-row load e = row-taken load e ∙ ap (λ (m : List ℕ). put (i * n) n (fill unblocked 0 load m) t) as-planned
@@ -160,11 +182,20 @@ module _ (n : ℕ) (clash : ℕ → ℕ → Bool) (i : ℕ) (t : List ℕ) (fits
       pub open-short : {m : ℕ} (load : ℕ) → m ≡ unmet unblocked 0 load (marksHere n clash t₁ i) → m ≡ rowShort n clash unblocked i load t
       open-short load e = e ∙ ap (unmet unblocked 0 load) (here-laid ∙ as-planned)
 
+      pub open-sends : {t₂ : List ℕ} (load a b : ℕ) → t₂ ≡ put (i * n) n (fill unblocked 0 load (marksHere n clash t₁ i)) t₁
+          → SameBut a b (marksHere n clash t₁ i) (fill unblocked 0 load (marksHere n clash t₁ i)) → SendsIn n t₂ i a b
+      open-sends load a b e s =
+          let is : marksHere n clash t₁ i ≡ marksIn n clash t i = here-laid ∙ as-planned in
+          planned-sends n clash i t fits unblocked load a b (open-row load e) (same-but-is is (ap (fill unblocked 0 load) is) s)
+
     -- a barred row, which is lifted at the end
     module _ (u : ℕ → Bool) (bars : z ≡ barRow u 0 (replicate n 0)) where
       as-barred : marksOn n clash t i z i ≡ barRow u 0 (marksIn n clash t i)
       as-barred =
           ap (λ (r : List ℕ). marksOn n clash t i r i) bars ∙ on-bars n clash u t i (replicate n 0) i ∙ ap (barRow u 0) (on-idle n clash t i i)
+
+      pub barred-marks : marksHere n clash t₁ i ≡ barRow u 0 (marksIn n clash t i)
+      barred-marks = here-laid ∙ as-barred
 
       low-bytes : Below 4 (length (marksIn n clash t i)) (marksIn n clash t i)
       low-bytes k h = marked-low (netIn 0 n [] clash unblocked) t i i k h
@@ -185,3 +216,14 @@ module _ (n : ℕ) (clash : ℕ → ℕ → Bool) (i : ℕ) (t : List ℕ) (fits
 
       pub barred-short : {m : ℕ} (load : ℕ) → m ≡ unmet unblocked 0 load (marksHere n clash t₁ i) → m ≡ rowShort n clash u i load t
       barred-short load e = e ∙ ap (unmet unblocked 0 load) (here-laid ∙ as-barred) ∙ unmet-bars u 0 0 load (marksIn n clash t i)
+
+      pub barred-sends : {t₂ : List ℕ} (load a b : ℕ) → t₂ ≡ rowPlanned n clash u i load t
+          → SameBut a b (marksHere n clash t₁ i) (fill unblocked 0 load (marksHere n clash t₁ i)) → SendsIn n t₂ i a b
+      barred-sends load a b is s =
+          let m : List ℕ = marksHere n clash t₁ i in
+          let bars′ : m ≡ barRow u 0 (marksIn n clash t i) = here-laid ∙ as-barred in
+          planned-sends n clash i t fits u load a b is
+          (same-but-is
+          (ap lifted bars′ ∙ lift-bars u 0 (marksIn n clash t i) low-bytes)
+          (ap (λ (x : List ℕ). lifted (fill unblocked 0 load x)) bars′ ∙ fill-bars u 0 0 load (marksIn n clash t i) low-bytes)
+          (same-but-lifted m (fill unblocked 0 load m) s))

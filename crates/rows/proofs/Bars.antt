@@ -31,6 +31,18 @@ unfolding lifted
 lifted-length [] = refl
 lifted-length (b ∷ r) = ap suc (lifted-length r)
 
+pub lifted-at : (r : List ℕ) (p : ℕ) → getD (lifted r) p 0 ≡ getD r p 0 % 4
+unfolding lifted
+lifted-at [] p = refl
+lifted-at (b ∷ r) zero = refl
+lifted-at (b ∷ r) (suc p) = lifted-at r p
+
+-- where every position is usable there is no bar
+pub open-bars : (k : ℕ) (r : List ℕ) → barRow unblocked k r ≡ r
+unfolding barRow
+open-bars k [] = refl
+open-bars k (b ∷ r) = ap (λ (l : List ℕ). b ∷ l) (open-bars (suc k) r)
+
 -- ---- marking
 
 forbid-byte : (s t : Bool) (b : ℕ) → pick s 2 (pick t b (pick (eqb b 0) 4 b)) ≡ pick t (pick s 2 b) (pick (eqb (pick s 2 b) 0) 4 (pick s 2 b))
@@ -59,7 +71,7 @@ lift-byte false false b e h = low b h
 rest : (b : ℕ) (r : List ℕ) → Below 4 (length (b ∷ r)) (b ∷ r) → Below 4 (length r) r
 rest b r small p h = small (suc p) (omega arith)
 
-lift-bars : (u : ℕ → Bool) (k : ℕ) (r : List ℕ) → Below 4 (length r) r → lifted (barRow u k r) ≡ r
+pub lift-bars : (u : ℕ → Bool) (k : ℕ) (r : List ℕ) → Below 4 (length r) r → lifted (barRow u k r) ≡ r
 unfolding barRow lifted
 lift-bars u k [] small = refl
 lift-bars u k (b ∷ r) small = (λ x. lift-byte (u k) (eqb b 0) b refl (small 0 (omega arith)) x ∷ lift-bars u (suc k) r (rest b r small) x)

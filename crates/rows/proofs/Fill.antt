@@ -1,23 +1,25 @@
 -- A position of a row that is filled: its byte is raised by 1 where it is idle and by 0 where it is not, and so is what is taken from the load. What the row
 -- will be, and what will be left over, does not change (`fill-turn`, `unmet-turn`). A stretch in which every idle position is reserved goes the same way,
--- a byte at a time (`done-more`). Assumes nothing.
-use mathlib.Core.Path.{_≡_, refl, sym}
-use mathlib.Core.Bool.{Bool, true, false}
-use mathlib.Core.List.{List, _++_}
-use Prim.Native.Nat.{ℕ, suc, _+_, _-_, _≤_, _<_}
+-- a byte at a time (`done-more`). Where all of the load is left after a part of the row, and where none is, the row stays as it was up to there (`still-front`)
+-- and from there on (`front-past`). Assumes nothing.
+use mathlib.Core.Path.{_≡_, refl, sym, ap, _∙_}
+use mathlib.Core.Bool.{Bool, true, false, _&&_}
+use mathlib.Core.List.{List, [], _∷_, _++_}
+use Prim.Native.Nat.{ℕ, zero, suc, _+_, _-_, _≤_, _<_}
 use native.Mathlib.Omega.{arith}
 use native.Mathlib.Numerals.{add-one}
 use native.Mathlib.Nat.{add-zero}
 use lib.Dec.{eqb}
-use lib.ListN.{length, getD, set, take, drop}
-use lib.Seq.{set-getD, set-at, getD-at, take-suc, drop-cons, append-snoc, length-take-le}
+use lib.ListN.{length, getD, set, take, drop, take-append-drop, List·getD-append}
+use lib.Seq.{set-getD, set-at, getD-at, take-suc, drop-cons, drop-at, append-snoc, length-take-le, getD-take, getD-drop}
 use borrow.Author.Tests.{eqb-true}
-use Rattle.laws.specs.Sum.{bit}
+use Rattle.laws.specs.Choice.{pick}
+use Rattle.laws.specs.Sum.{bit, count}
 use Rattle.theory.specs.Net.{unblocked}
 use Rattle.theory.specs.Greedy.{fill, unmet}
-use Rattle.theory.proofs.Row.{fill-length}
-use Rattle.theory.proofs.Stretch.{all-at}
-use Rattle.theory.proofs.Loops.{filling, fill-take, fill-skip, unmet-take, unmet-skip}
+use Rattle.theory.proofs.Row.{fill-length, unmet-count}
+use Rattle.theory.proofs.Stretch.{front, after, all-at, fill-append}
+use Rattle.theory.proofs.Loops.{filling, fill-zero, fill-take, fill-skip, unmet-take, unmet-skip}
 
 bit-small : (t : Bool) → bit t ≤ 1
 bit-small true = omega arith
@@ -76,3 +78,65 @@ module _ (x : List ℕ) (p : ℕ) (h : p < length x) where
       let byte : getD s p 0 + k ≡ getD g p 0 = rw (e, same) (sym (all-at unblocked x p h)) in
       let b : p < length g = rw fill-length h in
       rw (byte, is, drop-cons x p 0 h, set-at (take p g) (getD x p 0) (drop (suc p) x) (getD g p 0) p front-long, add-one, take-suc g p 0 b, append-snoc)
+
+-- ---- the stretch outside which a row that is filled stays as it was
+
+none-taken : (c : Bool) (b l v w : ℕ) (x y z : List ℕ) → v ≤ l → (w ≡ suc l → z ≡ x) → pick c v w ≡ suc l → pick c (1 ∷ y) (b ∷ z) ≡ b ∷ x
+none-taken true b l v w x y z h f e = absurd (omega arith)
+none-taken false b l v w x y z h f e = ap (λ (r : List ℕ). b ∷ r) (f e)
+
+pub unmet-most : (u : ℕ → Bool) (k l : ℕ) (x : List ℕ) → unmet u k l x ≤ l
+unmet-most u k l x = omega (arith, unmet-count u k l x (λ p. u (k + p)) (λ p. refl))
+
+-- where all of the load is left nothing is reserved
+fill-none : (u : ℕ → Bool) (k l : ℕ) (x : List ℕ) → unmet u k l x ≡ l → fill u k l x ≡ x
+unfolding fill unmet
+fill-none u k l [] e = refl
+fill-none u k zero (b ∷ x) e = refl
+fill-none u k (suc l) (b ∷ x) e =
+    none-taken (u k && eqb b 0) b l (unmet u (suc k) l x) (unmet u (suc k) (suc l) x) x (fill u (suc k) l x) (fill u (suc k) (suc l) x)
+    (unmet-most u (suc k) l x)
+    (fill-none u (suc k) (suc l) x)
+    e
+
+module _ (u : ℕ → Bool) (l : ℕ) (r : List ℕ) (m : ℕ) (fits : m ≤ length r) where
+  pub still-front : after u m l r ≡ l → (p : ℕ) → p < m → getD (fill u 0 l r) p 0 ≡ getD r p 0
+  still-front none p h =
+      let past : List ℕ = fill u (0 + length (take m r)) (unmet u 0 l (take m r)) (drop m r) in
+      let e : fill u 0 l r ≡ take m r ++ past
+      = ap (fill u 0 l) (sym (take-append-drop m r)) ∙ fill-append u 0 l (take m r) (drop m r)
+      ∙ ap (λ (x : List ℕ). x ++ past) (fill-none u 0 l (take m r) none) in
+      let in′ : p < length (take m r) = omega (arith, length-take-le m r fits) in
+      ap (λ (x : List ℕ). getD x p 0) e ∙ List·getD-append (take m r) past 0 p in′ ∙ getD-take m r p 0 h
+
+  pub front-past : (p : ℕ) → m ≤ p → getD (front u m l r) p 0 ≡ getD r p 0
+  front-past p h =
+      let at : p ≡ m + (p - m) = omega arith in
+      let e : drop m (front u m l r) ≡ drop m r
+      = drop-at (fill u 0 l (take m r)) (drop m r) m (fill-length u 0 l (take m r) ∙ length-take-le m r fits) in
+      rw at
+      (sym (getD-drop m (front u m l r) (p - m) 0) ∙ ap (λ (x : List ℕ). getD x (p - m) 0) e ∙ getD-drop m r (p - m) 0)
+
+  -- where none of the load is left the rest is as it was
+  pub met-past : after u m l r ≡ 0 → (p : ℕ) → m ≤ p → getD (fill u 0 l r) p 0 ≡ getD r p 0
+  met-past none p h =
+      let e : fill u 0 l r ≡ front u m l r
+      = ap (fill u 0 l) (sym (take-append-drop m r)) ∙ fill-append u 0 l (take m r) (drop m r)
+      ∙ ap (λ (x : List ℕ). fill u 0 l (take m r) ++ x)
+      (ap (λ (k : ℕ). fill u (0 + length (take m r)) k (drop m r)) none ∙ fill-zero u (0 + length (take m r)) (drop m r)) in
+      ap (λ (x : List ℕ). getD x p 0) e ∙ front-past p h
+
+-- where nothing is idle, reserving every idle position does nothing
+pub none-idle : (x : List ℕ) → count (λ k. unblocked k && eqb (getD x k 0) 0) (length x) ≡ 0 → x ≡ fill unblocked 0 (length x) x
+none-idle x none =
+    sym (fill-none unblocked 0 (length x) x (omega (arith, none, unmet-count unblocked 0 (length x) x unblocked (λ p. refl))))
+
+pub same-either : (t : Bool) (x y : List ℕ) → x ≡ y → x ≡ pick t x y
+same-either true x y e = refl
+same-either false x y e = e
+
+-- where the reserved positions begin, as `begins` has it
+pub begins-at : (u : ℕ → Bool) (load : ℕ) (r : List ℕ) (left at from : ℕ) {b : ℕ} (t : Bool) → eqb left load ≡ t → b ≡ pick t at from
+    → left ≡ after u at load r → from ≤ at → after u from load r ≡ load → (b ≤ at) × (after u b load r ≡ load)
+begins-at u load r left at from true e is left-is h g = rw is (omega arith, sym left-is ∙ eqb-true left load e)
+begins-at u load r left at from false e is left-is h g = rw is (h, g)

@@ -2,3 +2,5 @@
 pub mod Fill
 pub mod Forbid
 pub mod Bars
+pub mod TakeOver
+pub mod Pieces

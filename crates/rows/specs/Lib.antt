@@ -1,2 +1,3 @@
 -- The definitions of crate `rows`, module by module.
 pub mod Bars
+pub mod Stretch

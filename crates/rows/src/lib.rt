@@ -2,15 +2,16 @@
 ghost use mathlib.Core.Path.{_≡_};
 ghost use mathlib.Core.Bool.{_&&_};
 ghost use mathlib.Core.List.{_++_};
-ghost use Prim.Native.Nat.{_+_, _*_, _%_, _≤_, _<_};
-ghost use lib.Dec.{eqb};
+ghost use Prim.Native.Nat.{_+_, _*_, _%_, _^_, _≤_, _<_, min};
+ghost use lib.Dec.{ltb, eqb};
 ghost use lib.ListN.{length, getD, take, drop, replicate};
 ghost use Rattle.laws.specs.Choice.{pick};
 ghost use Rattle.laws.specs.Sum.{bit, count};
-ghost use Rattle.laws.specs.Part.{part, put};
+ghost use Rattle.laws.specs.Part.{part, put, listOf};
 ghost use Rattle.theory.specs.Net.{unblocked};
 ghost use Rattle.theory.specs.Greedy.{sends, forbid, fill, unmet};
 ghost use Rattle.rows.specs.Bars.{lifted};
+ghost use Rattle.rows.specs.Stretch.{SameBut, SendsIn, coverAt, wholePieces, fillStart, filledBy};
 
 // 1 for an idle byte, and 0 for any other: whether a fragment may be placed there.
 fn idle(byte: u8) -> u8
@@ -42,13 +43,42 @@ fn reserve_idle(stretch: &mut [u8])
     }
 }
 
-// How far a row is filled: the slots that are done, and the fragments that are left.
+// Reserves every idle position of a stretch, where there is a fragment for each, and gives how many it has. Where it has none, nothing is stored.
+fn take_idle(stretch: &mut [u8], left: usize) -> usize
+    requires { ⌜ length (now stretch) ≤ 128 ⌝ }
+    ensures count { λ r. ⌜ r ≡ count (λ k. unblocked k && eqb (getD (now (stretch .entry)) k 0) 0) (length (now (stretch .entry))) ⌝ }
+    ensures taken { λ r. ⌜ now (stretch .exit) ≡ pick (ltb left r) (now (stretch .entry))
+        (fill unblocked 0 (length (now (stretch .entry))) (now (stretch .entry))) ⌝ }
+{
+    let count = count_idle(stretch);
+    if count == 0 {
+        return 0;
+    }
+    if left < count {
+        return count;
+    }
+    reserve_idle(stretch);
+    count
+}
+
+// How far a row is filled: the slots that are done, the fragments that are left, and the position before which none is reserved.
 struct Front {
     slots: usize,
     left: usize,
+    from: usize,
 }
 
-// Fills the first slots of a row, eight at a time, as long as more fragments are left than these eight have idle positions. No position of them is looked at
+// Where the reserved positions begin, of a row that is filled up to `at`: there, while all of the load is left.
+fn begins(left: usize, load: usize, at: usize, from: usize) -> usize
+    ensures { λ r. ⌜ r ≡ pick (eqb left load) at from ⌝ }
+{
+    if left == load {
+        return at;
+    }
+    from
+}
+
+// Fills the first slots of a row, eight at a time, as long as there is a fragment for each idle position of these eight. No position of them is looked at
 // by itself.
 fn fill_front(row: &mut [u8], slots: usize, channels: usize, load: usize) -> Front
     requires { ⌜ (channels ≤ 16) × (length (now row) ≡ slots * channels) ⌝ }
@@ -56,39 +86,71 @@ fn fill_front(row: &mut [u8], slots: usize, channels: usize, load: usize) -> Fro
     ensures filled { λ r. ⌜ now (row .exit) ≡ fill unblocked 0 load (take (r .slots * channels) (now (row .entry)))
         ++ drop (r .slots * channels) (now (row .entry)) ⌝ }
     ensures left { λ r. ⌜ r .left ≡ unmet unblocked 0 load (take (r .slots * channels) (now (row .entry))) ⌝ }
+    ensures from { λ r. ⌜ (r .from ≤ r .slots * channels) × (unmet unblocked 0 load (take (r .from) (now (row .entry))) ≡ load) ⌝ }
+    ensures pieces { λ r. ⌜ r .slots ≡ 8 * wholePieces slots (8 * channels) load (now (row .entry)) ⌝ }
+    ensures start { λ r. ⌜ r .from ≡ fillStart (8 * channels) load (now (row .entry)) (wholePieces slots (8 * channels) load (now (row .entry))) ⌝ }
 {
     let size = 8 * channels;
     let mut left = load;
+    let mut from: usize = 0;
     let mut at: usize = 0;
     let mut slot: usize = 0;
     while 8 <= slots - slot {
-        let to = at + size;
-        let count = count_idle(&row[at..to]);
-        if left <= count {
+        if left == 0 {
             break;
         }
-        reserve_idle(&mut row[at..to]);
+        let to = at + size;
+        let count = take_idle(&mut row[at..to], left);
+        if left < count {
+            break;
+        }
         left -= count;
         at = to;
         slot += 8;
+        from = begins(left, load, at, from);
     }
     Front {
         slots: slot,
         left: left,
+        from: from,
     }
 }
 
-// Reserves the first `load` idle positions of a row, and answers how many fragments found no place.
+// A row that is filled: how many fragments found no place, and the stretch outside which every byte is as it was.
+pub struct Filled {
+    pub left: usize,
+    pub from: usize,
+    pub to: usize,
+}
+
+// Where the filling of a row ends at most, whose first slots are filled as a whole: there, where nothing is left, and else within eight slots more.
+fn ends(left: usize, done: usize, slots: usize, channels: usize) -> usize
+    requires { ⌜ (channels ≤ 16) × (done ≤ slots) × (slots * channels < 2 ^ 64) ⌝ }
+    ensures { λ r. ⌜ r ≡ pick (eqb left 0) done (min (done + 8) slots) * channels ⌝ }
+{
+    if left == 0 {
+        return done * channels;
+    }
+    if 8 <= slots - done {
+        return (done + 8) * channels;
+    }
+    slots * channels
+}
+
+// Reserves the first `load` idle positions of a row.
 // The first slots go eight at a time, so that at most eight are looked at here. Each byte is raised by what it takes, 1 or 0,
 // and so is stored without a branch: in a row of mixed bytes a branch would often be guessed wrong.
-pub fn fill_row(row: &mut [u8], slots: usize, channels: usize, load: usize) -> usize
+pub fn fill_row(row: &mut [u8], slots: usize, channels: usize, load: usize) -> Filled
     requires { ⌜ (channels ≤ 16) × (length (now row) ≡ slots * channels) ⌝ }
     ensures filled { λ _. ⌜ now (row .exit) ≡ fill unblocked 0 load (now (row .entry)) ⌝ }
-    ensures short { λ r. ⌜ r ≡ unmet unblocked 0 load (now (row .entry)) ⌝ }
+    ensures answer { λ r. ⌜ r ≡ filledBy slots channels load (now (row .entry)) ⌝ }
+    ensures stretch { λ r. ⌜ SameBut (r .from) (r .to) (now (row .entry)) (now (row .exit)) ⌝ }
 {
     let front = fill_front(row, slots, channels, load);
+    let from = front.from;
     let mut left = front.left;
     let mut slot = front.slots;
+    let to = ends(left, slot, slots, channels);
     let mut at = slot * channels;
     'slots: while slot < slots {
         let mut channel: usize = 0;
@@ -105,7 +167,11 @@ pub fn fill_row(row: &mut [u8], slots: usize, channels: usize, load: usize) -> u
         }
         slot += 1;
     }
-    left
+    Filled {
+        left: left,
+        from: from,
+        to: to,
+    }
 }
 
 // A byte of a row, where an earlier clashing row holds `earlier`.
@@ -115,20 +181,39 @@ fn mark(earlier: u8, byte: u8) -> u8
     if earlier == 1 { 2 } else { byte }
 }
 
-// Forbids, in row `i` of a table with rows of `n` bytes, each position that the earlier row `j` reserves.
-// A byte is stored at each position, marked or as it was, so that the loop has no branch.
-pub fn forbid_row(table: &mut [u8], n: usize, j: usize, i: usize)
-    requires { ⌜ j < i ⌝ }
-    requires { ⌜ i * n + n ≤ length (now table) ⌝ }
+// Forbids, in row `i` of a table with rows of `n` bytes, each position that the earlier row `j` reserves: all of these lie from `start` to `end`.
+// A byte is stored at each position of that stretch, marked or as it was, so that the loop has no branch.
+pub fn forbid_row(table: &mut [u8], n: usize, j: usize, i: usize, start: usize, end: usize)
+    requires { ⌜ (j < i) × (i * n + n ≤ length (now table)) ⌝ }
+    requires { ⌜ SendsIn n (now table) j start end ⌝ }
     ensures { λ _. ⌜ now (table .exit) ≡ put (i * n) n (forbid (part (j * n) n (now (table .entry))) (part (i * n) n (now (table .entry))))
         (now (table .entry)) ⌝ }
 {
     let from = j * n;
     let to = i * n;
-    let mut p: usize = 0;
-    while p < n {
+    let mut p = start;
+    while p < end {
         table[to + p] = mark(table[from + p], table[to + p]);
         p += 1;
+    }
+}
+
+// A byte of a row, where it takes the marks of an earlier row over, which holds `earlier` there.
+fn cover(earlier: u8, byte: u8) -> u8
+    ensures { λ r. ⌜ r ≡ pick (eqb earlier 0) byte 2 ⌝ }
+{
+    if earlier == 0 { byte } else { 2 }
+}
+
+// Forbids, in row `i`, each position at which the earlier row `j` is not idle: all that it reserves, and all that is forbidden there.
+pub fn cover_row(table: &mut [u8], n: usize, j: usize, i: usize)
+    requires { ⌜ (j < i) × (i * n + n ≤ length (now table)) ⌝ }
+    ensures { λ _. ⌜ now (table .exit) ≡ put (i * n) n (listOf (coverAt n (now (table .entry)) j i) n) (now (table .entry)) ⌝ }
+{
+    let from = j * n;
+    let to = i * n;
+    for p in 0..n {
+        table[to + p] = cover(table[from + p], table[to + p]);
     }
 }
 

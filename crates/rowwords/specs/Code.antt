@@ -6,7 +6,6 @@ use Prim.Native.Nat.{ℕ, _+_, _*_, _<_}
 use lib.Bits.{bitAnd}
 use lib.Dec.{eqb}
 use lib.ListN.{getD, drop}
-use Rattle.laws.specs.Bits.{bitIn}
 use Rattle.laws.specs.Choice.{pick}
 use Rattle.laws.specs.Part.{listOf}
 use Rattle.laws.specs.Sum.{any}
@@ -16,6 +15,7 @@ use Rattle.positions.specs.Blocked.{barOf}
 use Rattle.rows.specs.Bars.{lifted}
 use Rattle.words.specs.Words.{wordAt}
 use Rattle.planner.specs.Plan.{tableOf}
+pub use Rattle.planrows.specs.Row.{EitherWay}
 
 -- m bytes of t, from `from` on, are the first m of p
 abbrev pub bytesAlike : List ℕ → ℕ → List ℕ → ℕ → Bool
@@ -35,10 +35,6 @@ shortBy n load words near mask = unmet unblocked 0 load (listOf (markBy words ne
 -- the first n bytes of a mask bar the blocked positions
 abbrev pub MaskBars : ℕ → List ℕ → List ℕ → Type 0
 MaskBars n blocked mask = (k : ℕ) → k < n → getD mask k 0 ≡ barOf blocked k
-
--- clash rows that say the same of two cells either way
-abbrev pub EitherWay : List ℕ → Type 0
-EitherWay rows = (a b : ℕ) → bitIn rows a b ≡ bitIn rows b a
 
 -- the first n words have who is reserved where in the first i rows of a table
 abbrev pub Gathered : ℕ → ℕ → List ℕ → List ℕ → Type 0

@@ -46,9 +46,9 @@ pub fn next_row(
     ensures short { λ r. ⌜ r ≡ shortBy (slots * channels) load (now (words .entry)) near (now (mask .entry)) ⌝ }
 {
     mark_row(row, words, near, mask);
-    let short = rows::fill_row(row, slots, channels, load);
+    let filled = rows::fill_row(row, slots, channels, load);
     rows::lift(row);
-    short
+    filled.left
 }
 
 // The load of the cell at index i.

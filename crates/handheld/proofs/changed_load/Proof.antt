@@ -20,7 +20,8 @@ use Rattle.site.proofs.Faults.{not-fine, Sized, LoadEdit, load-edit-fine, fine-
 use Rattle.planner.specs.Plan.{answerOf, leaves}
 use Rattle.planner.proofs.Answer.{run-answer, run-table}
 use Rattle.handheld.specs.Change.{tableIsPlan, changeOf}
-use Rattle.handheld.proofs.Ways.{edit-fault, edit-site, ends-refused, ends-short, ends-other, ends-done, either-way, same-net, new-net}
+use Rattle.handheld.proofs.Ways.{edit-fault, edit-site, ends-refused, ends-short, ends-other, ends-done, same-net, new-net}
+use Rattle.planner.proofs.Before.{either-way}
 use Rattle.handheld.proofs.Ways.{stands, edited-fine}
 use Rattle.handheld.proofs.changed_load.Statement.{statement}
 use Rattle.handheld.proofs.changed_load.Tie as tie

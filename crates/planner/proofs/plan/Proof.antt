@@ -1,5 +1,5 @@
--- `planner::plan` meets its contract: each way out is one of the three ways of proofs/Answer.antt, and no row is planned before the first.
--- The clash rows that are lent state the site's clash relation. Assumes nothing.
+-- `planner::plan` meets its contract: each way out is one of the three ways of proofs/Answer.antt. The clash rows that are lent state the site's clash
+-- relation, and say it both ways. Assumes nothing.
 use mathlib.Core.Path.{_≡_, sym, ap, _∙_}
 use Prim.Native.Nat.{_≤_, _<_}
 use lib.ListN.{length}
@@ -13,8 +13,8 @@ use Rattle.site.specs.Reach.{netOf, netIn, isOpen}
 use Rattle.site.specs.declared.Fault.the-variants.{Fine}
 use Rattle.site.proofs.Faults.{not-fine, fine-sized, few-positions, few-bytes}
 use Rattle.planner.specs.Plan.{answerOf, leaves}
+use Rattle.planner.proofs.Before.{either-way}
 use Rattle.planner.proofs.Answer.{refused-answer, refused-table, short-answer, short-table, run-answer, run-table}
-use Rattle.planner.proofs.Cells.{no-rows}
 use Rattle.planner.proofs.plan.Statement.{statement}
 use Rattle.planner.proofs.plan.Tie as tie
 
@@ -67,23 +67,27 @@ returns-2 c =
 clash-rows-requires : tie.Need-clash-rows-requires
 clash-rows-requires c κs = search needs
 
-plan-from-requires : tie.Need-plan-from-requires
-plan-from-requires c κs =
+plan-blocked-requires : tie.Need-plan-blocked-requires
+plan-blocked-requires c κs =
     let long = c .before .before .before .before .before .before .before in
     let told = long .before .before .before .before in
     let args = told .before .before .before .before .args in
     let site = args .site in
     let sized = fine-sized site (fine told) in
-    let rows = c .before .before .before .before .before .clash-rows .result in
-    let net = netIn (site .cells) (positions site) (site .loads) (bitIn rows) (isOpen (site .blocked)) in
-    ((omega arith, sized .cells-most, sized .channels-most, few-positions sized), (omega (arith, long .if1 .left), no-rows net (args .table .now)))
+    let rows = c .before .before .before .before .before .clash-rows in (
+      sized .cells-most,
+      sized .channels-most,
+      few-positions sized,
+      omega (arith, long .if1 .left),
+      either-way site (rows .result) (rows .ensures .1 (fine told)),
+    )
 
 same-length : tie.Need-same-length
 same-length c = search needs
 
 returns-3 : tie.Need-returns-3
 returns-3 c =
-    let call = c .before .before .plan-from in
+    let call = c .before .before .plan-blocked in
     let rows = c .before .before .before .before .before .before .before .before .clash-rows in
     let long = c .before .before .before .before .before .before .before .before .before .before in
     let told = long .before .before .before .before in
@@ -93,7 +97,7 @@ returns-3 c =
     = ap (λ clash. netIn (site .cells) (positions site) (site .loads) clash (isOpen (site .blocked))) (rows .ensures .1 (fine told)) in
     let fits : size site ≤ length (start .args .table .now) = omega (arith, long .if1 .left) in (
       call .ensures .0 ∙ ap (λ (s : Net). answerOf (greedy s)) net ∙ sym (run-answer site (start .args .table .now) (fine told) fits),
-      call .ensures .1 .0 ∙ ap (λ (s : Net). leaves s (start .args .table .now)) net ∙ sym (run-table site (start .args .table .now) (fine told) fits),
+      call .ensures .1 ∙ ap (λ (s : Net). leaves s (start .args .table .now)) net ∙ sym (run-table site (start .args .table .now) (fine told) fits),
     )
 
 pub plan-spec : {M : Type 1} → statement M
@@ -110,6 +114,6 @@ plan-spec =
     mul-size-2
     returns-2
     clash-rows-requires
-    plan-from-requires
+    plan-blocked-requires
     same-length
     returns-3)

@@ -1,32 +1,37 @@
 -- `planner::plan_rows` meets its contract. At each head of the loop the run of the first i cells has given the first i rows of the table, and
--- the bytes past the site's are as they were. A run that is done keeps the rows that were planned (`rows-kept`). Assumes nothing.
+-- the bytes past the site's are as they were. Each of these rows sends in the stretch that is noted of it (`Sending`). Assumes nothing.
 use mathlib.Core.Path.{_≡_, refl, sym, ap, _∙_}
 use mathlib.Core.Bool.{Bool}
 use mathlib.Core.List.{List}
 use Prim.Native.Nat.{ℕ, _+_, _*_, _-_, _≤_, _<_}
 use native.Mathlib.Omega.{arith}
 use borrow.Author.Needs.{needs}
-use lib.ListN.{length, getD, drop}
+use lib.ListN.{length, getD, drop, length-set}
 use lib.Seq.{length-take-le, length-front}
 use Rattle.laws.specs.Bits.{bitIn}
 use Rattle.laws.proofs.Grid.{row-before}
 use Rattle.planner.specs.Plan.{answerOf}
-use Rattle.planrows.specs.Row.{opens}
+use Rattle.planrows.specs.Row.{opens, Sending}
+use Rattle.planrows.proofs.Sent.{sending-none, sending-more}
 use Rattle.planner.specs.Loop.{PlannedTo}
-use Rattle.planner.proofs.Cells.{more-long, more-drop, more-planned, more-short, end-done, end-short, rows-kept}
+use Rattle.planner.proofs.Before.{planned-marked}
+use Rattle.planner.proofs.Cells.{no-rows, more-long, more-drop, more-planned, more-short, end-done, end-short}
 use Rattle.planner.proofs.plan_rows.Statement.{statement}
 use Rattle.planner.proofs.plan_rows.Tie as tie
 use Rattle.site.specs.Reach.{netIn}
 
 abbrev Inv-loop : tie.InvT-loop
-Inv-loop table₀ first cells slots channels loads clash mask i₀ table i =
+Inv-loop table₀ starts₀ ends₀ cells slots channels loads clash mask i₀ table starts ends i =
     (i ≤ cells)
     × (length table ≡ length table₀)
     × PlannedTo (netIn cells (slots * channels) loads (bitIn clash) (opens mask)) i table
     × (drop (cells * (slots * channels)) table ≡ drop (cells * (slots * channels)) table₀)
+    × (length starts ≡ 32)
+    × (length ends ≡ 32)
+    × Sending (slots * channels) table i starts ends
 
 abbrev μ-loop : tie.MeasureT-loop
-μ-loop table₀ first cells slots channels loads clash mask i₀ table i = cells - i
+μ-loop table₀ starts₀ ends₀ cells slots channels loads clash mask i₀ table starts ends i = cells - i
 
 -- the arguments, the size of a row, and of the whole site; row i lies in the table
 abbrev start : tie.In-loop Inv-loop μ-loop → tie.Start Inv-loop μ-loop
@@ -48,7 +53,7 @@ abbrev usable : tie.In-loop Inv-loop μ-loop → ℕ → Bool
 usable c = opens (start c .args .mask .now)
 
 room : (c : tie.In-loop Inv-loop μ-loop) → whole c ≤ length (start c .args .table .now)
-room c = start c .pre .1 .0 .0
+room c = start c .pre .1 .0
 
 inside : (c : tie.In-loop Inv-loop μ-loop) → c .before .loop .i * size c + size c ≤ whole c
 inside c = row-before (size c) (c .loop-test .taken)
@@ -56,13 +61,19 @@ inside c = row-before (size c) (c .loop-test .taken)
 fits : (c : tie.In-loop Inv-loop μ-loop) → c .before .loop .i * size c + size c ≤ length (c .before .loop .table)
 fits c = omega (arith, inside c, room c, c .before .loop .inv .1)
 
+-- there is room to note a stretch
+noted : (c : tie.In-loop Inv-loop μ-loop) → (c .before .loop .i < length (c .before .loop .starts)) × (c .before .loop .i < length (c .before .loop .ends))
+noted c =
+    let low : c .before .loop .i < 32 = omega (arith, c .loop-test .taken, start c .pre .0 .0) in
+    (omega (arith, low, c .before .loop .inv .4), omega (arith, low, c .before .loop .inv .5))
+
 -- the row is planned
 module _ (c : tie.After-plan-row Inv-loop μ-loop) where
   abbrev at : tie.In-loop Inv-loop μ-loop
-  at = c .before .before .before
+  at = c .before .before .before .before .before
 
-  own : c .before .before .load-of .result ≡ getD (loads at) (at .before .loop .i) 0
-  own = c .before .before .load-of .ensures
+  own : c .before .before .before .before .load-of .result ≡ getD (loads at) (at .before .loop .i) 0
+  own = c .before .before .before .before .load-of .ensures
 
   long : length (c .plan-row .last .0) ≡ length (at .before .loop .table)
   long = more-long (start at .args .cells) (size at) (loads at) (clash at) (usable at) (at .before .loop .i) (at .before .loop .table) (fits at) own
@@ -77,33 +88,56 @@ module _ (c : tie.After-plan-row Inv-loop μ-loop) where
       (c .plan-row .ensures .0) (whole at) (inside at)
       ∙ at .before .loop .inv .3
 
+  -- its stretch is noted in two bytes
+  short-places : (c .plan-row .result .from ≤ 2048) × (c .plan-row .result .to ≤ 2048)
+  short-places =
+      let s = c .plan-row .ensures .1 .1 .0 in
+      let few : size at ≤ 2048 = start at .pre .0 .2 in
+      (omega (arith, s .0, s .1, few), omega (arith, s .1, few))
+
 loop-holds : tie.Need-loop-holds Inv-loop μ-loop
-loop-holds c = (c .before .before .pre .0 .0, refl, c .before .before .pre .1 .1, refl)
+loop-holds c =
+    let s = c .before .before in
+    let n = s .args .slots * s .args .channels in
+    let net = netIn (s .args .cells) n (s .args .loads .now) (bitIn (s .args .clash .now)) (opens (s .args .mask .now)) in (
+      omega arith,
+      refl,
+      no-rows net (s .args .table .now),
+      refl,
+      s .pre .0 .3,
+      s .pre .0 .4,
+      sending-none n (s .args .table .now) (s .args .starts .now) (s .args .ends .now),
+    )
 
 load-of-requires : tie.Need-load-of-requires Inv-loop μ-loop
-load-of-requires c κs = omega (arith, c .loop-test .taken, start c .pre .0 .1)
+load-of-requires c κs = omega (arith, c .loop-test .taken, start c .pre .0 .0)
 
 cast-load : tie.Need-cast-load Inv-loop μ-loop
 cast-load c = search needs
 
 plan-row-requires : tie.Need-plan-row-requires Inv-loop μ-loop
 plan-row-requires c κs =
-    let in′ = c .before .before in
-    let low : in′ .before .loop .i < 32 = omega (arith, in′ .loop-test .taken, start in′ .pre .0 .1) in
-    ((low, start in′ .pre .0 .2, fits in′), start in′ .pre .1 .0 .1)
+    let in′ = c .before .before .before .before in
+    let p = in′ .before .loop in
+    let asked = start in′ .pre .0 in
+    let low : p .i < 32 = omega (arith, in′ .loop-test .taken, asked .0) in
+    let marked = planned-marked (netIn (start in′ .args .cells) (size in′) (loads in′) (clash in′) (usable in′)) (p .i) (p .table) (p .inv .2) in (
+      (low, asked .1, fits in′),
+      ((p .inv .6, (marked, start in′ .pre .1 .2)), start in′ .pre .1 .1),
+    )
 
 mul-end : tie.Need-mul-end Inv-loop μ-loop
 mul-end c =
-    let in′ = c .before .before .before .before .before .before in
+    let in′ = at (c .before .before .before) in
     omega (arith, inside in′, room in′, start in′)
 
 mul-end-2 : tie.Need-mul-end-2 Inv-loop μ-loop
 mul-end-2 c =
-    let in′ = c .before .before .before .before .before .before in
+    let in′ = at (c .before .before .before) in
     omega (arith, inside in′, room in′, start in′)
 
 slice-relend-prefix-clear : tie.Need-slice-relend-prefix-clear Inv-loop μ-loop
-slice-relend-prefix-clear c = omega (arith, inside (c .before .before .before .before .before .before), holds (c .before .before .before))
+slice-relend-prefix-clear c = omega (arith, inside (at (c .before .before .before)), holds (c .before .before .before))
 
 slice-aggregate-clear : tie.Need-slice-aggregate-clear Inv-loop μ-loop
 slice-aggregate-clear c =
@@ -127,15 +161,30 @@ returns c =
     let now′ = branch .before .before .before in
     let in′ = at now′ in
     let e = more-short (start in′ .args .cells) (size in′) (loads in′) (clash in′) (usable in′) (in′ .before .loop .i) (in′ .before .loop .table) (fits in′)
-    (own now′) (now′ .plan-row .ensures .0) (in′ .before .loop .inv .2) (now′ .plan-row .ensures .1) (omega (arith, branch .if1 .taken))
+    (own now′) (now′ .plan-row .ensures .0) (in′ .before .loop .inv .2) (now′ .plan-row .ensures .1 .0) (omega (arith, branch .if1 .taken))
     (start in′ .args .cells) (in′ .loop-test .taken) in (
       sym (ap answerOf e),
-      (
-        end-short (whole in′) (c .before .before .clear .last .0) (now′ .plan-row .last .0) (start in′ .args .table .now) e (holds now′)
-            (c .before .before .clear .ensures) (past now′),
-        λ done. let z : _≡_ {A = ℕ} 0 1 = cc in absurd (omega arith),
-      ),
+      end-short (whole in′) (c .before .before .clear .last .0) (now′ .plan-row .last .0) (start in′ .args .table .now) e (holds now′)
+          (c .before .before .clear .ensures) (past now′),
     )
+
+cast-starts : tie.Need-cast-starts Inv-loop μ-loop
+cast-starts c = omega (arith, short-places (c .before .before .before .before) .0)
+
+mul-starts : tie.Need-mul-starts Inv-loop μ-loop
+mul-starts c = search needs
+
+element-write-starts : tie.Need-element-write-starts Inv-loop μ-loop
+element-write-starts c = search needs
+
+cast-ends : tie.Need-cast-ends Inv-loop μ-loop
+cast-ends c = omega (arith, short-places (c .before .before .before .before .before) .1)
+
+mul-ends : tie.Need-mul-ends Inv-loop μ-loop
+mul-ends c = search needs
+
+element-write-ends : tie.Need-element-write-ends Inv-loop μ-loop
+element-write-ends c = search needs
 
 add-i : tie.Need-add-i Inv-loop μ-loop
 add-i c = omega arith
@@ -145,14 +194,20 @@ loop-less c = omega arith
 
 loop-again : tie.Need-loop-again Inv-loop μ-loop
 loop-again c =
-    let now′ = c .before .before .before in
+    let now′ = c .before .before .before .before .before in
     let in′ = at now′ in
-    let none : now′ .plan-row .result ≡ 0 = omega arith in (
+    let p = in′ .before .loop in
+    let row = now′ .plan-row .result in
+    let none : row .left ≡ 0 = omega arith in (
       omega arith,
-      long now′ ∙ in′ .before .loop .inv .1,
-      more-planned (start in′ .args .cells) (size in′) (loads in′) (clash in′) (usable in′) (in′ .before .loop .i) (in′ .before .loop .table) (fits in′)
-          (own now′) (now′ .plan-row .ensures .0) (in′ .before .loop .inv .2) (now′ .plan-row .ensures .1) none,
+      long now′ ∙ p .inv .1,
+      more-planned (start in′ .args .cells) (size in′) (loads in′) (clash in′) (usable in′) (p .i) (p .table) (fits in′)
+          (own now′) (now′ .plan-row .ensures .0) (p .inv .2) (now′ .plan-row .ensures .1 .0) none,
       past now′,
+      simp length-set (p .inv .4),
+      simp length-set (p .inv .5),
+      sending-more (size in′) (clash in′) (p .i) (p .table) (fits in′) (usable in′) _ (now′ .plan-row .ensures .0) (p .starts) (p .ends)
+          (noted in′ .0) (noted in′ .1) (p .inv .6) (row .from) (row .to) (now′ .plan-row .ensures .1 .1 .0),
     )
 
 same-length-2 : tie.Need-same-length-2 Inv-loop μ-loop
@@ -160,16 +215,11 @@ same-length-2 c = c .before .loop .inv .1
 
 returns-2 : tie.Need-returns-2 Inv-loop μ-loop
 returns-2 c =
-    let start′ = c .before .before .before .before in
-    let args = start′ .args in
+    let args = c .before .before .before .before .args in
     let last : c .before .loop .i ≡ args .cells = omega arith in
     let e = rw last at (c .before .loop .inv .2) in (
       sym (ap answerOf e),
-      (
-        end-done (args .cells * (args .slots * args .channels)) (c .before .loop .table) (args .table .now) e (c .before .loop .inv .3),
-        λ _. rows-kept (netIn (args .cells) (args .slots * args .channels) (args .loads .now) (bitIn (args .clash .now)) (opens (args .mask .now)))
-            (args .first) (c .before .loop .table) (args .table .now) (start′ .pre .1 .1) e (start′ .pre .0 .0),
-      ),
+      end-done (args .cells * (args .slots * args .channels)) (c .before .loop .table) (args .table .now) e (c .before .loop .inv .3),
     )
 
 pub plan-rows-spec : {M : Type 1} → statement M
@@ -190,6 +240,12 @@ plan-rows-spec =
     add-cell
     same-length
     returns
+    cast-starts
+    mul-starts
+    element-write-starts
+    cast-ends
+    mul-ends
+    element-write-ends
     add-i
     loop-less
     loop-again

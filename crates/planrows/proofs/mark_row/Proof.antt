@@ -1,83 +1,64 @@
--- `planrows::mark_row` meets its contract. At each head of the loop the table is the one handed in, with row i as the first j cells leave it
--- (`marks`). Assumes nothing.
-use mathlib.Core.Path.{_≡_, refl, sym, ap, _∙_}
-use mathlib.Core.Logic.{⊎-elim}
-use Prim.Native.Nat.{_+_, _-_, _≤_}
+-- `planrows::mark_row` meets its contract: what is taken over and what the other cells mark are all the marks. Assumes nothing.
+use mathlib.Core.Path.{_≡_, ap, _∙_}
+use mathlib.Core.List.{List}
+use Prim.Native.Nat.{ℕ, _+_, _*_, _≤_}
 use native.Mathlib.Omega.{arith}
+use borrow.Author.Needs.{needs}
 use lib.ListN.{length}
-use Rattle.planrows.proofs.Marked.{marks, marks-long, marks-none, marks-yes, marks-no}
-use Rattle.planrows.proofs.mark_row.Statement.{statement}
 use Rattle.laws.specs.Bits.{bitIn}
+use Rattle.laws.specs.Part.{part, put}
+use Rattle.laws.proofs.Part.{length-part, put-put}
+use Rattle.planrows.specs.Row.{marksHere}
+use Rattle.planrows.proofs.Sent.{before-put}
+use Rattle.planrows.proofs.mark_row.Statement.{statement}
 use Rattle.planrows.proofs.mark_row.Tie as tie
 
-abbrev Inv-loop : tie.InvT-loop
-Inv-loop table₀ n i clash j₀ table j = (j ≤ i) × (length table ≡ length table₀) × (table ≡ marks n (bitIn clash) i j table₀)
+-- the table once it has the marks that are taken over: row i alone is another
+module _ (c : tie.After-take-over) where
+  abbrev start : tie.Start
+  start = c .before .before .before
 
-abbrev μ-loop : tie.MeasureT-loop
-μ-loop table₀ n i clash j₀ table j = i - j
+  abbrev n : ℕ
+  n = start .args .n
 
-loop-holds : tie.Need-loop-holds Inv-loop μ-loop
-loop-holds c =
-    let start = c .before in
-    (omega arith, refl, marks-none (start .args .n) (bitIn (start .args .clash .now)) _ _ (start .pre .1))
+  abbrev i : ℕ
+  i = start .args .i
 
-clashes-requires : tie.Need-clashes-requires Inv-loop μ-loop
-clashes-requires c κs = (omega arith, omega arith)
+  abbrev over : List ℕ
+  over = c .take-over .last .0
 
-forbid-row-requires : tie.Need-forbid-row-requires Inv-loop μ-loop
-forbid-row-requires c κs = omega arith
+  fits : i * n + n ≤ length over
+  fits = omega (arith, start .pre .0 .1, c .take-over .kept .0)
 
-add-j : tie.Need-add-j Inv-loop μ-loop
-add-j c = omega arith
+  long : length (part (i * n) n over) ≡ n
+  long = length-part (i * n) n over fits
 
-loop-less : tie.Need-loop-less Inv-loop μ-loop
-loop-less c = omega arith
+take-over-requires : tie.Need-take-over-requires
+take-over-requires c κs =
+    let s = c .before .before in
+    (s .pre .0, s .pre .1 .1)
 
--- what a turn leaves
-turned :
-    (c : tie.Joined1 Inv-loop μ-loop) →
-    let start = c .before .before .before .before .before in
-    c .if1 .table ≡ marks (start .args .n) (bitIn (start .args .clash .now)) (start .args .i) (c .before .before .before .loop .j + 1)
-    (start .args .table .now)
-turned c =
-    let at = c .before .before .before in
-    let start = at .before .before in
-    let n = start .args .n in
-    let clash = bitIn (start .args .clash .now) in
-    let said = c .before .clashes .ensures in
-    ⊎-elim
-    (λ w. marks-yes n clash _ _ (start .pre .1) _ (at .loop .inv .2) (c .before .before .loop-test .taken) (sym (w .0 .taken) ∙ said) (w .5 ∙ w .2 .ensures))
-    (λ w. marks-no n clash _ _ (start .pre .1) _ (at .loop .inv .2) (sym (w .0 .left) ∙ said) (w .1))
-    (c .if1 .came)
+mark-by-requires : tie.Need-mark-by-requires
+mark-by-requires c κs =
+    let o = c .before .before .before in
+    let s = start o in
+    let before = before-put (n o) (i o) (part (i o * n o) (n o) (over o)) (s .args .table .now) (s .args .clash .now) (s .args .starts .now)
+    (s .args .ends .now) (long o) (s .pre .0 .1) (s .pre .1) (o .take-over .ensures .1 .0) in
+    ((s .pre .0 .0, fits o, o .take-over .ensures .0), before .0)
 
-loop-again : tie.Need-loop-again Inv-loop μ-loop
-loop-again c =
-    let start = c .before .before .before .before .before in (
-      omega arith,
-      ap length (turned c) ∙ marks-long (start .args .n) (bitIn (start .args .clash .now)) (start .args .i) (start .args .table .now)
-          (start .pre .1) (c .before .before .before .loop .j + 1),
-      turned c,
-    )
+same-length : tie.Need-same-length
+same-length c = search needs
 
-same-length : tie.Need-same-length Inv-loop μ-loop
-same-length c = c .before .loop .inv .1
-
-returns : tie.Need-returns Inv-loop μ-loop
+returns : tie.Need-returns
 returns c =
-    let e : c .before .loop .j ≡ c .before .before .before .args .i = omega arith in
-    rw e at (c .before .loop .inv .2)
+    let o = c .before .before .before .before .before .before in
+    let s = start o in
+    let t = s .args .table .now in
+    let m = marksHere (n o) (bitIn (s .args .clash .now)) t (i o) in
+    c .before .before .mark-by .ensures
+    ∙ ap (λ (r : List ℕ). put (i o * n o) (n o) r (over o)) (o .take-over .ensures .1 .1)
+    ∙ ap (put (i o * n o) (n o) m) (o .take-over .ensures .1 .0)
+    ∙ put-put (i o * n o) (n o) (part (i o * n o) (n o) (over o)) t (long o) (s .pre .0 .1) m
 
 pub mark-row-spec : {M : Type 1} → statement M
-mark-row-spec =
-    tie.close
-    (tie.spec
-    Inv-loop
-    μ-loop
-    loop-holds
-    clashes-requires
-    forbid-row-requires
-    add-j
-    loop-less
-    loop-again
-    same-length
-    returns)
+mark-row-spec = tie.close (tie.spec take-over-requires mark-by-requires same-length returns)

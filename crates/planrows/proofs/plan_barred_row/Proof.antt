@@ -6,7 +6,9 @@ use lib.Seq.{length-take-le}
 use Rattle.laws.specs.Bits.{bitIn}
 use Rattle.laws.proofs.Part.{back}
 use Rattle.planrows.specs.Row.{opens}
-use Rattle.planrows.proofs.Marked.{masked, masked-fits, laid-long, barred-row, barred-short}
+use Rattle.planrows.proofs.Marked.{masked, masked-fits, laid-long, barred-row, barred-short, barred-sends, barred-marks}
+use Rattle.rows.specs.Stretch.{filledBy}
+use Rattle.planrows.proofs.Sent.{before-put}
 use borrow.Author.Needs.{needs}
 use Rattle.planrows.proofs.plan_barred_row.Statement.{statement}
 use Rattle.planrows.proofs.plan_barred_row.Tie as tie
@@ -33,7 +35,7 @@ lay-mask-requires : tie.Need-lay-mask-requires
 lay-mask-requires c κs =
     let start = c .before .before .before in
     let n = start .args .slots * start .args .channels in
-    masked-fits (start .args .i * n) n (start .args .table .now) (start .pre .0 .2) (start .pre .1 .1 (start .pre .1 .0) .0)
+    masked-fits (start .args .i * n) n (start .args .table .now) (start .pre .0 .2) (start .pre .1 .1 .1 (start .pre .1 .1 .0) .0)
 
 take-row-requires : tie.Need-take-row-requires
 take-row-requires c κs =
@@ -42,13 +44,18 @@ take-row-requires c κs =
     let i = start .args .i in
     let t = start .args .table .now in
     let mask = start .args .mask .now in
-    let wide = start .pre .1 .1 (start .pre .1 .0) .0 in
+    let wide = start .pre .1 .1 .1 (start .pre .1 .1 .0) .0 in
     let lay = c .before .before .before .lay-mask in
     let z = lay .last .0 in
     let laid = masked (i * n) n t mask (start .pre .0 .2) (lay .ensures) in
     let long = ap length laid ∙ length-take-le n mask wide in
     let same = laid-long n (bitIn (start .args .clash .now)) i t (start .pre .0 .2) z long (back (i * n) n t z) in
-    (start .pre .0 .0, start .pre .0 .1, rw same (start .pre .0 .2))
+    let asked = start .pre .1 .0 in
+    let sent = before-put n i z t (start .args .clash .now) (start .args .starts .now) (start .args .ends .now) long (start .pre .0 .2) asked
+    (back (i * n) n t z) in (
+      (start .pre .0 .0, start .pre .0 .1, rw same (start .pre .0 .2)),
+      sent,
+    )
 
 sub-lift : tie.Need-sub-lift
 sub-lift c = search needs
@@ -74,15 +81,25 @@ returns c =
     let t = start .args .table .now in
     let mask = start .args .mask .now in
     let clash = bitIn (start .args .clash .now) in
-    let good = start .pre .1 .1 (start .pre .1 .0) in
+    let good = start .pre .1 .1 .1 (start .pre .1 .1 .0) in
     let lay = taking .before .before .before .before .lay-mask in
     let z = lay .last .0 in
     let laid = masked (i * n) n t mask (start .pre .0 .2) (lay .ensures) in
     let long = ap length laid ∙ length-take-le n mask (good .0) in
-    let bars = laid ∙ good .1 in (
-      barred-row n clash i t (start .pre .0 .2) z long (back (i * n) n t z) (opens mask) bars (start .args .load) (taking .take-row .ensures .0)
-          (c .before .before .lift .ensures),
-      barred-short n clash i t (start .pre .0 .2) z long (back (i * n) n t z) (opens mask) bars (start .args .load) (taking .take-row .ensures .1),
+    let bars = laid ∙ good .1 in
+    let row = barred-row n clash i t (start .pre .0 .2) z long (back (i * n) n t z) (opens mask) bars (start .args .load) (taking .take-row .ensures .0)
+    (c .before .before .lift .ensures) in (
+      row,
+      (
+        barred-short n clash i t (start .pre .0 .2) z long (back (i * n) n t z) (opens mask) bars (start .args .load) (taking .take-row .ensures .1 .0),
+        (
+          barred-sends n clash i t (start .pre .0 .2) z long (back (i * n) n t z) (opens mask) bars (start .args .load) _ _ row
+              (taking .take-row .ensures .1 .1 .0),
+          taking .take-row .ensures .1 .1 .1
+              ∙ ap (filledBy (start .args .slots) (start .args .channels) (start .args .load))
+              (barred-marks n clash i t (start .pre .0 .2) z long (back (i * n) n t z) (opens mask) bars),
+        ),
+      ),
     )
 
 pub plan-barred-row-spec : {M : Type 1} → statement M

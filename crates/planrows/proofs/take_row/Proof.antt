@@ -6,10 +6,13 @@ use Prim.Native.Nat.{ℕ}
 use Rattle.laws.specs.Bits.{bitIn}
 use Rattle.laws.specs.Part.{put}
 use Rattle.theory.specs.Net.{unblocked}
-use Rattle.theory.specs.Greedy.{fill, unmet}
+use Rattle.theory.specs.Greedy.{fill}
 use Rattle.planrows.specs.Row.{marksHere}
 use Rattle.planrows.proofs.Marked.{here-long, lent-put, back-put}
+use Rattle.planrows.proofs.Sent.{same-but-is}
 use borrow.Author.Needs.{needs}
+use Rattle.rows.specs.Stretch.{filledBy}
+use Rattle.rows.specs.declared.Filled.{Filled}
 use Rattle.planrows.proofs.take_row.Statement.{statement}
 use Rattle.planrows.proofs.take_row.Tie as tie
 
@@ -48,12 +51,14 @@ returns c =
     let i = start .args .i in
     let t = start .args .table .now in
     let m = marksHere n (bitIn (start .args .clash .now)) t i in
-    let long = here-long n (bitIn (start .args .clash .now)) i t (start .pre .2) i in
-    let lent = lent-put (i * n) n m t long (start .pre .2) (marking .mark-row .ensures) in
-    let filled = c .before .before .fill-row .ensures in (
-      back-put (i * n) n m t long (start .pre .2) (marking .mark-row .ensures) (c .before .before .fill-row .last .0)
-          ∙ ap (λ (r : List ℕ). put (i * n) n r t) (filled .0 ∙ ap (fill unblocked 0 (start .args .load)) lent),
-      filled .1 ∙ ap (unmet unblocked 0 (start .args .load)) lent,
+    let long = here-long n (bitIn (start .args .clash .now)) i t (start .pre .0 .2) i in
+    let lent = lent-put (i * n) n m t long (start .pre .0 .2) (marking .mark-row .ensures) in
+    let filled = c .before .before .fill-row .ensures in
+    let row = filled .0 ∙ ap (fill unblocked 0 (start .args .load)) lent in
+    let answer = filled .1 .0 ∙ ap (filledBy (start .args .slots) (start .args .channels) (start .args .load)) lent in (
+      back-put (i * n) n m t long (start .pre .0 .2) (marking .mark-row .ensures) (c .before .before .fill-row .last .0)
+          ∙ ap (λ (r : List ℕ). put (i * n) n r t) row,
+      (ap (λ (f : Filled). f .left) answer, (same-but-is lent row (filled .1 .1), answer)),
     )
 
 pub take-row-spec : {M : Type 1} → statement M

@@ -7,6 +7,7 @@ use Rattle.laws.proofs.Stores.{length-list}
 use Rattle.theory.specs.Net.{unblocked}
 use Rattle.theory.specs.Greedy.{fill, unmet}
 use Rattle.rows.specs.Bars.{lifted}
+use Rattle.rows.specs.declared.Filled.{Filled}
 use Rattle.rowwords.specs.Code.{markBy}
 use borrow.Author.Needs.{needs}
 use Rattle.rowwords.proofs.next_row.Statement.{statement}
@@ -34,7 +35,7 @@ returns c =
     (a .words .now) (a .near) (a .mask .now))) (s .pre .0 .1) in
     let filled = c .before .before .before .before .before .before .fill-row .ensures in (
       c .before .before .lift .ensures ∙ ap lifted (filled .0 ∙ ap (fill unblocked 0 (a .load)) marked),
-      filled .1 ∙ ap (unmet unblocked 0 (a .load)) marked,
+      ap (λ (f : Filled). f .left) (filled .1 .0) ∙ ap (unmet unblocked 0 (a .load)) marked,
     )
 
 pub next-row-spec : {M : Type 1} → statement M

@@ -1,4 +1,4 @@
--- `planner::plan_from` meets its contract: where nothing is blocked no mask is needed, and else the mask bars what is blocked. Assumes nothing.
+-- `planner::plan_blocked` meets its contract: where nothing is blocked no mask is needed, and else the mask bars what is blocked. Assumes nothing.
 use mathlib.Core.Path.{_≡_, sym, ap, subst, _∙_}
 use mathlib.Core.List.{List, [], _++_}
 use Prim.Native.Nat.{ℕ, _*_, _≤_, _<_}
@@ -11,10 +11,10 @@ use Rattle.laws.specs.Part.{listOf}
 use Rattle.positions.specs.Blocked.{barOf}
 use Rattle.site.specs.Reach.{isOpen}
 use Rattle.planrows.specs.Row.{opens}
-use Rattle.planner.proofs.Alike.{planned-alike, answer-alike, leaves-alike}
+use Rattle.planner.proofs.Alike.{answer-alike, leaves-alike}
 use Rattle.planner.proofs.MaskLaws.{none-open, no-mask, mask-opens, mask-bars}
-use Rattle.planner.proofs.plan_from.Statement.{statement}
-use Rattle.planner.proofs.plan_from.Tie as tie
+use Rattle.planner.proofs.plan_blocked.Statement.{statement}
+use Rattle.planner.proofs.plan_blocked.Tie as tie
 
 -- the mask before it is made
 abbrev zeros : List ℕ
@@ -39,22 +39,13 @@ module _ (c : tie.Then1) where
   from = c .before .before .before
 
   all-open : (k : ℕ) → k < from .args .slots * from .args .channels → isOpen (from .args .blocked .now) k ≡ opens [] k
-  all-open = none-open (from .args .blocked .now) (from .args .slots * from .args .channels) (from .pre .0 .3)
+  all-open = none-open (from .args .blocked .now) (from .args .slots * from .args .channels) (from .pre .2)
       (sym (c .before .none-blocked .ensures) ∙ c .if1 .taken)
 
 plan-rows-requires : tie.Need-plan-rows-requires
 plan-rows-requires c κs =
-    let way = c .before .before in
-    let s = from way in
-    let a = s .args in
-    let n = a .slots * a .channels in (
-      (s .pre .0 .0, s .pre .0 .1, s .pre .0 .2),
-      (
-        (s .pre .1 .0, no-mask n),
-        planned-alike (a .cells) n (a .loads .now) (bitIn (a .clash .now)) (isOpen (a .blocked .now)) (opens []) (all-open way) (a .first)
-            (a .table .now) (s .pre .1 .1),
-      ),
-    )
+    let s = from (c .before .before .before .before) in
+    ((s .pre .0, s .pre .1, s .pre .2, omega arith, omega arith), (s .pre .3, no-mask (s .args .slots * s .args .channels), s .pre .4))
 
 same-length : tie.Need-same-length
 same-length c = search needs
@@ -62,32 +53,29 @@ same-length c = search needs
 returns : tie.Need-returns
 returns c =
     let call = c .before .before .plan-rows in
-    let way = c .before .before .before .before .before in
+    let way = c .before .before .before .before .before .before .before in
     let a = from way .args in
     let n = a .slots * a .channels in (
       call .ensures .0 ∙ answer-alike (a .cells) n (a .loads .now) (bitIn (a .clash .now)) (isOpen (a .blocked .now)) (opens []) (all-open way),
-      (
-        call .ensures .1 .0
-            ∙ leaves-alike (a .cells) n (a .loads .now) (bitIn (a .clash .now)) (isOpen (a .blocked .now)) (opens []) (all-open way) (a .table .now),
-        call .ensures .1 .1,
-      ),
+      call .ensures .1
+          ∙ leaves-alike (a .cells) n (a .loads .now) (bitIn (a .clash .now)) (isOpen (a .blocked .now)) (opens []) (all-open way) (a .table .now),
     )
 
 -- ---- some position is blocked
 
 mul-n : tie.Need-mul-n
-mul-n c = omega (arith, c .before .before .before .pre .0 .3)
+mul-n c = omega (arith, c .before .before .before .pre .2)
 
 array-borrow-prefix-mask : tie.Need-array-borrow-prefix-mask
-array-borrow-prefix-mask c = let s = c .before .before .before in within (s .args .slots * s .args .channels) (s .pre .0 .3)
+array-borrow-prefix-mask c = let s = c .before .before .before in within (s .args .slots * s .args .channels) (s .pre .2)
 
 slice-aggregate-bars : tie.Need-slice-aggregate-bars
-slice-aggregate-bars c = let s = c .before .before .before .before in cut (s .args .slots * s .args .channels) (s .pre .0 .3)
+slice-aggregate-bars c = let s = c .before .before .before .before in cut (s .args .slots * s .args .channels) (s .pre .2)
 
 bars-requires : tie.Need-bars-requires
 bars-requires c κs =
     let s = c .before .before .before .before in
-    subst (λ (k : ℕ). k ≤ 2048) (cut (s .args .slots * s .args .channels) (s .pre .0 .3)) (s .pre .0 .3)
+    subst (λ (k : ℕ). k ≤ 2048) (cut (s .args .slots * s .args .channels) (s .pre .2)) (s .pre .2)
 
 -- the mask, once it is made
 module _ (c : tie.After-bars) where
@@ -107,31 +95,26 @@ module _ (c : tie.After-bars) where
   mask = front ++ drop size zeros
 
   made : front ≡ listOf (barOf words) size
-  made = c .bars .ensures ∙ ap (listOf (barOf words)) (sym (cut size (start .pre .0 .3)))
+  made = c .bars .ensures ∙ ap (listOf (barOf words)) (sym (cut size (start .pre .2)))
 
   whole : length mask ≡ 2048
   whole = length-front zeros front size (c .bars .kept .1 .0) ∙ length-replicate {A = ℕ} 2048 0
 
   wide : size ≤ length mask
-  wide = subst (λ (k : ℕ). size ≤ k) (sym whole) (start .pre .0 .3)
+  wide = subst (λ (k : ℕ). size ≤ k) (sym whole) (start .pre .2)
 
   barred : (k : ℕ) → k < size → isOpen words k ≡ opens mask k
   barred = mask-opens words front (drop size zeros) size made
 
 slice-aggregate-plan-rows-2 : tie.Need-slice-aggregate-plan-rows-2
-slice-aggregate-plan-rows-2 c = sym (whole (c .before .before .before))
+slice-aggregate-plan-rows-2 c = sym (whole (c .before .before .before .before .before))
 
 plan-rows-requires-2 : tie.Need-plan-rows-requires-2
 plan-rows-requires-2 c κs =
-    let way = c .before .before .before in
-    let s = start way in
-    let a = s .args in (
-      (s .pre .0 .0, s .pre .0 .1, s .pre .0 .2),
-      (
-        (s .pre .1 .0, λ _. (wide way, mask-bars (words way) (front way) (drop (size way) zeros) (size way) (made way))),
-        planned-alike (a .cells) (size way) (a .loads .now) (bitIn (a .clash .now)) (isOpen (words way)) (opens (mask way)) (barred way) (a .first)
-            (a .table .now) (s .pre .1 .1),
-      ),
+    let way = c .before .before .before .before .before in
+    let s = start way in (
+      (s .pre .0, s .pre .1, s .pre .2, omega arith, omega arith),
+      (s .pre .3, λ _. (wide way, mask-bars (words way) (front way) (drop (size way) zeros) (size way) (made way)), s .pre .4),
     )
 
 same-length-2 : tie.Need-same-length-2
@@ -140,18 +123,15 @@ same-length-2 c = search needs
 returns-2 : tie.Need-returns-2
 returns-2 c =
     let call = c .before .before .plan-rows2 in
-    let way = c .before .before .before .before .before .before in
+    let way = c .before .before .before .before .before .before .before .before in
     let a = start way .args in (
       call .ensures .0 ∙ answer-alike (a .cells) (size way) (a .loads .now) (bitIn (a .clash .now)) (isOpen (words way)) (opens (mask way)) (barred way),
-      (
-        call .ensures .1 .0
-            ∙ leaves-alike (a .cells) (size way) (a .loads .now) (bitIn (a .clash .now)) (isOpen (words way)) (opens (mask way)) (barred way) (a .table .now),
-        call .ensures .1 .1,
-      ),
+      call .ensures .1
+          ∙ leaves-alike (a .cells) (size way) (a .loads .now) (bitIn (a .clash .now)) (isOpen (words way)) (opens (mask way)) (barred way) (a .table .now),
     )
 
-pub plan-from-spec : {M : Type 1} → statement M
-plan-from-spec =
+pub plan-blocked-spec : {M : Type 1} → statement M
+plan-blocked-spec =
     tie.close
     (tie.spec
     none-blocked-requires
