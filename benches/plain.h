@@ -52,7 +52,7 @@
 DECLARE(PREFIX)
 #endif
 
-/* The C on bit sets has these three, and the C that tries all sets of flows has the last two. */
+/* The C on bit sets has these three, and the quicker search for the flows to admit the last two. */
 dugg_answer bits_plan(dugg_site site, uint8_t *table, size_t len);
 dugg_answer bits_check(dugg_site site, const uint8_t *table, size_t len);
 dugg_answer bits_mend(dugg_site site, uint8_t *table, size_t len, uint16_t *changes, size_t count);

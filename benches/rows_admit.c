@@ -1,4 +1,4 @@
-/* Which flows to admit: small, middle and full lists, beside the search in plain C and the trial of all sets. */
+/* Which flows to admit: small, middle and full lists, beside the search in plain C and a quicker one. */
 #include <stdio.h>
 #include <string.h>
 #include "bench.h"
@@ -85,7 +85,7 @@ static void make_offers(offer o[ROWS])
     o[6] = (offer){.name = "the same tunnel, 16 flows on top of its loads", .beside = true};
     draw_hardest(&o[6], 3, 2048);
 
-    /* Each set in turn is the best so far, so that none can be left out. */
+    /* In rising order each set is the best so far, so that the plain C leaves none out. */
     o[5] = (offer){.name = "32 cells, none clash, 16 flows, values double", .count = FLOWS};
     size(&o[5].site, 32, 128, 16);
     for (unsigned k = 0; k < FLOWS; k++)
@@ -137,12 +137,12 @@ int admit_agree(void)
 
 void admit_table(void)
 {
-    static const char *const names[MAKERS] = {"library", "second", "C -O2", "C -O3", "C, all sets"};
+    static const char *const names[MAKERS] = {"library", "second", "C -O2", "C -O3", "C bits"};
     static const bool there[MAKERS] = {true, true, true, true, true};
     double worst = 0, longest = 0;
     printf("\n### Which flows to admit\n\n");
-    printf("The lists of 16 flows are each the one of %d random lists that took the library longest, and one that has"
-           " every set looked at. `second` and `C, all sets` always try every set.\n\n",
+    printf("The lists of 16 flows are each the one of %d random lists that took the library longest, and one for"
+           " which the plain C looks at every set. `second` always tries every set; `C bits` tries the most valuable flows first.\n\n",
            LISTS);
     print_head("Call | Site and flows", names, MAKERS);
     for (int k = 0; k < ROWS; k++) {

@@ -3,7 +3,7 @@
 ghost use mathlib.Core.Path.{_≡_};
 ghost use mathlib.Core.Bool.{true};
 ghost use Prim.Native.Nat.{_-_, _≤_};
-ghost use lib.ListN.{getD, replicate};
+ghost use lib.ListN.{length, getD, replicate};
 ghost use lib.Seq.{sets};
 ghost use Rattle.laws.specs.Bits.{bitIn};
 ghost use Rattle.laws.specs.Part.{listOf};
@@ -60,14 +60,6 @@ struct Asked {
     share: u16,
 }
 
-// The same for the flows of a list, up to the first that is refused, and its place.
-struct AskedAll {
-    bad: usize,
-    cells: [u16; 16],
-    shares: [u16; 16],
-    values: [u16; 16],
-}
-
 // The share of a flow, with its repeats, on a site of so many slots: for callers that have the flow by value.
 pub fn share_in(slots: u16, f: Flow) -> ShareAnswer
     ensures { λ r. ⌜ r ≡ shareIn slots f ⌝ }
@@ -106,41 +98,36 @@ fn ask(cells: u16, slots: u16, f: Flow) -> Asked
     }
 }
 
-// The flows of a list, one by one.
-fn ask_all(cells: u16, slots: u16, l: FlowList, count: usize) -> AskedAll
-    requires { ⌜ count ≤ 16 ⌝ }
-    ensures bad { λ r. ⌜ r .bad ≡ firstBadIn cells slots (λ k. getD (l .list) k zeroFlow) count ⌝ }
-    ensures cells { λ r. ⌜ r .cells ≡ sets (replicate 16 0) 0 (listOf (λ k. getD (l .list) k zeroFlow .cell - 1) (r .bad)) ⌝ }
-    ensures shares { λ r. ⌜ r .shares ≡ sets (replicate 16 0) 0 (listOf (λ k. amount (shareIn slots (getD (l .list) k zeroFlow))) (r .bad)) ⌝ }
-    ensures values { λ r. ⌜ r .values ≡ sets (replicate 16 0) 0 (listOf (λ k. getD (l .list) k zeroFlow .value) (r .bad)) ⌝ }
+// The flows of a list, one by one, up to the first that is refused: its place, and what the search takes of those before it.
+fn ask_all(
+    cells: u16,
+    slots: u16,
+    l: FlowList,
+    count: usize,
+    own: &mut [u16; 16],
+    shares: &mut [u16; 16],
+    values: &mut [u16; 16],
+) -> usize
+    requires { ⌜ (count ≤ 16) × (length (now own) ≡ 16) × (length (now shares) ≡ 16) × (length (now values) ≡ 16) ⌝ }
+    ensures bad { λ r. ⌜ r ≡ firstBadIn cells slots (λ k. getD (l .list) k zeroFlow) count ⌝ }
+    ensures cells { λ r. ⌜ now (own .exit) ≡ sets (now (own .entry)) 0 (listOf (λ k. getD (l .list) k zeroFlow .cell - 1) r) ⌝ }
+    ensures shares { λ r. ⌜ now (shares .exit) ≡ sets (now (shares .entry)) 0 (listOf (λ k. amount (shareIn slots (getD (l .list) k zeroFlow))) r) ⌝ }
+    ensures values { λ r. ⌜ now (values .exit) ≡ sets (now (values .entry)) 0 (listOf (λ k. getD (l .list) k zeroFlow .value) r) ⌝ }
 {
     let list = l.list;
-    let mut own = [0u16; 16];
-    let mut shares = [0u16; 16];
-    let mut values = [0u16; 16];
     let mut i = 0;
     while i < count {
         let f = list[i];
         let a = ask(cells, slots, f);
         if a.bad {
-            return AskedAll {
-                bad: i,
-                cells: own,
-                shares,
-                values,
-            };
+            return i;
         }
         own[i] = a.cell;
         shares[i] = a.share;
         values[i] = f.value;
         i += 1;
     }
-    AskedAll {
-        bad: i,
-        cells: own,
-        shares,
-        values,
-    }
+    i
 }
 
 // Why a flow is refused: its cell, or its share.
@@ -216,8 +203,10 @@ fn decide_on(site: Site, l: FlowList, count: usize, beside: bool) -> AdmitAnswer
     if !nested(&clash, cells as usize) {
         return AdmitAnswer::NotNested;
     }
-    let asked = ask_all(cells, slots, l, count);
-    let bad = asked.bad;
+    let mut own = [0u16; 16];
+    let mut shares = [0u16; 16];
+    let mut values = [0u16; 16];
+    let bad = ask_all(cells, slots, l, count, &mut own, &mut shares, &mut values);
     if bad < count {
         let list = l.list;
         return refusal(cells, slots, list[bad], bad + 1);
@@ -227,9 +216,6 @@ fn decide_on(site: Site, l: FlowList, count: usize, beside: bool) -> AdmitAnswer
     let room = open_count(&blocked, n as usize) as u32;
     let loads = site.loads;
     let rooms = rooms_of(loads, &clash, room, beside);
-    let own = asked.cells;
-    let shares = asked.shares;
-    let values = asked.values;
     let set = bestset::best_set(&rooms, &clash, &own, &shares, &values, count);
     AdmitAnswer::Admitted(set)
 }

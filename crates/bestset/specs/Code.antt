@@ -1,12 +1,13 @@
 -- What the arrays of the search stand for: what each flow adds to the demand of each cell, how much room each cell has, and where a search stands.
 -- No answer is defined here.
-use Prim.Native.Nat.{ℕ, _+_, _*_, _/_, _%_, _^_, _≤_, _<_}
+use Prim.Native.Nat.{ℕ, _+_, _-_, _*_, _/_, _%_, _^_, _≤_, _<_}
 use mathlib.Core.Path.{_≡_}
-use mathlib.Core.Bool.{Bool, false, _&&_, _||_, not}
+use mathlib.Core.Bool.{Bool, true, false, _&&_, _||_, not}
+use mathlib.Core.Logic.{_⊎_}
 use mathlib.Core.List.{List}
 use lib.Dec.{ltb, eqb}
 use lib.ListN.{getD}
-use Rattle.laws.specs.Bits.{bitIn}
+use Rattle.laws.specs.Bits.{bitAt, bitIn}
 use Rattle.laws.specs.Choice.{pick}
 use Rattle.laws.specs.Sum.{sum, any}
 use Rattle.theory.specs.Net.{Net, everyone, Class, room, demand}
@@ -70,15 +71,50 @@ pub record Stands (s : Net) (rooms rows cell : List ℕ) : Type 0 where
   pub inside : (k : ℕ) → k < 16 → getD cell k 0 < s .cells
   pub class : Class s everyone
 
--- Where a search stands: the flows from k on are decided, the set is allowed, and the flows below k are still to come.
-pub record Ready (k set worth rest : ℕ) (rooms used weights values : List ℕ) (best best-worth : ℕ) : Type 0 where
+-- The score of a set of the 16 flows: its value, and below it what its number leaves of 65,535. Of two sets the better has the greater score.
+abbrev pub scoreIn : List ℕ → ℕ → ℕ
+scoreIn values x = valueIn values x * 65536 + (65535 - x)
+
+-- the set that has this score
+abbrev pub scoredSet : ℕ → ℕ
+scoredSet score = 65535 - score % 65536
+
+-- the first n places of an order have the first n flows, each once
+pub record Ordered (order : List ℕ) (n : ℕ) : Type 0 where
+  pub inside : (e : ℕ) → e < n → getD order e 0 < n
+  pub onto : (k : ℕ) → k < n → (e : ℕ) × (e < n) × (getD order e 0 ≡ k)
+  pub apart : (d e : ℕ) → d < n → e < n → getD order d 0 ≡ getD order e 0 → d ≡ e
+
+-- what the first k flows of an order are worth together
+abbrev pub restIn : List ℕ → List ℕ → ℕ → ℕ
+restIn order values k = sum (λ e. getD values (getD order e 0) 0) k
+
+-- z has the flows of x, and besides only some of the first k flows of the order
+pub record InPart (order : List ℕ) (k x z : ℕ) : Type 0 where
+  pub size : z < 65536
+  pub has : (j : ℕ) → bitAt x j ≡ true → bitAt z j ≡ true
+  pub only : (j : ℕ) → bitAt z j ≡ true → (bitAt x j ≡ true) ⊎ ((e : ℕ) × (e < k) × (getD order e 0 ≡ j))
+
+-- what a set takes in each cell is no more than its room
+abbrev pub Fits : (ℕ → ℕ) → List ℕ → ℕ → Type 0
+Fits room weights z = (i : ℕ) → i < 32 → total (entry weights i) 16 z ≤ room i
+
+-- the room of cell i, where so much is left of it beside the flows of x
+abbrev pub wholeRoom : List ℕ → List ℕ → ℕ → ℕ → ℕ
+wholeRoom left weights x i = getD left i 0 + total (entry weights i) 16 x
+
+-- Where a search stands: the first k flows of the order are still to come, and come to `rest` together; none of them is in the set of this score.
+pub record Ready (k score rest : ℕ) (order values : List ℕ) : Type 0 where
   pub flows : k ≤ 16
-  pub above : set % 2 ^ k ≡ 0
-  pub most : set + 2 ^ k ≤ 65536
-  pub room-most : (i : ℕ) → i < 32 → getD rooms i 0 ≤ 65535
-  pub small : worth + rest ≤ 1048560
-  pub worth-is : worth ≡ valueIn values set
-  pub rest-is : rest ≡ sum (λ j. getD values j 0) k
-  pub used-is : (i : ℕ) → i < 32 → getD used i 0 ≡ total (entry weights i) 16 set
-  pub used-most : (i : ℕ) → i < 32 → getD used i 0 ≤ getD rooms i 0
-  pub best-is : best-worth ≡ valueIn values best
+  pub score-is : score ≡ scoreIn values (scoredSet score)
+  pub rest-is : rest ≡ restIn order values k
+  pub small : score + rest * 65536 ≤ 68719476735
+  pub inside : (e : ℕ) → e < k → getD order e 0 < 16
+  pub apart : (d e : ℕ) → d < k → e < k → getD order d 0 ≡ getD order e 0 → d ≡ e
+  pub fresh : (e : ℕ) → e < k → bitAt (scoredSet score) (getD order e 0) ≡ false
+
+-- What a search finds: `best`, or the score of a set of its part that fits; and no such set has a greater one, nor has `best`.
+pub record Chosen (order weights values : List ℕ) (room : ℕ → ℕ) (k x best r : ℕ) : Type 0 where
+  pub one-of : (r ≡ best) ⊎ ((z : ℕ) × (InPart order k x z) × (Fits room weights z) × (r ≡ scoreIn values z))
+  pub above-best : best ≤ r
+  pub above : (z : ℕ) → InPart order k x z → Fits room weights z → scoreIn values z ≤ r

@@ -4,7 +4,7 @@ use mathlib.Core.Bool.{Bool, true, false}
 use mathlib.Core.List.{List}
 use mathlib.Core.Path.{_≡_, refl, sym, ap, _∙_}
 use native.Mathlib.Omega.{arith}
-use lib.ListN.{getD, replicate}
+use lib.ListN.{length, length-set, getD}
 use lib.Seq.{sets}
 use borrow.Author.Needs.{needs}
 use Rattle.laws.specs.Part.{listOf}
@@ -26,20 +26,20 @@ at list k = getD list k zeroFlow
 abbrev bad : ℕ → ℕ → List Flow → ℕ → Bool
 bad cells slots list k = badIn cells slots (at list k)
 
-abbrev zeros : List ℕ
-zeros = replicate 16 0
-
 abbrev Inv-loop : tie.InvT-loop
-Inv-loop cells slots count list own₀ shares₀ values₀ i₀ own shares values i =
-    (i ≤ count) × (firstBadIn cells slots (at list) count ≡ first (bad cells slots list) i count) × (own ≡ sets zeros 0 (listOf (λ k. at list k .cell - 1) i))
-    × (shares ≡ sets zeros 0 (listOf (λ k. amount (shareIn slots (at list k))) i)) × (values ≡ sets zeros 0 (listOf (λ k. at list k .value) i))
+Inv-loop cells slots count own₀ shares₀ values₀ list i₀ own shares values i =
+    (i ≤ count) × (firstBadIn cells slots (at list) count ≡ first (bad cells slots list) i count) × (own ≡ sets own₀ 0 (listOf (λ k. at list k .cell - 1) i))
+    × (shares ≡ sets shares₀ 0 (listOf (λ k. amount (shareIn slots (at list k))) i)) × (values ≡ sets values₀ 0 (listOf (λ k. at list k .value) i))
+    × (length own ≡ 16) × (length shares ≡ 16) × (length values ≡ 16)
 
 abbrev μ-loop : tie.MeasureT-loop
-μ-loop cells slots count list own₀ shares₀ values₀ i₀ own shares values i = count - i
+μ-loop cells slots count own₀ shares₀ values₀ list i₀ own shares values i = count - i
 
 loop-holds : tie.Need-loop-holds Inv-loop μ-loop
 unfolding firstBadIn
-loop-holds c = (omega arith, refl, sets-none _ zeros, sets-none _ zeros, sets-none _ zeros)
+loop-holds c =
+    let p = c .before .pre in
+    (omega arith, refl, sets-none _ _, sets-none _ _, sets-none _ _, p .1, p .2, p .3)
 
 mul-f : tie.Need-mul-f Inv-loop μ-loop
 mul-f c = omega arith
@@ -64,20 +64,20 @@ returns c =
 mul-own : tie.Need-mul-own Inv-loop μ-loop
 mul-own c = search needs
 
-array-write-own : tie.Need-array-write-own Inv-loop μ-loop
-array-write-own c = search needs
+element-write-own : tie.Need-element-write-own Inv-loop μ-loop
+element-write-own c = search needs
 
 mul-shares : tie.Need-mul-shares Inv-loop μ-loop
 mul-shares c = search needs
 
-array-write-shares : tie.Need-array-write-shares Inv-loop μ-loop
-array-write-shares c = search needs
+element-write-shares : tie.Need-element-write-shares Inv-loop μ-loop
+element-write-shares c = search needs
 
 mul-values : tie.Need-mul-values Inv-loop μ-loop
 mul-values c = search needs
 
-array-write-values : tie.Need-array-write-values Inv-loop μ-loop
-array-write-values c = search needs
+element-write-values : tie.Need-element-write-values Inv-loop μ-loop
+element-write-values c = search needs
 
 add-i : tie.Need-add-i Inv-loop μ-loop
 add-i c = search needs
@@ -96,11 +96,14 @@ loop-again c =
     = sym (asked-bad (a .cells) (a .slots) f) ∙ ap (λ (r : Asked). r .bad) (sym (got .ensures)) ∙ c .if1 .left in (
       omega arith,
       missed (bad (a .cells) (a .slots) list) (lp .loop .i) (a .count) (lp .loop .inv .1) (omega arith) fine,
-      sets-more (λ k. at list k .cell - 1) (lp .loop .i) _ (lp .loop .own) zeros
+      sets-more (λ k. at list k .cell - 1) (lp .loop .i) _ (lp .loop .own) (a .own .now)
           (ap (λ (r : Asked). r .cell) (got .ensures) ∙ asked-cell (a .cells) (a .slots) f fine) (lp .loop .inv .2),
-      sets-more (λ k. amount (shareIn (a .slots) (at list k))) (lp .loop .i) _ (lp .loop .shares) zeros
+      sets-more (λ k. amount (shareIn (a .slots) (at list k))) (lp .loop .i) _ (lp .loop .shares) (a .shares .now)
           (ap (λ (r : Asked). r .share) (got .ensures) ∙ asked-share (a .cells) (a .slots) f fine) (lp .loop .inv .3),
-      sets-more (λ k. at list k .value) (lp .loop .i) _ (lp .loop .values) zeros refl (lp .loop .inv .4),
+      sets-more (λ k. at list k .value) (lp .loop .i) _ (lp .loop .values) (a .values .now) refl (lp .loop .inv .4),
+      simp length-set (lp .loop .inv .5),
+      simp length-set (lp .loop .inv .6),
+      simp length-set (lp .loop .inv .7),
     )
 
 returns-2 : tie.Need-returns-2 Inv-loop μ-loop
@@ -122,11 +125,11 @@ ask-all-spec =
     ask-requires
     returns
     mul-own
-    array-write-own
+    element-write-own
     mul-shares
-    array-write-shares
+    element-write-shares
     mul-values
-    array-write-values
+    element-write-values
     add-i
     loop-less
     loop-again

@@ -3,7 +3,7 @@
 use Prim.Native.Nat.{ℕ, _≤_}
 use mathlib.Core.Bool.{true, not}
 use mathlib.Core.List.{List}
-use mathlib.Core.Path.{_≡_, sym, ap, _∙_}
+use mathlib.Core.Path.{_≡_, refl, sym, ap, _∙_}
 use native.Mathlib.Omega.{arith}
 use lib.ListN.{getD}
 use borrow.Author.Needs.{needs}
@@ -93,27 +93,29 @@ class : (c : tie.Else2) → isNested (classVerdict (netOf (c .before .before .be
 class c = sym (verdict (c .before)) ∙ not-false _ (c .if2 .left)
 
 ask-all-requires : tie.Need-ask-all-requires
-ask-all-requires c κs = c .before .before .before .before .if1 .left
+ask-all-requires c κs = (c .before .before .before .before .before .before .before .if1 .left, refl, refl, refl)
 
 mul-refusal : tie.Need-mul-refusal
-mul-refusal c = omega (arith, c .before .if3 .taken, c .before .before .before .before .before .before .before .if1 .left)
+mul-refusal c = omega (arith, c .before .if3 .taken, c .before .before .before .before .before .before .before .before .before .before .if1 .left)
 
 array-copy-out-refusal : tie.Need-array-copy-out-refusal
-array-copy-out-refusal c = omega (arith, c .before .if3 .taken, c .before .before .before .before .before .before .before .if1 .left)
+array-copy-out-refusal c = omega (arith, c .before .if3 .taken, c .before .before .before .before .before .before .before .before .before .before .if1 .left)
 
 add-refusal : tie.Need-add-refusal
-add-refusal c = omega (arith, c .before .before .if3 .taken, c .before .before .before .before .before .before .before .before .if1 .left)
+add-refusal c =
+    omega (arith, c .before .before .if3 .taken, c .before .before .before .before .before .before .before .before .before .before .before .if1 .left)
 
 refusal-requires : tie.Need-refusal-requires
 refusal-requires c κs = search needs
 
 returns-4 : tie.Need-returns-4
 returns-4 c =
-    let a = c .before .before .before .before .before .before .before .before .before .before .before .before .before .args in
+    let a = c .before .before .before .before .before .before .before .before .before .before .before .before .before .before .before .before .args in
     c .refusal .ensures
     ∙ sym (bad-answer (startFor (a .beside) (a .site)) (a .site) (here (a .l)) (a .count)
-    (fine (c .before .before .before .before .before .before .before .before .before .before))
-    (c .before .before .before .before .before .before .before .before .before .if1 .left) (class (c .before .before .before .before .before)) _
+    (fine (c .before .before .before .before .before .before .before .before .before .before .before .before .before))
+    (c .before .before .before .before .before .before .before .before .before .before .before .before .if1 .left)
+    (class (c .before .before .before .before .before .before .before .before)) _
     (c .before .before .before .before .ask-all .ensures .0) (c .before .before .before .if3 .taken))
 
 cast-n : tie.Need-cast-n
@@ -123,19 +125,22 @@ cast-n-2 : tie.Need-cast-n-2
 cast-n-2 c = search needs
 
 mul-n : tie.Need-mul-n
-mul-n c = omega (arith, few-positions (fine-sized _ (fine (c .before .before .before .before .before .before .before .before .before))))
+mul-n c = omega (arith, few-positions (fine-sized _ (fine (c .before .before .before .before .before .before .before .before .before .before .before .before))))
 
 cast-open-count : tie.Need-cast-open-count
 cast-open-count c =
-    omega (arith, few-positions (fine-sized _ (fine (c .before .before .before .before .before .before .before .before .before .before .before))))
+    let told = c .before .before .before .before .before .before .before .before .before .before .before .before .before .before in
+    omega (arith, few-positions (fine-sized _ (fine told)))
 
 open-count-requires : tie.Need-open-count-requires
-open-count-requires c κs = few-positions (fine-sized _ (fine (c .before .before .before .before .before .before .before .before .before .before .before)))
+open-count-requires c κs =
+    let told = c .before .before .before .before .before .before .before .before .before .before .before .before .before .before in
+    few-positions (fine-sized _ (fine told))
 
 -- once the open positions are counted
 module _ (c : tie.After-open-count) where
   abbrev told : tie.After-enum-told
-  told = c .before .before .before .before .before .before .before .before .before .before .before .before
+  told = c .before .before .before .before .before .before .before .before .before .before .before .before .before .before .before
 
   abbrev start : tie.Start
   start = told .before .before .before
@@ -144,12 +149,12 @@ module _ (c : tie.After-open-count) where
   asked = c .before .before .before .before .before .before
 
   abbrev rows : tie.After-clash-rows
-  rows = c .before .before .before .before .before .before .before .before .before .before
+  rows = c .before .before .before .before .before .before .before .before .before .before .before .before .before
 
   few : start .args .count ≤ 16
-  few = c .before .before .before .before .before .before .before .before .before .before .before .if1 .left
+  few = c .before .before .before .before .before .before .before .before .before .before .before .before .before .before .if1 .left
 
-  all : start .args .count ≤ asked .ask-all .result .bad
+  all : start .args .count ≤ asked .ask-all .result
   all = c .before .before .before .before .before .if3 .left
 
   -- what is counted is at most N
@@ -181,7 +186,7 @@ module _ (c : tie.After-rooms-of) where
 
 best-set-requires : tie.Need-best-set-requires
 best-set-requires c κs =
-    let m = c .before .before .before .before .before .before .before .before in
+    let m = c .before .before .before .before .before in
     let o = counting m in
     let a = start o .args in
     let r = asked o .ask-all in (
@@ -193,31 +198,31 @@ best-set-requires c κs =
           rooms-most (a .beside) (a .site .loads) (rows o .clash-rows .result) (o .open-count .result) i l,
           counted-few o,
         ),
-        inside-most (a .site) (fine (told o)) (here (a .l)) (a .count) (few o) (r .result .bad) (r .ensures .0) (all o) (r .result .cells) (r .ensures .1 .0),
+        inside-most (a .site) (fine (told o)) (here (a .l)) (a .count) (few o) (r .result) (r .ensures .0) (all o) (r .last .1 .1 .1 .1 .0) (r .ensures .1 .0),
       ),
     )
 
 returns-5 : tie.Need-returns-5
 returns-5 c =
-    let m = c .before .before .before .before .before .before .before .before .before in
+    let m = c .before .before .before .before .before .before in
     let o = counting m in
     let a = start o .args in
     let f = here (a .l) in
     let r = asked o .ask-all in
     let clash = rows o .clash-rows in
     let fine-here = fine (told o) in
-    let own = r .result .cells in
-    let class-here = class (asked o .before) in
+    let own = r .last .1 .1 .1 .1 .0 in
+    let class-here = class (asked o .before .before .before .before) in
     let net = startFor (a .beside) (a .site) in
     ap Admitted
     (c .best-set .ensures
-    ∙ ap (λ (t : List ℕ). bestIn t (clash .result) own (r .result .shares) (r .result .values) (a .count)) (room-is m)
-    ∙ best-in-is _ (clash .result) own (r .result .shares) (r .result .values) (a .count) (few o) net
+    ∙ ap (λ (t : List ℕ). bestIn t (clash .result) own (r .last .1 .1 .1 .1 .1 .0) (r .last .1 .1 .1 .1 .1 .1 .0) (a .count)) (room-is m)
+    ∙ best-in-is _ (clash .result) own (r .last .1 .1 .1 .1 .1 .0) (r .last .1 .1 .1 .1 .1 .1 .0) (a .count) (few o) net
     (stands (a .site) fine-here (clash .result) (clash .ensures .0) (clash .ensures .1 fine-here) (o .open-count .result) (o .open-count .ensures) class-here
-    own (inside (a .site) fine-here f (a .count) (few o) (r .result .bad) (r .ensures .0) (all o) own (r .ensures .1 .0)) (a .beside)
+    own (inside (a .site) fine-here f (a .count) (few o) (r .result) (r .ensures .0) (all o) own (r .ensures .1 .0)) (a .beside)
     (λ e. start o .pre e fine-here))
-    ∙ same-best (a .site) fine-here f (a .count) (few o) (r .result .bad) (r .ensures .0) (all o) own (r .ensures .1 .0) net (r .result .shares)
-    (r .result .values) (r .ensures .1 .1 .0) (r .ensures .1 .1 .1))
+    ∙ same-best (a .site) fine-here f (a .count) (few o) (r .result) (r .ensures .0) (all o) own (r .ensures .1 .0) net (r .last .1 .1 .1 .1 .1 .0)
+    (r .last .1 .1 .1 .1 .1 .1 .0) (r .ensures .1 .1 .0) (r .ensures .1 .1 .1))
     ∙ sym (set-answer net (a .site) f (a .count) fine-here (few o) class-here (rw (← r .ensures .0) (all o)))
 
 pub decide-on-spec : {M : Type 1} → statement M
