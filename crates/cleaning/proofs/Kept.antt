@@ -6,7 +6,7 @@ use mathlib.Core.List.{List, [], _∷_, _++_, append-assoc, append-nil}
 use native.Mathlib.Omega.{arith}
 use native.Mathlib.Numerals.{add-one}
 use lib.ListN.{length, take, drop, getD, set, length-set, length-append, drop-of-length-le, take-append-drop}
-use lib.Seq.{take-all, take-length, take-append-le, take-suc-set, length-take-le, drop-cons, drop-drop, drop-set-lt, sets}
+use lib.Seq.{take-all, take-append-le, take-suc-set, length-take-le, drop-cons, drop-drop, drop-set-lt, sets}
 use Rattle.laws.specs.Choice.{pick}
 use Rattle.laws.proofs.Stores.{sets-front}
 use Rattle.lines.specs.Format.{commaByte}
@@ -176,12 +176,10 @@ module _ (s : List ℕ) where
   clean-begin sep p i e f g = rw (e, f, g)
 
   module _ (sep : ℕ) (p : Standing) (i : ℕ) (done : List ℕ) (st : Step) (so-far : done ++ cleanFrom sep p (drop i s) ≡ cleaned s) where
-    pub clean-more : i < length s → st ≡ stepOf sep p (getD s i 0) → (done ++ outOf st) ++ cleanFrom sep (st .spot) (drop (i + 1) s) ≡ cleaned s
-    clean-more h e =
-        rw e
-        (append-assoc done (outOf (stepOf sep p (getD s i 0))) (cleanFrom sep (stepOf sep p (getD s i 0) .spot) (drop (i + 1) s))
-        ∙ ap (λ (x : List ℕ). done ++ x) (sym (clean-next sep p s i h))
-        ∙ so-far)
+    pub clean-taken : (count : ℕ) → cleanFrom sep p (drop i s) ≡ outOf st ++ cleanFrom sep (st .spot) (drop (i + count) s)
+        → (done ++ outOf st) ++ cleanFrom sep (st .spot) (drop (i + count) s) ≡ cleaned s
+    clean-taken count e =
+        append-assoc done (outOf st) (cleanFrom sep (st .spot) (drop (i + count) s)) ∙ ap (λ (x : List ℕ). done ++ x) (sym e) ∙ so-far
 
     pub clean-last : length s ≤ i → st ≡ endOf p → done ++ outOf st ≡ cleaned s
     clean-last h e = rw e (ap (λ (x : List ℕ). done ++ x) (sym (clean-end sep p s i h)) ∙ so-far)

@@ -1,4 +1,5 @@
 -- The definitions of crate `cleaning`, module by module.
 pub mod Clean
 pub mod Kept
+pub mod Fields
 pub mod Means

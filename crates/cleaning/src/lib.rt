@@ -1,5 +1,6 @@
 // A range sheet as spreadsheets write it, made into the form of the format byte by byte, and what was changed.
 ghost use mathlib.Core.Path.{_≡_};
+ghost use mathlib.Core.Bool.{true};
 ghost use Prim.Native.Nat.{_+_, _≤_, _<_};
 ghost use lib.ListN.{length, take};
 ghost use lib.Seq.{sets};
@@ -7,6 +8,8 @@ ghost use Rattle.cleaning.specs.Clean.{isSeparator, separatorIn, nextCol
 ghost use Rattle.cleaning.specs.Clean.{commaChange, onSeparator, onCr, firstSpot, lineSpot, fed, onLf, afterCr, onField, stepOf, isFresh};
 ghost use Rattle.cleaning.specs.Clean.{endOf, byteOut, outOf, begins, cleaned};
 ghost use Rattle.cleaning.specs.Kept.{Kept};
+ghost use Rattle.cleaning.specs.Fields.{isPlain, contentOf, emptyOf, noField, emptyField, quotedField, bareField, fieldAt};
+ghost use Rattle.cleaning.specs.Fields.{fieldStep, beginsField, nextField, Stepped};
 ghost use Rattle.cleaning.specs.Clean.{makes, noted, lineAfter, unchanged, markChange, changesOf};
 
 const COMMA: u8 = 44;
@@ -454,6 +457,192 @@ fn put_step(out: &mut [u8], at: usize, s: Step) -> usize
     put_byte(out, b, s.feed)
 }
 
+// Some bytes of the sheet taken at once: the step that they make together, and how many they are.
+struct Taken {
+    pub step: Step,
+    pub count: usize,
+}
+
+// A field that is one byte or none, with its quotes and its separator: its bytes, none where it is another field, and what is written for its content.
+struct Field {
+    pub count: usize,
+    pub content: u8,
+}
+
+// Whether b is content in every column: neither a separator nor a blank, a quote or a byte of a line's end.
+fn is_plain(b: u8) -> bool
+    ensures { λ r. ⌜ r ≡ isPlain b ⌝ }
+{
+    if b < 48 {
+        return false;
+    }
+    b != 59
+}
+
+// What is written for the content b of a field.
+fn content_of(column: u8, b: u8) -> u8
+    ensures { λ r. ⌜ r ≡ contentOf column b ⌝ }
+{
+    if column != 0 {
+        return b;
+    }
+    if b == 120 {
+        return 49;
+    }
+    if b == 88 {
+        return 49;
+    }
+    b
+}
+
+// What is written for a field without content.
+fn empty_of(column: u8) -> u8
+    ensures { λ r. ⌜ r ≡ emptyOf column ⌝ }
+{
+    if column == 0 {
+        return 48;
+    }
+    0
+}
+
+// Another field.
+fn no_field() -> Field
+    ensures { λ r. ⌜ r ≡ noField ⌝ }
+{
+    Field {
+        count: 0,
+        content: 0,
+    }
+}
+
+// A field without content, after its quotes: the byte c.
+fn empty_field(sep: u8, column: u8, c: u8) -> Field
+    ensures { λ r. ⌜ r ≡ emptyField sep column c ⌝ }
+{
+    if c != sep {
+        return no_field();
+    }
+    let content = empty_of(column);
+    Field { count: 3, content }
+}
+
+// A field after its open quote: the bytes b, c and d.
+fn quoted_field(sep: u8, column: u8, b: u8, c: u8, d: u8) -> Field
+    ensures { λ r. ⌜ r ≡ quotedField sep column b c d ⌝ }
+{
+    if b == QUOTE {
+        return empty_field(sep, column, c);
+    }
+    if !is_plain(b) {
+        return no_field();
+    }
+    if c != QUOTE {
+        return no_field();
+    }
+    if d != sep {
+        return no_field();
+    }
+    let content = content_of(column, b);
+    Field { count: 4, content }
+}
+
+// A field that begins with a and b, and has no quotes.
+fn bare_field(sep: u8, column: u8, a: u8, b: u8) -> Field
+    ensures { λ r. ⌜ r ≡ bareField sep column a b ⌝ }
+{
+    if !is_plain(a) {
+        return no_field();
+    }
+    if b != sep {
+        return no_field();
+    }
+    let content = content_of(column, a);
+    Field { count: 2, content }
+}
+
+// The field that begins at i.
+fn field_at(s: &[u8], i: usize, sep: u8, column: u8) -> Field
+    ensures { λ r. ⌜ r ≡ fieldAt sep column (now (s .entry)) i ⌝ }
+{
+    if s.len() < 4 {
+        return no_field();
+    }
+    if s.len() - 4 < i {
+        return no_field();
+    }
+    let a = s[i];
+    if a == QUOTE {
+        return quoted_field(sep, column, s[i + 1], s[i + 2], s[i + 3]);
+    }
+    bare_field(sep, column, a, s[i + 1])
+}
+
+// The step that a field makes, with its separator.
+fn field_step(column: u8, content: u8) -> Step
+    ensures { λ r. ⌜ r ≡ fieldStep column content ⌝ }
+{
+    let after = next_column(column);
+    let spot = Standing {
+        column: after,
+        quotes: 0,
+        content: 0,
+        ended: 0,
+    };
+    Step {
+        spot,
+        mend: content,
+        byte: COMMA,
+        feed: 0,
+        change: 0,
+    }
+}
+
+// The byte at i alone.
+fn take_one(s: &[u8], i: usize, sep: u8, p: Standing) -> Taken
+    requires { ⌜ i < length (now s) ⌝ }
+    ensures { λ r. ⌜ Stepped sep p (now (s .entry)) i (r .step) (r .count) ⌝ }
+{
+    let step = step_of(sep, p, s[i]);
+    Taken { step, count: 1 }
+}
+
+// Whether a field begins at a spot.
+fn begins_field(p: Standing) -> bool
+    ensures { λ r. ⌜ r ≡ beginsField p ⌝ }
+{
+    if p.quotes != 0 {
+        return false;
+    }
+    if p.content != 0 {
+        return false;
+    }
+    p.ended == 0
+}
+
+// The field that begins at i, where a field begins.
+fn next_field(s: &[u8], i: usize, sep: u8, p: Standing) -> Field
+    ensures { λ r. ⌜ r ≡ nextField sep p (now (s .entry)) i ⌝ }
+{
+    if !begins_field(p) {
+        return no_field();
+    }
+    field_at(s, i, sep, p.column)
+}
+
+// The field that begins at i, or the byte there alone.
+fn take_next(s: &[u8], i: usize, sep: u8, p: Standing) -> Taken
+    requires { ⌜ (i < length (now s)) × (isSeparator sep ≡ true) ⌝ }
+    ensures { λ r. ⌜ Stepped sep p (now (s .entry)) i (r .step) (r .count) ⌝ }
+{
+    let field = next_field(s, i, sep, p);
+    let count = field.count;
+    if count == 0 {
+        return take_one(s, i, sep, p);
+    }
+    let step = field_step(p.column, field.content);
+    Taken { step, count }
+}
+
 // The sheet made into the form of the format, as much of it as the lent memory holds; the answer is how many bytes that is.
 pub fn clean(s: &[u8], out: &mut [u8]) -> usize
     ensures stored { λ _. ⌜ now (out .exit) ≡ sets (now (out .entry)) 0 (take (length (now (out .entry))) (cleaned (now (s .entry)))) ⌝ }
@@ -464,10 +653,11 @@ pub fn clean(s: &[u8], out: &mut [u8]) -> usize
     let mut at: usize = 0;
     let mut i = begin(s);
     while i < s.len() {
-        let stepped = step_of(sep, spot, s[i]);
+        let taken = take_next(s, i, sep, spot);
+        let stepped = taken.step;
         at = put_step(out, at, stepped);
         spot = stepped.spot;
-        i += 1;
+        i += taken.count;
     }
     put_step(out, at, end_of(spot))
 }

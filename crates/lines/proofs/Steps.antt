@@ -21,7 +21,7 @@ use Rattle.lines.specs.declared.Marks.{Marks}
 use Rattle.lines.specs.declared.Number.{Number}
 use Rattle.lines.specs.declared.Line.{Line}
 use Rattle.lines.specs.Content.{scanned, numberRead, loadOfLine, marksOfLine, markOfLine, weigh, markOk}
-use Rattle.lines.specs.Content.{marksRead, rowOfLine, lineIn, lineOk, noLine, lineRead}
+use Rattle.lines.specs.Content.{rowOfMarks, marksRead, rowOfLine, lineIn, lineOk, noLine, lineRead}
 use Rattle.lines.proofs.Match.{starts-long, eaten-append, lost}
 use Rattle.lines.proofs.Lines.{marks-long, mark-two, weigh-lt}
 
@@ -54,11 +54,11 @@ module _ (s : List ℕ) (at : ℕ) where
       (drop-cons s (suc (at + 2 * i)) 0 (omega arith) ∙ ap₂ (λ (a : ℕ) (l : List ℕ). a ∷ l) (ap (λ (j : ℕ). getD s j 0) (omega arith))
       (sym (drop-drop (2 * suc i) at s ∙ ap (λ (j : ℕ). drop j s) e)))
 
-  mark-here : (i : ℕ) → markOfLine (drop at s) i ≡ bit (eqb (getD s (at + 2 * i + 1) 0) 49)
+  pub mark-here : (i : ℕ) → markOfLine (drop at s) i ≡ bit (eqb (getD s (at + 2 * i + 1) 0) 49)
   unfolding markOfLine
   mark-here i = ap (λ (x : ℕ). bit (eqb x 49)) (getD-drop at s (2 * i + 1) 0 ∙ ap (λ (j : ℕ). getD s j 0) (omega arith))
 
-  one-step : (i m : ℕ) → at + 2 * i + 1 < length s →
+  pub one-step : (i m : ℕ) → at + 2 * i + 1 < length s →
       markOk (getD s (at + 2 * i) 0) (getD s (at + 2 * i + 1) 0) (starts (marks (markOfLine (drop at s)) (suc i) m) (drop (2 * suc i) (drop at s)))
       ≡ starts (marks (markOfLine (drop at s)) i (suc m)) (drop (2 * i) (drop at s))
   unfolding markOk starts marks
@@ -91,6 +91,17 @@ module _ (s : List ℕ) (at : ℕ) where
       let p : 2 ^ (n - b) ≤ 2 ^ 31 = pow-mono {i = n - b} {j = 31} (omega arith) in
       omega arith
 
+  -- the end of the loop over the last few
+  pub few-good : (b n row : ℕ) (ok : Bool) → row ≡ weigh (markOfLine (drop at s)) b (n - b)
+      → ok ≡ starts (marks (markOfLine (drop at s)) b (n - b)) (drop (2 * b) (drop at s)) → ok ≡ true → row ≡ rowOfMarks (drop at s) b (n - b)
+  unfolding rowOfMarks
+  few-good b n row ok p q t = rw (sym q ∙ t) p
+
+  pub few-bad : (b n : ℕ) (ok : Bool) → ok ≡ starts (marks (markOfLine (drop at s)) b (n - b)) (drop (2 * b) (drop at s)) → ok ≡ false
+      → 16 ≡ rowOfMarks (drop at s) b (n - b)
+  unfolding rowOfMarks
+  few-bad b n ok q t = rw (sym q ∙ t)
+
   -- the end of the loop
   pub marks-bad : (n : ℕ) → starts (marks (markOfLine (drop at s)) 0 n) (drop at s) ≡ false → record { row = 0; next = nowhere } ≡ marksRead s at n
   unfolding marksRead
@@ -114,9 +125,6 @@ module _ (s : List ℕ) (at : ℕ) where
         let e : row ≡ weigh (markOfLine (drop at s)) 0 n = p ∙ ap (λ (i : ℕ). weigh (markOfLine (drop at s)) i (n - i)) z
         ∙ ap (weigh (markOfLine (drop at s)) 0) d in
         rw e (marks-good n (sym at-end ∙ t))
-
-    pub end-bad : ok ≡ false → record { row = 0; next = nowhere } ≡ marksRead s at n
-    end-bad t = marks-bad n (sym at-end ∙ t)
 
   pub marks-short : (n : ℕ) → 0 < n → length s < at + 2 * n → record { row = 0; next = nowhere } ≡ marksRead s at n
   marks-short n h l = marks-bad n (refute _ (λ e. omega (arith, starts-long _ _ e, marks-long (markOfLine (drop at s)) n 0, length-drop at s)))

@@ -1,9 +1,10 @@
 -- What a line says, of any bytes at all; and whether it is a line of the format: whether the bytes start with the line that its own content gives.
 -- r is the input from where the line begins.
-use Prim.Native.Nat.{ℕ, zero, suc, _+_, _-_, _*_}
+use Prim.Native.Nat.{ℕ, zero, suc, _+_, _-_, _*_, _/_, _%_, _^_}
 use mathlib.Core.Bool.{Bool, _&&_}
 use mathlib.Core.List.{List, [], _∷_}
 use lib.ListN.{length, drop, getD}
+use lib.Bits.{bitAnd}
 use lib.Dec.{ltb, leb, eqb}
 use Rattle.laws.specs.Choice.{pick}
 use Rattle.laws.specs.Sum.{bit}
@@ -50,12 +51,34 @@ weigh f b (suc n) = f b + 2 * weigh f (suc b) n
 unfoldable pub markOk : ℕ → ℕ → Bool → Bool
 markOk comma x ok = eqb comma commaByte && (eqb x (48 + bit (eqb x 49)) && ok)
 
+-- the row of the m marks from index b on, where they stand in r; 16 where they do not, which no row of four is
+unfoldable pub rowOfMarks : List ℕ → ℕ → ℕ → ℕ
+rowOfMarks r b m = pick (starts (marks (markOfLine r) b m) (drop (2 * b) r)) (weigh (markOfLine r) b m) 16
+
+-- two bytes as a number, the first the lower
+unfoldable pub pairAt : List ℕ → ℕ → ℕ
+pairAt s p = getD s p 0 + 256 * getD s (p + 1) 0
+
+-- four commas and marks in one word, the first the lowest. The word of four times `,0`, 12332, is left where the lowest bit of each mark is cleared; those
+-- four bits, each 16 above the one before, are then moved together
+abbrev pub marksOff : ℕ
+marksOff = 3471202379140706348
+
+abbrev pub fourRow : ℕ → ℕ
+fourRow y = (y + y / 2 ^ 15 + y / 2 ^ 30 + y / 2 ^ 45) % 16
+
+unfoldable pub fourIn : ℕ → ℕ
+fourIn w = pick (eqb (bitAnd w 18374685380143218431) marksOff) (fourRow ((w - marksOff) / 2 ^ 8)) 16
+
+abbrev pub noMarks : Marks
+noMarks = record { row = 0; next = nowhere }
+
 -- n marks read at `at`
 unfoldable pub marksRead : List ℕ → ℕ → ℕ → Marks
 marksRead s at n =
     pick (starts (marks (markOfLine (drop at s)) 0 n) (drop at s))
     (record { row = weigh (markOfLine (drop at s)) 0 n; next = at + 2 * n })
-    (record { row = 0; next = nowhere })
+    noMarks
 
 unfoldable pub rowOfLine : ℕ → ℕ → List ℕ → ℕ
 rowOfLine n k r = weigh (markOfLine (marksOfLine k r)) 0 n

@@ -8,7 +8,8 @@ use lib.ListN.{length, drop}
 use denote.Ref.{now}
 use Rattle.cleaning.specs.Clean.{cleanFrom, cleaned, outOf}
 use Rattle.cleaning.specs.Kept.{Kept}
-use Rattle.cleaning.proofs.Kept.{kept-none, kept-both, kept-stored, clean-begin, clean-more, clean-last}
+use Rattle.cleaning.proofs.Kept.{kept-none, kept-both, kept-stored, clean-begin, clean-taken, clean-last}
+use Rattle.cleaning.proofs.Fields.{separator-is}
 use Rattle.cleaning.proofs.clean.Statement.{statement}
 use Rattle.cleaning.proofs.clean.Tie as tie
 
@@ -31,11 +32,10 @@ loop-holds : tie.Need-loop-holds Inv-loop μ-loop
 loop-holds c =
     ([], kept-none _ 0 (omega arith), clean-begin _ _ _ _ (c .before .before .separator .ensures) (c .before .first-spot .ensures) (c .begin .ensures .0))
 
-shared-slice-read-step-of : tie.Need-shared-slice-read-step-of Inv-loop μ-loop
-shared-slice-read-step-of c = omega arith
-
-step-of-requires : tie.Need-step-of-requires Inv-loop μ-loop
-step-of-requires c κs = search needs
+take-next-requires : tie.Need-take-next-requires Inv-loop μ-loop
+take-next-requires c κs =
+    let l = c .before in
+    (omega arith, rw (l .before .before .before .separator .ensures) (separator-is (now (l .before .before .before .before .before .before .args .s))))
 
 put-step-requires : tie.Need-put-step-requires Inv-loop μ-loop
 put-step-requires c κs = let w = c .before .before .before .before .loop .inv .1 in omega (arith, w .inside, w .long)
@@ -48,13 +48,13 @@ loop-less c = omega arith
 
 loop-again : tie.Need-loop-again Inv-loop μ-loop
 loop-again c =
-    let p = c .before .before .before in
-    let q = p .before .before in
-    let l = q .before .before .before in
+    let p = c .before .before .before .before in
+    let q = p .before .before .before in
+    let l = q .before .before in
     let w = l .loop .inv in (
-      w .0 ++ outOf (q .step-of .result),
+      w .0 ++ outOf (q .take-next .result .step),
       kept-both (w .1) (p .put-step .ensures),
-      clean-more _ _ (l .loop .spot) (l .loop .i) (w .0) (q .step-of .result) (w .2) (omega arith) (q .step-of .ensures),
+      clean-taken _ _ (l .loop .spot) (l .loop .i) (w .0) (q .take-next .result .step) (w .2) (q .take-next .result .count) (q .take-next .ensures .same),
     )
 
 end-of-requires : tie.Need-end-of-requires Inv-loop μ-loop
@@ -89,8 +89,7 @@ clean-spec =
     first-spot-requires
     begin-requires
     loop-holds
-    shared-slice-read-step-of
-    step-of-requires
+    take-next-requires
     put-step-requires
     add-i
     loop-less
