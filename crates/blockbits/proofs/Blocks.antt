@@ -19,7 +19,7 @@ use Rattle.laws.proofs.Any.{any-none, none-any}
 use Rattle.laws.proofs.Bits.{bit-above, shr-bit}
 use Rattle.laws.proofs.Choice.{refute}
 use Rattle.laws.proofs.Stores.{length-list, list-take, list-at}
-use Rattle.laws.proofs.Words.{word-zero, word-suc, word-lt, word-bit, word-eq, word-mod, bits-eq}
+use Rattle.laws.proofs.Words.{word-zero, word-suc, word-lt, word-bit, word-eq, word-mod, bits-eq, none-word}
 use Rattle.positions.specs.Blocked.{mostPositions, blockedAt, anyIn, emptySet, wordIn, setOf}
 use Rattle.positions.proofs.Sets.{in-set, set-eq, set-back}
 use Rattle.records.specs.Bits.{bytesFor, bitOf, leftOver}
@@ -103,6 +103,13 @@ pub record SetHeld (set : List ℕ) (n : ℕ) : Type 0 where
 
 bit-zero : (b : ℕ) → bitAt 0 b ≡ false
 bit-zero b = bit-above 0 b (pow-pos b)
+
+-- a word past the body has no bit
+pub past-body : (body : List ℕ) (j : ℕ) → length body ≤ 8 * j → wordIn (bitStated body) j ≡ 0
+past-body body j h =
+    none-word (λ b. bitStated body (64 * j + b)) 64 (λ b _.
+    ap (λ (x : ℕ). bitAt x ((64 * j + b) % 8)) (List·getD-eq-default body 0 {n = (64 * j + b) / 8} (omega arith))
+    ∙ bit-zero ((64 * j + b) % 8))
 
 pub zeros-at : (n k : ℕ) → _≡_ {A = ℕ} (getD (replicate n 0) k 0) 0
 zeros-at zero k = refl

@@ -47,12 +47,14 @@ fn byte_at(body: &[u8], k: usize) -> u8
     0
 }
 
-// The set that a kind 6 body states.
+// The set that a kind 6 body states: no word past the body is looked at.
 fn set_of(body: &[u8]) -> [u64; 32]
+    requires { ⌜ length (now body) ≤ 256 ⌝ }
     ensures { λ r. ⌜ r ≡ blockedOfBody (now (body .entry)) ⌝ }
 {
     let mut set = [0u64; 32];
-    for j in 0..32 {
+    let words = (body.len() + 7) / 8;
+    for j in 0..words {
         set[j] = word_of(body, j);
     }
     set

@@ -6,18 +6,19 @@ use Prim.Native.Nat.{ℕ}
 use Rattle.contracts.specs.ReachpairsSays.{ReachpairsPairsLen, ReachpairsPutPairs, ReachpairsReadReach}
 use Rattle.reachpairs.specs.Loop.{reachRead}
 use Rattle.reachpairs.specs.Pairs.{pairBytes}
-use Rattle.reachpairs.specs.declared.PairsRead.{PairsRead}
+use Rattle.records.specs.declared.ReadAnswer.{ReadAnswer}
 use lib.ListN.{length}
 use lib.Seq.{sets}
 
 -- reachpairs::read_reach
-pub reachpairsReadReach-one : (s : List ℕ) (at : ℕ) (cells : ℕ)
-    → (r : PairsRead) × (ReachpairsReadReach s at cells r)
-    × ((q : PairsRead) → ReachpairsReadReach s at cells q → (q ≡ r))
-reachpairsReadReach-one s at cells = (
-  reachRead s at cells,
-  record { answer = refl },
-  λ q says. says .answer,
+pub reachpairsReadReach-one : (s : List ℕ) (at : ℕ) (cells : ℕ) (reach : List ℕ)
+    → (r : ReadAnswer) × (reach′ : List ℕ) × (ReachpairsReadReach s at cells reach r reach′)
+    × ((q : ReadAnswer) (reach″ : List ℕ) → ReachpairsReadReach s at cells reach q reach″ → (q ≡ r) × (reach″ ≡ reach′))
+reachpairsReadReach-one s at cells reach = (
+  reachRead s at cells .answer,
+  reachRead s at cells .reach,
+  record { answer = refl; reach-after = refl },
+  λ q reach″ says. (says .answer, says .reach-after),
 )
 
 -- reachpairs::pairs_len

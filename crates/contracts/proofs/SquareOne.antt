@@ -2,9 +2,10 @@
 -- Made by tools/surface from the source. Assumes nothing.
 use mathlib.Core.Path.{_≡_, refl}
 use mathlib.Core.List.{List}
-use Prim.Native.Nat.{_-_, _^_, ℕ}
-use Rattle.contracts.specs.SquareSays.{SquareLowBits, SquareTurned}
-use Rattle.square.specs.Turned.{turned}
+use Prim.Native.Nat.{_*_, _+_, _-_, _^_, ℕ}
+use Rattle.contracts.specs.SquareSays.{SquareLowBits, SquareRowIn, SquareTurned, SquareTurnedFours}
+use Rattle.laws.specs.Bits.{bitAt, wordOf}
+use Rattle.square.specs.Turned.{turned, turnedFours}
 
 -- square::turned
 pub squareTurned-one : (rows : List ℕ)
@@ -12,6 +13,26 @@ pub squareTurned-one : (rows : List ℕ)
     × ((q : List ℕ) → SquareTurned rows q → (q ≡ r))
 squareTurned-one rows = (
   turned rows,
+  record { answer = refl },
+  λ q says. says .answer,
+)
+
+-- square::turned_fours
+pub squareTurnedFours-one : (rows : List ℕ)
+    → (r : List ℕ) × (SquareTurnedFours rows r)
+    × ((q : List ℕ) → SquareTurnedFours rows q → (q ≡ r))
+squareTurnedFours-one rows = (
+  turnedFours rows,
+  record { answer = refl },
+  λ q says. says .answer,
+)
+
+-- square::row_in
+pub squareRowIn-one : (word : ℕ) (i : ℕ)
+    → (r : ℕ) × (SquareRowIn word i r)
+    × ((q : ℕ) → SquareRowIn word i q → (q ≡ r))
+squareRowIn-one word i = (
+  wordOf (λ b. bitAt word (16 * i + b)) 16,
   record { answer = refl },
   λ q says. says .answer,
 )

@@ -5,13 +5,14 @@ use mathlib.Core.List.{List}
 use Prim.Native.Nat.{ℕ}
 use Rattle.reachpairs.specs.Loop.{reachRead}
 use Rattle.reachpairs.specs.Pairs.{pairBytes}
-use Rattle.reachpairs.specs.declared.PairsRead.{PairsRead}
+use Rattle.records.specs.declared.ReadAnswer.{ReadAnswer}
 use lib.ListN.{length}
 use lib.Seq.{sets}
 
 -- reachpairs::read_reach
-pub record ReachpairsReadReach (s : List ℕ) (at : ℕ) (cells : ℕ) (r : PairsRead) : Type 0 where
-  pub answer : r ≡ reachRead s at cells
+pub record ReachpairsReadReach (s : List ℕ) (at : ℕ) (cells : ℕ) (reach : List ℕ) (r : ReadAnswer) (reach′ : List ℕ) : Type 0 where
+  pub answer : r ≡ reachRead s at cells .answer
+  pub reach-after : reach′ ≡ reachRead s at cells .reach
 
 -- reachpairs::pairs_len
 pub record ReachpairsPairsLen (reach : List ℕ) (r : ℕ) : Type 0 where

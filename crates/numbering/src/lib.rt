@@ -1,6 +1,7 @@
 // Finds a numbering of a site's cells with which the load test is exact whatever the loads, and carries tables in new numbers back.
 //
-// What it costs: at most 32 rounds over the clash rows (crate `numberrows`); the reach rows are moved a word at a time. A table is copied row by row, once.
+// What it costs: at most 32 rounds over the clash rows (crate `numberrows`); the reach rows of many cells are moved a word at a time.
+// A table is copied row by row, once.
 use numberrows::Numbers;
 use numberrows::carry_rows;
 use numberrows::moved_loads;

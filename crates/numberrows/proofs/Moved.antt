@@ -2,7 +2,7 @@
 use mathlib.Core.Path.{_≡_, refl, sym, ap, _∙_}
 use mathlib.Core.Bool.{Bool, true, false, _&&_, and-false}
 use mathlib.Core.List.{List}
-use Prim.Native.Nat.{ℕ, _+_, _≤_, _<_}
+use Prim.Native.Nat.{ℕ, _+_, _-_, _≤_, _<_}
 use native.Mathlib.Omega.{arith}
 use lib.Dec.{ltb}
 use lib.Pow.{pow-pos}
@@ -14,7 +14,7 @@ use Rattle.laws.specs.Choice.{pick}
 use Rattle.laws.specs.Part.{listOf}
 use Rattle.laws.proofs.Bits.{bit-above}
 use Rattle.laws.proofs.Stores.{list-at, list-eq, sets-zeros, sets-more}
-use Rattle.laws.proofs.Words.{word-eq, word-bit}
+use Rattle.laws.proofs.Words.{word-eq, word-bit, word-within, none-word}
 use Rattle.square.specs.Turned.{turned}
 use Rattle.square.proofs.Square.{turned-bit}
 use Rattle.renumbering.specs.Numbering.{indexAt}
@@ -60,6 +60,21 @@ module _ (old : List ℕ) (n : ℕ) (rows : List ℕ) where
   pub rows-at : (a b : ℕ) → a < 32 → b < 32 → bitIn (movedRows old n rows) a b ≡ movedBit a b
   unfolding movedRows
   rows-at a b h m = ap (λ (x : ℕ). bitAt x b) (list-at (λ a. wordOf (movedBit a) 32) 32 a h) ∙ word-bit (movedBit a) 32 b m
+
+  -- row a bit by bit, and all rows where the others are 0
+  pub row-few : (a : ℕ) → n ≤ 32 → a < n → wordOf (λ b. bitIn rows (indexAt old a) (indexAt old b)) n ≡ wordOf (movedBit a) 32
+  row-few a few h =
+      let p : ℕ → Bool = λ b. bitIn rows (indexAt old a) (indexAt old b) in
+      let e : n + (32 - n) ≡ 32 = omega arith in
+      sym (word-within p n (32 - n))
+      ∙ ap (wordOf (λ b. ltb b n && p b)) e
+      ∙ word-eq (λ b. ltb b n && p b) (movedBit a) 32 (λ b m. sym (ap (λ t. t && (ltb b n && p b)) (lt-ltb a n h)))
+
+  pub few-end : n ≤ 32 → sets (replicate 32 0) 0 (listOf (λ a. wordOf (movedBit a) 32) n) ≡ movedRows old n rows
+  unfolding movedRows
+  few-end few =
+      sets-zeros (λ a. wordOf (movedBit a) 32) n 32 few (λ k h m.
+      none-word (movedBit k) 32 (λ b l. ap (λ t. t && (ltb b n && bitIn rows (indexAt old k) (indexAt old b))) (le-ltb k n h)))
 
   module _ (few : n ≤ 32) (names : NamesCells n old) where
     abbrev columns : List ℕ

@@ -4,9 +4,10 @@
 use words::apart;
 use words::has;
 ghost use mathlib.Core.Path.{_≡_};
-ghost use Prim.Native.Nat.{_+_, _*_, _≤_, _<_};
+ghost use Prim.Native.Nat.{_+_, _*_, _^_, _≤_, _<_};
 ghost use lib.ListN.{length, getD};
-ghost use Rattle.laws.specs.Bits.{bitIn};
+ghost use Rattle.laws.specs.Bits.{bitAt, bitIn, wordOf};
+ghost use Rattle.laws.specs.Choice.{pick};
 ghost use Rattle.laws.specs.Part.{part, put};
 ghost use Rattle.renumbering.specs.Numbering.{last, numbering, indexAt};
 ghost use Rattle.renumbering.specs.Carry.{carried};
@@ -132,13 +133,59 @@ fn moved_words(rows: &[u32; 32], old: &[u16; 32], cells: usize) -> [u32; 32]
     moved
 }
 
-// Rows of bits with rows and bits in new numbers: the rows are moved, then, turned over, the bits, a word at a time.
-pub fn moved_rows(rows: &[u32; 32], old: &[u16; 32], cells: usize) -> [u32; 32]
+// Bit `to` where a row has bit `from`, else 0.
+fn moved_bit(row: u32, from: usize, to: usize) -> u32
+    requires { ⌜ (from < 32) × (to < 32) ⌝ }
+    ensures { λ r. ⌜ r ≡ pick (bitAt row from) (2 ^ to) 0 ⌝ }
+{
+    if (row >> from) % 2 == 1 {
+        return 1 << to;
+    }
+    0
+}
+
+// A row with the bits of so many cells in new numbers.
+fn moved_bits(row: u32, old: &[u16; 32], cells: usize) -> u32
+    requires { ⌜ (cells ≤ 32) × NamesCells cells (now old) ⌝ }
+    ensures { λ r. ⌜ r ≡ wordOf (λ b. bitAt row (indexAt (now (old .entry)) b)) cells ⌝ }
+{
+    let mut word: u32 = 0;
+    for b in 0..cells {
+        word = word | moved_bit(row, cell_at(old, b), b);
+    }
+    word
+}
+
+// Rows of bits with rows and bits in new numbers, bit by bit: quicker where the cells are few.
+fn few_moved(rows: &[u32; 32], old: &[u16; 32], cells: usize) -> [u32; 32]
+    requires { ⌜ (cells ≤ 32) × NamesCells cells (now old) ⌝ }
+    ensures { λ r. ⌜ r ≡ movedRows (now (old .entry)) cells (now (rows .entry)) ⌝ }
+{
+    let mut moved = [0u32; 32];
+    for a in 0..cells {
+        moved[a] = moved_bits(rows[cell_at(old, a)], old, cells);
+    }
+    moved
+}
+
+// The same a word at a time: the rows are moved, then, turned over, the bits.
+fn many_moved(rows: &[u32; 32], old: &[u16; 32], cells: usize) -> [u32; 32]
     requires { ⌜ (cells ≤ 32) × NamesCells cells (now old) ⌝ }
     ensures { λ r. ⌜ r ≡ movedRows (now (old .entry)) cells (now (rows .entry)) ⌝ }
 {
     let columns = square::turned(moved_words(rows, old, cells));
     square::turned(moved_words(&columns, old, cells))
+}
+
+// Rows of bits with rows and bits in new numbers: bit by bit up to 12 cells.
+pub fn moved_rows(rows: &[u32; 32], old: &[u16; 32], cells: usize) -> [u32; 32]
+    requires { ⌜ (cells ≤ 32) × NamesCells cells (now old) ⌝ }
+    ensures { λ r. ⌜ r ≡ movedRows (now (old .entry)) cells (now (rows .entry)) ⌝ }
+{
+    if 12 < cells {
+        return many_moved(rows, old, cells);
+    }
+    few_moved(rows, old, cells)
 }
 
 // Copies row a of one table to row b of another, byte for byte. Rows have `width` bytes.

@@ -2,16 +2,20 @@
 use mathlib.Core.Path.{_≡_, refl, sym, ap, _∙_}
 use mathlib.Core.Bool.{Bool, true, false, not, _&&_, _||_, or-false, or-assoc}
 use mathlib.Core.List.{List}
-use Prim.Native.Nat.{ℕ, zero, suc, _+_, _*_, _^_, _<_}
+use mathlib.Core.Logic.{⊎-elim}
+use Prim.Native.Nat.{ℕ, zero, suc, _+_, _*_, _/_, _%_, _^_, _≤_, _<_}
 use native.Mathlib.Omega.{arith}
-use lib.Bits.{bitOr}
-use lib.Dec.{eqb}
+use lib.Bits.{bitAnd, bitOr, or-add-and, and-le-l, and-le-r}
+use lib.Dec.{eqb, ltb}
 use lib.ListN.{getD}
+use lib.Pow.{pow-pos}
+use borrow.Author.Tests.{ltb-true, ltb-false}
 use Rattle.laws.specs.Bits.{bitAt}
 use Rattle.laws.specs.Choice.{pick}
 use Rattle.laws.specs.Sum.{any}
 use Rattle.laws.proofs.Any.{any-eq}
-use Rattle.laws.proofs.Bits.{either-some}
+use Rattle.laws.proofs.Bits.{bit-above, bit-past, either-some, none-left}
+use Rattle.laws.proofs.Choice.{cases}
 use Rattle.laws.proofs.Words.{word-bits, word-empty}
 use Rattle.positions.specs.Blocked.{blockedAt}
 use Rattle.positions.proofs.Counts.{blocked-at}
@@ -65,3 +69,31 @@ fours (suc (suc u)) h = absurd (omega arith)
 pub is-false : (t : Bool) → not t ≡ true → t ≡ false
 is-false true e = sym e
 is-false false e = refl
+
+-- ---- the positions at or past one
+
+-- none of the word's bits from n % 64 on, so no position from n to the word's end
+pub past-first : (set : List ℕ) (n w : ℕ) → w ≡ n / 64 → getD set w 0 / 2 ^ (n % 64) ≡ 0
+    → (k : ℕ) → n ≤ k → k < 64 * (w + 1) → blockedAt set k ≡ false
+past-first set n w e z k h l =
+    let d : k / 64 ≡ w = omega arith in
+    ap (λ (j : ℕ). bitAt (getD set j 0) (k % 64)) d
+    ∙ bit-past (getD set w 0) (k % 64) (n % 64) (none-left (getD set w 0) (n % 64) z) (omega arith)
+
+-- a word more
+both-none : (x y : ℕ) → bitOr x y ≡ 0 → (x ≡ 0) × (y ≡ 0)
+both-none x y e =
+    let s : bitOr x y + bitAnd x y ≡ x + y = or-add-and x y in
+    (omega (arith, and-le-l x y, and-le-r x y), omega (arith, and-le-l x y, and-le-r x y))
+
+pub past-more : (set : List ℕ) (n j all : ℕ) → (all ≡ 0 → (k : ℕ) → n ≤ k → k < 64 * j → blockedAt set k ≡ false)
+    → bitOr all (getD set j 0) ≡ 0 → (k : ℕ) → n ≤ k → k < 64 * (j + 1) → blockedAt set k ≡ false
+past-more set n j all before e k h l =
+    let z = both-none all (getD set j 0) e in
+    ⊎-elim (λ m. before (z .0) k h (ltb-true k (64 * j) m))
+    (λ m.
+    let g : 64 * j ≤ k = ltb-false k (64 * j) m in
+    let d : k / 64 ≡ j = omega arith in
+    ap (λ (i : ℕ). bitAt (getD set i 0) (k % 64)) d
+    ∙ ap (λ (x : ℕ). bitAt x (k % 64)) (z .1)
+    ∙ bit-above 0 (k % 64) (pow-pos (k % 64))) (cases (ltb k (64 * j)))

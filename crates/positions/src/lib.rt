@@ -1,7 +1,7 @@
 // A set of positions as 32 words of 64 bits: position k is bit k % 64 of word k / 64. Counted and searched a word at a time.
 ghost use mathlib.Core.Path.{_≡_};
-ghost use mathlib.Core.Bool.{not, _&&_};
-ghost use Prim.Native.Nat.{_+_, _^_, _≤_, _<_};
+ghost use mathlib.Core.Bool.{false, not, _&&_};
+ghost use Prim.Native.Nat.{ℕ, _+_, _^_, _≤_, _<_};
 ghost use lib.Dec.{eqb};
 ghost use lib.ListN.{length};
 ghost use Rattle.laws.specs.Bits.{bitAt};
@@ -107,6 +107,19 @@ fn joined(set: &[u64; 32]) -> u64
     all
 }
 
+// The positions at or past n, as words, joined: 0 only where the set has none of them. The loop has no branch.
+fn joined_past(set: &[u64; 32], n: usize) -> u64
+    requires { ⌜ n < mostPositions ⌝ }
+    ensures { λ r. ⌜ (r ≡ 0 → (k : ℕ) → n ≤ k → k < mostPositions → blockedAt (now (set .entry)) k ≡ false) ⌝ }
+{
+    let w = n / 64;
+    let mut all: u64 = set[w] >> (n % 64);
+    for j in w + 1..32 {
+        all = all | set[j];
+    }
+    all
+}
+
 // The search for the lowest position at or past n, a word at a time.
 fn search_past(set: &[u64; 32], n: usize) -> usize
     ensures { λ r. ⌜ r ≡ firstPast (now (set .entry)) n ⌝ }
@@ -130,6 +143,9 @@ pub fn first_past(set: &[u64; 32], n: usize) -> usize
         return n;
     }
     if joined(set) == 0 {
+        return MOST;
+    }
+    if joined_past(set, n) == 0 {
         return MOST;
     }
     search_past(set, n)

@@ -19,8 +19,7 @@ use Rattle.laws.specs.Choice.{pick}
 use Rattle.site.specs.Record.{upTo}
 use Rattle.site.proofs.Faults.{UpTo, up-to, up-to-is}
 use Rattle.reachpairs.specs.Pairs.{pairOk, place, mark, allZero}
-use Rattle.reachpairs.specs.Loop.{noRows}
-use Rattle.reachpairs.specs.declared.PairsRead.{PairsRead}
+use Rattle.reachpairs.specs.Loop.{PairsRead, noRows}
 use Rattle.records.specs.declared.ReadAnswer.the-variants.{Done, Refused}
 use Rattle.records.proofs.Laws.{drop-two}
 use Rattle.laws.proofs.Choice.{both}

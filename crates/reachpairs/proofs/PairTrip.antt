@@ -13,13 +13,12 @@ use lib.Pow.{pow-pos}
 use borrow.Author.Tests.{eq-eqb, ne-eqb, le-leb, leb-true}
 use Rattle.laws.specs.Choice.{pick}
 use Rattle.reachpairs.specs.Pairs.{pairOk, place, mark, pairOf, pairsFrom, allZero, pairBytes}
-use Rattle.reachpairs.specs.Loop.{noRows}
+use Rattle.reachpairs.specs.Loop.{PairsRead, noRows}
 use Rattle.reachpairs.proofs.PairLaws.{High, high-none, high-mark, pair-ok, PairOk, readPairs}
 use Rattle.reachpairs.proofs.RowLaws.{pair-set, pair-clear}
 use Rattle.reachpairs.proofs.Rows.{digitIn, Rows, rows-ext, mark-same, mark-other, mark-rows, high-zero}
 use Rattle.records.specs.declared.ReadAnswer.{ReadAnswer}
 use Rattle.records.specs.declared.ReadAnswer.the-variants.{Done, Refused}
-use Rattle.reachpairs.specs.declared.PairsRead.{PairsRead}
 
 abbrev pub rowsRead : List ℕ → PairsRead
 rowsRead rows = record { reach = rows; answer = Done }

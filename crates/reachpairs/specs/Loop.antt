@@ -7,9 +7,12 @@ use Rattle.records.specs.declared.ReadAnswer.{ReadAnswer}
 use Rattle.records.specs.declared.ReadAnswer.the-variants.{Done, Refused}
 use Rattle.reachpairs.specs.Pairs.{allZero, reachOfBody, pairOf}
 use Rattle.reachpairs.specs.Reasons.{pairReasons, reachReasons}
-use Rattle.reachpairs.specs.declared.PairsRead.{PairsRead}
 
--- what the reader of the last record answers: its rows, or none beside a refusal
+-- what the reader of the last record leaves and answers: its rows, or none beside a refusal
+pub record PairsRead : Type 0 where
+  pub reach : List ℕ
+  pub answer : ReadAnswer
+
 abbrev pub noRows : ReadAnswer → PairsRead
 noRows answer = record { reach = allZero; answer = answer }
 

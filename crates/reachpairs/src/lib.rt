@@ -12,14 +12,8 @@ ghost use Prim.Native.Nat.{_+_, _*_, _≤_, _<_};
 ghost use lib.ListN.{length};
 ghost use lib.Seq.{sets};
 ghost use Rattle.laws.specs.Bits.{setBit};
-ghost use Rattle.reachpairs.specs.Pairs.{pairOk, place, pairBytes};
-ghost use Rattle.reachpairs.specs.Loop.{noRows, pairsRead, reachRead, rowFrom};
-
-// The reach rows of a kind 3 record; or none beside the refusal.
-pub struct PairsRead {
-    pub reach: [u32; 32],
-    pub answer: ReadAnswer,
-}
+ghost use Rattle.reachpairs.specs.Pairs.{pairOk, place, allZero, pairBytes};
+ghost use Rattle.reachpairs.specs.Loop.{pairsRead, reachRead, rowFrom};
 
 // Whether a pair names two different cells of the site.
 fn pair_ok(cells: u16, f: u8, t: u8) -> bool
@@ -51,22 +45,22 @@ fn raised(row: u32, b: usize) -> u32
     row | (1 << b)
 }
 
-// A refusal, and no rows.
-fn no_rows(answer: ReadAnswer) -> PairsRead
-    ensures { λ r. ⌜ r ≡ noRows answer ⌝ }
+// No rows: they are what stands beside a refusal.
+fn no_rows(reach: &mut [u32; 32])
+    requires { ⌜ length (now reach) ≡ 32 ⌝ }
+    ensures { λ _. ⌜ now (reach .exit) ≡ allZero ⌝ }
 {
-    PairsRead {
-        reach: [0u32; 32],
-        answer,
+    for a in 0..32 {
+        reach[a] = 0;
     }
 }
 
-// The reach rows of a kind 3 body: each pair 3, then 11, at the record's offset.
-fn pairs_of(body: &[u8], cells: u16, at: usize) -> PairsRead
-    requires { ⌜ cells ≤ 32 ⌝ }
-    ensures { λ r. ⌜ r ≡ pairsRead cells at (now (body .entry)) ⌝ }
+// The reach rows of a kind 3 body, laid into rows of zeros: each pair 3, then 11, at the record's offset.
+fn pairs_of(body: &[u8], cells: u16, at: usize, reach: &mut [u32; 32]) -> ReadAnswer
+    requires { ⌜ (cells ≤ 32) × (now reach ≡ allZero) ⌝ }
+    ensures answer { λ r. ⌜ r ≡ pairsRead cells at (now (body .entry)) .answer ⌝ }
+    ensures rows { λ _. ⌜ now (reach .exit) ≡ pairsRead cells at (now (body .entry)) .reach ⌝ }
 {
-    let mut reach = [0u32; 32];
     let mut next: usize = 0;
     let n = body.len() / 2;
     let mut i = 0;
@@ -75,11 +69,13 @@ fn pairs_of(body: &[u8], cells: u16, at: usize) -> PairsRead
         let t = body[2 * i + 1];
         let ok = pair_ok(cells, f, t);
         if !ok {
-            return no_rows(ReadAnswer::Refused(3, at));
+            no_rows(reach);
+            return ReadAnswer::Refused(3, at);
         }
         let q = place_of(f, t);
         if q < next {
-            return no_rows(ReadAnswer::Refused(11, at));
+            no_rows(reach);
+            return ReadAnswer::Refused(11, at);
         }
         let a = q / 32;
         let row = raised(reach[a], q % 32);
@@ -87,23 +83,21 @@ fn pairs_of(body: &[u8], cells: u16, at: usize) -> PairsRead
         next = q + 1;
         i += 1;
     }
-    PairsRead {
-        reach,
-        answer: ReadAnswer::Done,
-    }
+    ReadAnswer::Done
 }
 
-// Kind 3, due at `at`.
-pub fn read_reach(s: &[u8], at: usize, cells: u16) -> PairsRead
-    requires { ⌜ cells ≤ 32 ⌝ }
-    ensures { λ r. ⌜ r ≡ reachRead (now (s .entry)) at cells ⌝ }
+// Kind 3, due at `at`: its rows, laid into rows of zeros; or none beside the refusal.
+pub fn read_reach(s: &[u8], at: usize, cells: u16, reach: &mut [u32; 32]) -> ReadAnswer
+    requires { ⌜ (cells ≤ 32) × (now reach ≡ allZero) ⌝ }
+    ensures answer { λ r. ⌜ r ≡ reachRead (now (s .entry)) at cells .answer ⌝ }
+    ensures rows { λ _. ⌜ now (reach .exit) ≡ reachRead (now (s .entry)) at cells .reach ⌝ }
 {
     let o = open(s, at, 3, Length::Pairs);
     let Opened::Body(start, len) = o else {
-        return no_rows(opened_answer(o));
+        return opened_answer(o);
     };
     let end = start + len;
-    pairs_of(&s[start..end], cells, at)
+    pairs_of(&s[start..end], cells, at, reach)
 }
 
 // How many bytes the pairs of one row take: two for each bit.

@@ -1,12 +1,12 @@
 -- A clash row as the code makes it: the cells that a reaches, joined with the word of those that reach it, and under rule 2 of those that reach a third cell
 -- with it. Two rows, each without its own cell, share a bit exactly where some third cell is reached by both. Assumes nothing.
-use Prim.Native.Nat.{ℕ, _<_, _^_}
+use Prim.Native.Nat.{ℕ, _+_, _*_, _/_, _%_, _<_, _^_}
 use native.Mathlib.Omega.{arith}
 use mathlib.Core.Bool.{Bool, true, false, not, _||_, _&&_, or-false}
 use mathlib.Core.List.{List}
 use mathlib.Core.Path.{_≡_, refl, sym, ap, ap₂, _∙_}
 use borrow.Author.Tests.{eq-eqb, ne-eqb}
-use lib.Bits.{bitAnd}
+use lib.Bits.{bitAnd, bitOr}
 use lib.Dec.{eqb}
 use lib.ListN.{getD, replicate}
 use lib.Seq.{sets}
@@ -14,10 +14,12 @@ use Rattle.laws.specs.Bits.{bitAt, bitIn, wordOf, clearBit}
 use Rattle.laws.specs.Part.{listOf}
 use Rattle.laws.specs.Sum.{any}
 use Rattle.laws.proofs.Any.{any-eq}
-use Rattle.laws.proofs.Bits.{bit-clear}
+use Rattle.laws.proofs.Bits.{bit-clear, bit-either}
 use Rattle.laws.proofs.Choice.{eqb-sym}
 use Rattle.laws.proofs.Stores.{sets-at}
-use Rattle.laws.proofs.Words.{word-eq, word-bits, shares-any}
+use Rattle.laws.proofs.Words.{word-eq, word-bit, word-bits, shares-any}
+use Rattle.square.specs.Turned.{turnedFours}
+use Rattle.square.proofs.Fours.{fours-row}
 use Rattle.reachrows.specs.Rows.{reaches, reachedByBoth, clashIn}
 
 pub row-rule : (rule : ℕ) (reach : List ℕ) (reached cells a : ℕ)
@@ -32,6 +34,15 @@ row-rule rule reach reached cells a other =
 pub row-one : (reach : List ℕ) (reached cells a : ℕ) → ((b : ℕ) → b < cells → bitAt reached b ≡ bitIn reach b a)
     → wordOf (λ b. not (eqb b a) && (bitIn reach a b || bitAt reached b)) cells ≡ wordOf (clashIn 1 reach a) cells
 row-one reach reached cells a column = row-rule 1 reach reached cells a (λ b m. column b m ∙ sym (or-false (bitIn reach b a)))
+
+-- a column as a row of a turned word of four
+pub four-column : (reach fours : List ℕ) (column a b : ℕ) → a < 16 → b < 16
+    → fours ≡ turnedFours reach → column ≡ wordOf (λ k. bitAt (getD fours (a / 4) 0) (16 * (a % 4) + k)) 16 → bitAt column b ≡ bitIn reach b a
+four-column reach fours column a b h g t e =
+    ap (λ (x : ℕ). bitAt x b) e
+    ∙ word-bit (λ k. bitAt (getD fours (a / 4) 0) (16 * (a % 4) + k)) 16 b g
+    ∙ ap (λ (l : List ℕ). bitIn l (a / 4) (16 * (a % 4) + b)) t
+    ∙ fours-row reach a b h g
 
 -- ---- rule 2
 
@@ -70,6 +81,14 @@ pair-third reach a b =
     (λ c h.
     ap₂ _&&_ (bit-clear (getD reach a 0) a c) (bit-clear (getD reach b 0) b c)
     ∙ shuffle (not (eqb c a)) (not (eqb c b)) (bitIn reach a c) (bitIn reach b c))
+
+-- a word of those that reach a, joined with the word of those that reach a third cell with it
+pub with-thirds : (reach : List ℕ) (column thirds cells a b : ℕ) → b < cells
+    → bitAt column b ≡ bitIn reach b a → thirds ≡ wordOf (reachedByBoth reach a) cells
+    → bitAt (bitOr column thirds) b ≡ (bitIn reach b a || reachedByBoth reach a b)
+with-thirds reach column thirds cells a b l c t =
+    bit-either column thirds b
+    ∙ ap₂ _||_ c (ap (λ (x : ℕ). bitAt x b) t ∙ word-bit (reachedByBoth reach a) cells b l)
 
 -- a number of 32 bits and a row: what the code asks, and whether some bit is in both
 pub shared : (x row : ℕ) → x < 2 ^ 32 → not (eqb (bitAnd x row) 0) ≡ any (λ c. bitAt x c && bitAt row c) 32

@@ -10,7 +10,7 @@ ghost use Rattle.laws.specs.Bits.{bitAt, bitIn, wordOf, setBit, clearBit};
 ghost use Rattle.laws.specs.Part.{listOf};
 ghost use Rattle.laws.specs.Search.{first};
 ghost use Rattle.laws.specs.Sum.{any};
-ghost use Rattle.reachrows.specs.Rows.{rowBad, clashIn};
+ghost use Rattle.reachrows.specs.Rows.{rowBad, reachedByBoth, clashIn};
 
 // Whether the reach row x of the cell at index k is at fault, on a site with n cells.
 fn row_bad(n: usize, x: u32, k: usize) -> bool
@@ -143,8 +143,21 @@ pub fn few_rows(reach: &[u32; 32], cells: usize) -> [u32; 32]
     rows
 }
 
+// The same of up to 16 cells: their columns are turned over four to a word.
+fn some_rows(reach: &[u32; 32], cells: usize) -> [u32; 32]
+    requires { ⌜ cells ≤ 16 ⌝ }
+    ensures { λ r. ⌜ r ≡ sets (replicate 32 0) 0 (listOf (λ a. wordOf (clashIn 1 (now (reach .entry)) a) cells) cells) ⌝ }
+{
+    let fours = square::turned_fours(reach);
+    let mut rows = [0u32; 32];
+    for a in 0..cells {
+        rows[a] = clash_row(reach[a], square::row_in(fours[a / 4], a % 4), a, cells);
+    }
+    rows
+}
+
 // The same by all columns at once.
-pub fn many_rows(reach: [u32; 32], cells: usize) -> [u32; 32]
+fn all_rows(reach: [u32; 32], cells: usize) -> [u32; 32]
     requires { ⌜ cells ≤ 32 ⌝ }
     ensures { λ r. ⌜ r ≡ sets (replicate 32 0) 0 (listOf (λ a. wordOf (clashIn 1 reach a) cells) cells) ⌝ }
 {
@@ -154,6 +167,17 @@ pub fn many_rows(reach: [u32; 32], cells: usize) -> [u32; 32]
         rows[a] = clash_row(reach[a], columns[a], a, cells);
     }
     rows
+}
+
+// The same by the columns of 16 cells, or of all.
+pub fn many_rows(reach: [u32; 32], cells: usize) -> [u32; 32]
+    requires { ⌜ cells ≤ 32 ⌝ }
+    ensures { λ r. ⌜ r ≡ sets (replicate 32 0) 0 (listOf (λ a. wordOf (clashIn 1 reach a) cells) cells) ⌝ }
+{
+    if 16 < cells {
+        return all_rows(reach, cells);
+    }
+    some_rows(&reach, cells)
 }
 
 // The rows, each without its own cell.
@@ -178,8 +202,55 @@ fn sharing(rows: &[u32; 32], x: u32) -> u32
     word
 }
 
-// The clash rows of so many cells under rule 2, over zeros. Two cells reach a third where their rows, each without its own cell, share a bit.
-pub fn third_rows(reach: [u32; 32], cells: usize) -> [u32; 32]
+// The word of the cells, of so many, that reach a third cell with the cell at index a.
+fn with_third(rows: &[u32; 32], n: usize, a: usize) -> u32
+    requires { ⌜ (n ≤ 32) × (a < 32) ⌝ }
+    ensures { λ r. ⌜ r ≡ wordOf (reachedByBoth (now (rows .entry)) a) n ⌝ }
+{
+    let mut word: u32 = 0;
+    for b in 0..n {
+        word = joined(word, share_third(rows[a], rows[b], a, b), b);
+    }
+    word
+}
+
+// The clash rows of so many cells under rule 2, over zeros, each from the rows of these cells alone: quicker where the cells are few.
+fn few_thirds(reach: &[u32; 32], cells: usize) -> [u32; 32]
+    requires { ⌜ cells ≤ 32 ⌝ }
+    ensures { λ r. ⌜ r ≡ sets (replicate 32 0) 0 (listOf (λ a. wordOf (clashIn 2 (now (reach .entry)) a) cells) cells) ⌝ }
+{
+    let mut rows = [0u32; 32];
+    for a in 0..cells {
+        rows[a] = clash_row(
+            reach[a],
+            column(reach, cells, a) | with_third(reach, cells, a),
+            a,
+            cells,
+        );
+    }
+    rows
+}
+
+// The same of up to 16 cells, with their columns turned over four to a word.
+fn some_thirds(reach: &[u32; 32], cells: usize) -> [u32; 32]
+    requires { ⌜ cells ≤ 16 ⌝ }
+    ensures { λ r. ⌜ r ≡ sets (replicate 32 0) 0 (listOf (λ a. wordOf (clashIn 2 (now (reach .entry)) a) cells) cells) ⌝ }
+{
+    let fours = square::turned_fours(reach);
+    let mut rows = [0u32; 32];
+    for a in 0..cells {
+        rows[a] = clash_row(
+            reach[a],
+            square::row_in(fours[a / 4], a % 4) | with_third(reach, cells, a),
+            a,
+            cells,
+        );
+    }
+    rows
+}
+
+// The same, all rows at once. Two cells reach a third where their rows, each without its own cell, share a bit.
+fn many_thirds(reach: [u32; 32], cells: usize) -> [u32; 32]
     requires { ⌜ cells ≤ 32 ⌝ }
     ensures { λ r. ⌜ r ≡ sets (replicate 32 0) 0 (listOf (λ a. wordOf (clashIn 2 reach a) cells) cells) ⌝ }
 {
@@ -191,6 +262,20 @@ pub fn third_rows(reach: [u32; 32], cells: usize) -> [u32; 32]
         rows[a] = clash_row(reach[a], columns[a] | sharing(&thirds, own), a, cells);
     }
     rows
+}
+
+// The clash rows of so many cells under rule 2, over zeros: of few cells, of up to 16, or of all.
+pub fn third_rows(reach: [u32; 32], cells: usize) -> [u32; 32]
+    requires { ⌜ cells ≤ 32 ⌝ }
+    ensures { λ r. ⌜ r ≡ sets (replicate 32 0) 0 (listOf (λ a. wordOf (clashIn 2 reach a) cells) cells) ⌝ }
+{
+    if 16 < cells {
+        return many_thirds(reach, cells);
+    }
+    if 8 < cells {
+        return some_thirds(&reach, cells);
+    }
+    few_thirds(&reach, cells)
 }
 
 // Whether two rows, each without its own cell, share a bit: some third cell is reached by both.

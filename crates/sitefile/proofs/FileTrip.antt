@@ -34,7 +34,7 @@ use Rattle.site.proofs.Faults.{Sizes, sizes, few-positions, ruled}
 use Rattle.sitehead.specs.Head.{ruleOfHead, siteHeadAnswer, siteHead, headKind, headBody}
 use Rattle.reachpairs.specs.Reasons.{pairReasons, reachReasons}
 use Rattle.reachpairs.specs.Pairs.{allZero, reachOfBody, pairBytes}
-use Rattle.reachpairs.specs.Loop.{pairsReadOf, pairsRead}
+use Rattle.reachpairs.specs.Loop.{PairsRead, pairsReadOf, pairsRead}
 use Rattle.blockbits.specs.Blocks.{blockedOfBody, blockBytes, nothingIn, blockRecord}
 use Rattle.blockbits.specs.Reasons.{blockReasons, lastReasons, blockedOr}
 use Rattle.blockbits.specs.Loop.{blocksRead}
@@ -51,7 +51,6 @@ use Rattle.blockbits.proofs.Blocks.{SetHeld, zeros-at, nothing-empty, empty-hel
 use Rattle.blockbits.proofs.Blocks.{block-none, block-some}
 use Rattle.blockbits.proofs.ReadLaws.{last-none, blocks-told, blocks-given, blocks-done, body-long}
 use Rattle.sitefile.proofs.Reasons.{site-parts}
-use Rattle.reachpairs.specs.declared.PairsRead.{PairsRead}
 use Rattle.blockbits.specs.declared.BlocksRead.{BlocksRead}
 
 -- a site whose record is in order

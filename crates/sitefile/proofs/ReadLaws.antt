@@ -14,7 +14,7 @@ use Rattle.records.proofs.Reasons.{andThen, both-done}
 use Rattle.sitehead.specs.Head.{siteHeadAnswer}
 use Rattle.reachpairs.specs.Reasons.{reachReasons}
 use Rattle.reachpairs.specs.Pairs.{reachOfBody}
-use Rattle.reachpairs.specs.Loop.{reachRead}
+use Rattle.reachpairs.specs.Loop.{PairsRead, reachRead}
 use Rattle.blockbits.specs.Reasons.{lastReasons}
 use Rattle.blockbits.specs.Loop.{blocksRead}
 use Rattle.sitefile.specs.Reasons.{loadsAt, reachAt, lastAt, positionsOfHead, loadsReasons}
@@ -22,7 +22,6 @@ use Rattle.sitefile.specs.Read.{siteAnswer}
 use Rattle.reachpairs.proofs.ReadLaws.{reach-parts, pairs-answer, pairs-rows}
 use Rattle.blockbits.proofs.ReadLaws.{blocks-told}
 use Rattle.sitefile.proofs.Reasons.{site-parts}
-use Rattle.reachpairs.specs.declared.PairsRead.{PairsRead}
 use Rattle.blockbits.specs.declared.BlocksRead.{BlocksRead}
 
 -- the whole file

@@ -69,9 +69,8 @@ fn read_rest(bytes: &[u8], at: usize, cells: u16, loads: [u16; 32]) -> SiteRead
     requires { ⌜ LoadsRead (now bytes) at cells loads ⌝ }
     ensures { λ r. ⌜ r ≡ readSite (now (bytes .entry)) ⌝ }
 {
-    let read = read_reach(bytes, at, cells);
-    let reach = read.reach;
-    let first = read.answer;
+    let mut reach = [0u32; 32];
+    let first = read_reach(bytes, at, cells, &mut reach);
     let ReadAnswer::Done = first else {
         return refused(first);
     };

@@ -1,3 +1,4 @@
 -- The laws of crate `square`, module by module.
 pub mod Square
 pub mod Stages
+pub mod Fours

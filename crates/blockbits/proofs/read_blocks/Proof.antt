@@ -124,7 +124,9 @@ part-set-of-end : tie.Need-part-set-of-end
 part-set-of-end c = within _ _ _ _ _ _ (opening (c .before .before .before))
 
 set-of-requires : tie.Need-set-of-requires
-set-of-requires c κs = search needs
+set-of-requires c κs =
+    let k = c .before .before .before .before in
+    omega (arith, ap length (body-is _ _ _ _ _ _ (opening k)) ∙ body-long _ _ _ _ _ (opening k), at-told k .pre)
 
 -- what was read, and whether nothing is in it
 set : (c : tie.After-set-of) → let a = at-set c .args in c .set-of .result ≡ blockedOfBody (bodyAt (now (a .s)) (a .at))

@@ -1,22 +1,26 @@
--- `blockbits::set_of` meets its contract: before word j, the words below it are stored. Assumes nothing.
-use Prim.Native.Nat.{ℕ, _-_, _≤_}
-use mathlib.Core.Path.{_≡_, ap, _∙_}
+-- `blockbits::set_of` meets its contract: before word j, the words below it are stored, and those past the body are 0. Assumes nothing.
+use Prim.Native.Nat.{_-_, _≤_}
+use mathlib.Core.Path.{_≡_, _∙_}
 use native.Mathlib.Omega.{arith}
 use lib.Seq.{sets}
 use denote.Ref.{now}
 use Rattle.laws.specs.Part.{listOf}
-use Rattle.laws.proofs.Stores.{sets-none, sets-more, sets-all, length-list}
+use Rattle.laws.proofs.Stores.{sets-none, sets-more, sets-zeros}
 use Rattle.positions.specs.Blocked.{emptySet, wordIn}
 use Rattle.blockbits.specs.Blocks.{bitStated, blockedOfBody}
+use Rattle.blockbits.proofs.Blocks.{past-body}
 use borrow.Author.Needs.{needs}
 use Rattle.blockbits.proofs.set_of.Statement.{statement}
 use Rattle.blockbits.proofs.set_of.Tie as tie
 
 abbrev Inv-loop : tie.InvT-loop
-Inv-loop body set₀ j₀ set j = (j ≤ 32) × (set ≡ sets emptySet 0 (listOf (wordIn (bitStated body)) j))
+Inv-loop body set₀ words j₀ set j = (j ≤ words) × (set ≡ sets emptySet 0 (listOf (wordIn (bitStated body)) j))
 
 abbrev μ-loop : tie.MeasureT-loop
-μ-loop body set₀ j₀ set j = 32 - j
+μ-loop body set₀ words j₀ set j = words - j
+
+add-words : tie.Need-add-words Inv-loop μ-loop
+add-words c = omega arith
 
 loop-holds : tie.Need-loop-holds Inv-loop μ-loop
 loop-holds c = (omega arith, sets-none _ _)
@@ -46,9 +50,8 @@ returns : tie.Need-returns Inv-loop μ-loop
 unfolding blockedOfBody
 returns c =
     let l = c .before .loop in
-    let f = wordIn (bitStated (now (c .before .before .before .args .body))) in
-    let e : l .j ≡ 32 = omega arith in
-    l .inv .1 ∙ ap (λ (n : ℕ). sets emptySet 0 (listOf f n)) e ∙ sets-all (listOf f 32) emptySet (length-list f 32)
+    let body = now (c .before .before .before .args .body) in
+    l .inv .1 ∙ sets-zeros (wordIn (bitStated body)) (l .j) 32 (omega arith) (λ j h _. past-body body j (omega arith))
 
 pub set-of-spec : {M : Type 1} → statement M
 set-of-spec =
@@ -56,6 +59,7 @@ set-of-spec =
     (tie.spec
     Inv-loop
     μ-loop
+    add-words
     loop-holds
     word-of-requires
     mul-set

@@ -8,7 +8,7 @@ use Rattle.records.specs.Reasons.{firstReason, recordReasons}
 use Rattle.records.specs.declared.Length.the-variants.{Pairs}
 use Rattle.records.specs.declared.ReadAnswer.the-variants.{Done}
 use Rattle.records.proofs.Laws.{Opening, opened, opened-done, not-opened, within, body-is}
-use Rattle.reachpairs.specs.Loop.{noRows, pairsRead}
+use Rattle.reachpairs.specs.Loop.{PairsRead, pairsRead}
 use Rattle.reachpairs.proofs.ReadLaws.{reach-stop, reach-pairs}
 use Rattle.reachpairs.proofs.read_reach.Statement.{statement}
 use Rattle.reachpairs.proofs.read_reach.Tie as tie
@@ -25,17 +25,13 @@ enum-told c = search needs
 opened-answer-requires : tie.Need-opened-answer-requires
 opened-answer-requires c κs = search needs
 
-no-rows-requires : tie.Need-no-rows-requires
-no-rows-requires c κs = search needs
-
 returns : tie.Need-returns
 returns c =
-    let t = c .before .before in
+    let t = c .before in
     let o = t .before .before in
     let e = t .enum-told .given .1 in
-    c .no-rows .ensures
-    ∙ ap noRows (c .before .opened-answer .ensures ∙ ap openAnswer e)
-    ∙ reach-stop _ _ _ _ _ (not-opened _ _ 3 Pairs _ _ (sym (o .open .ensures) ∙ e))
+    let r = reach-stop _ _ _ _ _ (not-opened _ _ 3 Pairs _ _ (sym (o .open .ensures) ∙ e)) in
+    (c .opened-answer .ensures ∙ ap openAnswer e ∙ ap (λ (x : PairsRead). x .answer) r, o .before .before .pre .1 ∙ ap (λ (x : PairsRead). x .reach) r)
 
 -- what the opener found
 opening : (c : tie.After-known-told) → Opening (now (c .before .before .before .before .before .args .s)) (c .before .before .before .before .before .args .at)
@@ -64,9 +60,10 @@ pairs-of-requires c κs = search needs
 
 returns-2 : tie.Need-returns-2
 returns-2 c =
-    let k = c .before .before in
+    let k = c .before .before .before in
     let a = k .before .before .before .before .before .args in
-    c .pairs-of .ensures ∙ ap (pairsRead (a .cells) (a .at)) (body-is _ _ _ _ _ _ (opening k)) ∙ reach-pairs _ _ _ (found k)
+    let r = ap (pairsRead (a .cells) (a .at)) (body-is _ _ _ _ _ _ (opening k)) ∙ reach-pairs _ _ _ (found k) in
+    (c .pairs-of .ensures .0 ∙ ap (λ (x : PairsRead). x .answer) r, c .pairs-of .ensures .1 ∙ ap (λ (x : PairsRead). x .reach) r)
 
 pub read-reach-spec : {M : Type 1} → statement M
 read-reach-spec =
@@ -76,7 +73,6 @@ read-reach-spec =
     enum-known-o
     enum-told
     opened-answer-requires
-    no-rows-requires
     returns
     add-end
     sub-pairs-of

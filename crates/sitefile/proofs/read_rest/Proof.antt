@@ -1,6 +1,6 @@
 -- `sitefile::read_rest` meets its contract: kind 3 and then kind 6 decide the answer, and the site is what the bodies state. Assumes nothing.
 use Prim.Native.Nat.{ℕ, _+_, _-_, _*_, _≤_}
-use mathlib.Core.Path.{_≡_, ap, _∙_}
+use mathlib.Core.Path.{_≡_, refl, sym, ap, _∙_}
 use mathlib.Core.List.{List}
 use native.Mathlib.Omega.{arith}
 use denote.Ref.{now}
@@ -9,7 +9,10 @@ use Rattle.records.specs.Bytes.{le16}
 use Rattle.records.specs.Head.{cellsOfHead}
 use Rattle.records.specs.declared.Length.the-variants.{Pairs}
 use Rattle.records.proofs.Laws.{Opening}
-use Rattle.reachpairs.specs.Loop.{reachRead}
+use Rattle.reachpairs.specs.Loop.{PairsRead, reachRead}
+use Rattle.reachpairs.specs.Pairs.{reachOfBody}
+use Rattle.records.specs.Layout.{bodyAt}
+use Rattle.records.specs.declared.ReadAnswer.the-variants.{Done}
 use Rattle.blockbits.specs.Loop.{blocksRead}
 use Rattle.sitefile.specs.Reasons.{reachAt, lastAt, positionsOfHead}
 use Rattle.sitefile.specs.Read.{refusedSite, siteOfFile, siteAnswer}
@@ -24,14 +27,24 @@ use borrow.Author.Needs.{needs}
 use Rattle.sitefile.proofs.read_rest.Statement.{statement}
 use Rattle.sitefile.proofs.read_rest.Tie as tie
 
--- what kind 3 gave
-rows : (c : tie.After-read-reach) → let s = now (c .before .before .args .bytes) in c .read-reach .result ≡ reachRead s (reachAt s) (cellsOfHead s)
-rows c =
-    let g = c .before .before .pre in
-    c .read-reach .ensures ∙ (λ j. reachRead (now (c .before .before .args .bytes)) (g .place j) (g .cells-are j))
+-- what kind 3 gives, and that it was given
+abbrev Rows : List ℕ → PairsRead
+Rows s = reachRead s (reachAt s) (cellsOfHead s)
+
+module _ (c : tie.After-read-reach) where
+  abbrev B : List ℕ
+  B = now (c .before .before .before .args .bytes)
+
+  abbrev G : LoadsRead B (c .before .before .before .args .at) (c .before .before .before .args .cells) (c .before .before .before .args .loads)
+  G = c .before .before .before .pre
+
+  said : c .read-reach .result ≡ Rows B .answer
+  said = c .read-reach .ensures .0 ∙ (λ j. reachRead B (G .place j) (G .cells-are j) .answer)
 
 read-reach-requires : tie.Need-read-reach-requires
-read-reach-requires c κs = omega (arith, c .before .pre .cells-are, site-head-sizes _ (c .before .pre .head) .cells-most)
+read-reach-requires c κs =
+    let g = c .before .before .pre in
+    (omega (arith, g .cells-are, site-head-sizes _ (g .head) .cells-most), refl)
 
 enum-told : tie.Need-enum-told
 enum-told c = search needs
@@ -45,10 +58,9 @@ refused-requires c κs = search needs
 returns : tie.Need-returns
 returns c =
     let t = c .before in
-    let p = t .before .before .before in
-    let g = p .before .before .pre in
+    let p = t .before .before in
     let e = t .enum-told2 .given .1 in
-    c .refused .ensures ∙ ap refusedSite e ∙ refuse _ _ _ (rows-stop _ (g .head) (g .found) _ (rows p) _ _ e)
+    c .refused .ensures ∙ ap refusedSite e ∙ refuse _ _ _ (rows-stop (B p) (G p .head) (G p .found) (Rows (B p)) refl _ _ (sym (said p) ∙ e))
 
 -- past kind 3
 module _ (c : tie.After-enum-told) where
@@ -59,8 +71,17 @@ module _ (c : tie.After-enum-told) where
       (c .before .before .before .before .before .args .loads)
   given = c .before .before .before .before .before .pre
 
+  done : Rows S .answer ≡ Done
+  done = sym (said (c .before .before)) ∙ c .enum-told .given .1
+
   opening : Opening S (reachAt S) 3 Pairs (reachAt S + 4) (le16 S (reachAt S) - 2)
-  opening = reach-open S (given .head) (given .found) _ (rows (c .before .before .before)) (c .enum-told .given .1)
+  opening = reach-open S (given .head) (given .found) (Rows S) refl done
+
+  -- the rows that it states
+  stated :
+      reachRead S (c .before .before .before .before .before .args .at) (c .before .before .before .before .before .args .cells) .reach
+      ≡ reachOfBody (bodyAt S (reachAt S))
+  stated = (λ j. reachRead S (given .place j) (given .cells-are j) .reach) ∙ rows-are S (given .head) (given .found) (Rows S) refl done
 
 two-bytes-requires : tie.Need-two-bytes-requires
 two-bytes-requires c κs = omega (arith, site-head-read _ (given c .head) .long)
@@ -116,7 +137,7 @@ last c = c .read-blocks .ensures ∙ (λ j. blocksRead (T (c .before)) (end-is (
 told : (c : tie.After-read-blocks) → siteAnswer (T (c .before)) ≡ c .read-blocks .result .answer
 told c =
     let k = c .before .before .before .before in
-    site-is _ (given k .head) (given k .found) _ (rows (k .before .before .before)) (k .enum-told .given .1) (c .read-blocks .result) (last c)
+    site-is (S k) (given k .head) (given k .found) (Rows (S k)) refl (done k) (c .read-blocks .result) (last c)
 
 enum-told-3 : tie.Need-enum-told-3
 enum-told-3 c = search needs
@@ -149,7 +170,7 @@ returns-3 c =
     let e = t .enum-told3 .given .1 in
     (λ j. record {
       site = siteOf (g .cells-are j) (q .before .before .before .two-bytes .ensures j) (q .before .before .two-bytes2 .ensures j) (g .loads-are j)
-          (rows-are _ (g .head) (g .found) _ (rows (k .before .before .before)) (k .enum-told .given .1) j)
+          ((k .before .before .read-reach .ensures .1 ∙ stated k) j)
           (blocks-given _ _ _ (q .read-blocks .result) (last q) e j)
           (c .before .rule-of .ensures j);
       answer = e j;

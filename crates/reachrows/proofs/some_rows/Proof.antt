@@ -1,31 +1,30 @@
--- `reachrows::many_rows` meets its contract: before cell a, the rows of the cells below a are stored, each by the rule and its turned row. Assumes nothing.
-use mathlib.Core.Path.{_≡_, refl, ap, _∙_}
+-- `reachrows::some_rows` meets its contract: before cell a, the rows of the cells below a are stored, each by the rule and its column. Assumes nothing.
+use mathlib.Core.Path.{_≡_, refl, _∙_}
 use mathlib.Core.List.{List}
 use Prim.Native.Nat.{ℕ, _-_, _≤_}
 use native.Mathlib.Omega.{arith}
-use lib.ListN.{length, getD, length-set}
+use lib.ListN.{length, length-set}
 use lib.Seq.{sets}
-use Rattle.laws.specs.Bits.{bitIn, wordOf}
+use Rattle.laws.specs.Bits.{wordOf}
 use Rattle.laws.specs.Part.{listOf}
 use Rattle.laws.proofs.Stores.{sets-none, sets-more}
 use Rattle.reachrows.specs.Rows.{clashIn}
-use Rattle.square.proofs.Square.{turned-bit}
-use Rattle.reachrows.proofs.Rule.{row-one}
+use Rattle.reachrows.proofs.Rule.{row-one, four-column}
 use borrow.Author.Needs.{needs}
-use Rattle.reachrows.proofs.many_rows.Statement.{statement}
-use Rattle.reachrows.proofs.many_rows.Tie as tie
+use Rattle.reachrows.proofs.some_rows.Statement.{statement}
+use Rattle.reachrows.proofs.some_rows.Tie as tie
 
 abbrev rowIn : List ℕ → ℕ → ℕ → ℕ
 rowIn reach cells a = wordOf (clashIn 1 reach a) cells
 
 abbrev Inv-loop : tie.InvT-loop
-Inv-loop cells reach columns rows₀ a₀ rows a = (a ≤ cells) × (length rows ≡ 32) × (rows ≡ sets rows₀ 0 (listOf (rowIn reach cells) a))
+Inv-loop reach cells fours rows₀ a₀ rows a = (a ≤ cells) × (length rows ≡ 32) × (rows ≡ sets rows₀ 0 (listOf (rowIn reach cells) a))
 
 abbrev μ-loop : tie.MeasureT-loop
-μ-loop cells reach columns rows₀ a₀ rows a = cells - a
+μ-loop reach cells fours rows₀ a₀ rows a = cells - a
 
-turned-requires : tie.Need-turned-requires Inv-loop μ-loop
-turned-requires c κs = search needs
+turned-fours-requires : tie.Need-turned-fours-requires Inv-loop μ-loop
+turned-fours-requires c κs = search needs
 
 loop-holds : tie.Need-loop-holds Inv-loop μ-loop
 loop-holds c = (omega arith, refl, sets-none _ _)
@@ -33,14 +32,17 @@ loop-holds c = (omega arith, refl, sets-none _ _)
 mul-clash-row : tie.Need-mul-clash-row Inv-loop μ-loop
 mul-clash-row c = search needs
 
-array-read-clash-row : tie.Need-array-read-clash-row Inv-loop μ-loop
-array-read-clash-row c = search needs
+element-copy-out-clash-row : tie.Need-element-copy-out-clash-row Inv-loop μ-loop
+element-copy-out-clash-row c = search needs
 
-mul-clash-row-2 : tie.Need-mul-clash-row-2 Inv-loop μ-loop
-mul-clash-row-2 c = search needs
+mul-row-in : tie.Need-mul-row-in Inv-loop μ-loop
+mul-row-in c = search needs
 
-array-read-clash-row-2 : tie.Need-array-read-clash-row-2 Inv-loop μ-loop
-array-read-clash-row-2 c = search needs
+array-read-row-in : tie.Need-array-read-row-in Inv-loop μ-loop
+array-read-row-in c = search needs
+
+row-in-requires : tie.Need-row-in-requires Inv-loop μ-loop
+row-in-requires c κs = search needs
 
 clash-row-requires : tie.Need-clash-row-requires Inv-loop μ-loop
 clash-row-requires c κs = search needs
@@ -59,16 +61,17 @@ loop-less c = search needs
 
 loop-again : tie.Need-loop-again Inv-loop μ-loop
 loop-again c =
-    let at = c .before .before in
+    let at = c .before .before .before .before in
     let args = at .before .before .args in
-    let reach = args .t1 in
-    let columns = at .before .turned in (
+    let reach = args .reach .now in
+    let fours = at .before .turned-fours in
+    let column = c .before .row-in in (
       omega arith,
       length-set (at .loop .rows) (at .loop .a) _ ∙ at .loop .inv .1,
       sets-more (rowIn reach (args .cells)) (at .loop .a) _ (at .loop .rows) _
           (c .clash-row .ensures
-          ∙ row-one reach (getD (columns .result) (at .loop .a) 0) (args .cells) (at .loop .a) (λ b l.
-          ap (λ (z : List ℕ). bitIn z (at .loop .a) b) (columns .ensures) ∙ turned-bit reach (at .loop .a) b (omega arith) (omega arith)))
+          ∙ row-one reach (column .result) (args .cells) (at .loop .a) (λ b l.
+          four-column reach (fours .result) (column .result) (at .loop .a) b (omega arith) (omega arith) (fours .ensures) (column .ensures)))
           (at .loop .inv .2),
     )
 
@@ -77,18 +80,19 @@ returns c =
     let e : c .before .loop .a ≡ c .before .before .before .args .cells = omega arith in
     rw e at (c .before .loop .inv .2)
 
-pub many-rows-spec : {M : Type 1} → statement M
-many-rows-spec =
+pub some-rows-spec : {M : Type 1} → statement M
+some-rows-spec =
     tie.close
     (tie.spec
     Inv-loop
     μ-loop
-    turned-requires
+    turned-fours-requires
     loop-holds
     mul-clash-row
-    array-read-clash-row
-    mul-clash-row-2
-    array-read-clash-row-2
+    element-copy-out-clash-row
+    mul-row-in
+    array-read-row-in
+    row-in-requires
     clash-row-requires
     mul-rows
     array-write-rows

@@ -1,7 +1,7 @@
--- `reachrows::third_rows` meets its contract: before cell a, the rows of the cells below a are stored, each by rule 2, its turned row and the rows that share a
--- third cell with it. Assumes nothing.
-use mathlib.Core.Path.{_≡_, refl, sym, ap, ap₂, _∙_}
-use mathlib.Core.Bool.{Bool, _&&_, _||_}
+-- `reachrows::many_thirds` meets its contract: before cell a, the rows of the cells below a are stored,
+-- each by rule 2, its turned row and the rows that share a third cell with it. Assumes nothing.
+use mathlib.Core.Path.{_≡_, refl, ap, ap₂, _∙_}
+use mathlib.Core.Bool.{_&&_, _||_}
 use mathlib.Core.List.{List}
 use Prim.Native.Nat.{ℕ, _-_, _≤_, _<_}
 use native.Mathlib.Omega.{arith}
@@ -19,8 +19,8 @@ use Rattle.square.proofs.Square.{turned-bit}
 use Rattle.square.specs.Turned.{turned}
 use Rattle.reachrows.proofs.Rule.{othersOf, row-rule, third}
 use borrow.Author.Needs.{needs}
-use Rattle.reachrows.proofs.third_rows.Statement.{statement}
-use Rattle.reachrows.proofs.third_rows.Tie as tie
+use Rattle.reachrows.proofs.many_thirds.Statement.{statement}
+use Rattle.reachrows.proofs.many_thirds.Tie as tie
 
 abbrev rowIn : List ℕ → ℕ → ℕ → ℕ
 rowIn reach cells a = wordOf (clashIn 2 reach a) cells
@@ -113,8 +113,8 @@ returns c =
     let e : c .before .loop .a ≡ c .before .before .before .before .args .cells = omega arith in
     rw e at (c .before .loop .inv .2)
 
-pub third-rows-spec : {M : Type 1} → statement M
-third-rows-spec =
+pub many-thirds-spec : {M : Type 1} → statement M
+many-thirds-spec =
     tie.close
     (tie.spec
     Inv-loop

@@ -1,11 +1,11 @@
--- `numberrows::moved_rows` meets its contract: rows moved, turned over, moved and turned over again. Assumes nothing.
+-- `numberrows::many_moved` meets its contract: rows moved, turned over, moved and turned over again. Assumes nothing.
 use mathlib.Core.Path.{ap, _∙_}
 use Rattle.square.specs.Turned.{turned}
 use Rattle.numberrows.specs.Numbers.{movedBy}
 use Rattle.numberrows.proofs.Moved.{turned-moved}
 use borrow.Author.Needs.{needs}
-use Rattle.numberrows.proofs.moved_rows.Statement.{statement}
-use Rattle.numberrows.proofs.moved_rows.Tie as tie
+use Rattle.numberrows.proofs.many_moved.Statement.{statement}
+use Rattle.numberrows.proofs.many_moved.Tie as tie
 
 moved-words-requires : tie.Need-moved-words-requires
 moved-words-requires c κs = search needs
@@ -30,8 +30,8 @@ returns c =
     ∙ ap turned (second .moved-words2 .ensures ∙ ap (λ l. movedBy old n l) (second .before .before .turned .ensures ∙ ap turned (first .moved-words .ensures)))
     ∙ turned-moved old n (start .args .rows .now) (start .pre .0) (start .pre .1)
 
-pub moved-rows-spec : {M : Type 1} → statement M
-moved-rows-spec =
+pub many-moved-spec : {M : Type 1} → statement M
+many-moved-spec =
     tie.close
     (tie.spec
     moved-words-requires
