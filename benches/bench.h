@@ -17,6 +17,10 @@ enum { LIBRARY, SECOND, C2, C3, BITS, MAKERS };
 /* Who is timed: its name and its calls. One that a maker lacks is NULL. */
 typedef struct {
     const char *name;
+    dugg_answer (*fault)(dugg_site);
+    dugg_edited (*set_load)(dugg_site, uint16_t, uint16_t);
+    dugg_edited (*set_reach)(dugg_site, uint16_t, uint16_t);
+    dugg_edited (*clear_reach)(dugg_site, uint16_t, uint16_t);
     dugg_answer (*plan)(dugg_site, uint8_t *, size_t);
     dugg_answer (*check)(dugg_site, const uint8_t *, size_t);
     dugg_answer (*load_test)(dugg_site);

@@ -11,7 +11,8 @@ enum { SITES = 5 };
 static const int sites[SITES] = {P1, MIDDLE_TUNNEL, MIDDLE_ALL, TUNNEL, ALL_CLASH};
 
 #define MAKER(name, P)                                                                                                \
-    {name,              P##plan,       P##check,      P##load_test,   P##chain,      P##class,       P##least,        \
+    {name,              P##fault,      P##set_load,   P##set_reach,   P##clear_reach,                                 \
+     P##plan,           P##check,      P##load_test,  P##chain,       P##class,       P##least,                       \
      P##read_site,      P##write_site, P##read_plan,  P##write_plan,  P##read_sheet, P##write_sheet,                  \
      P##share_repeated, P##admit,      P##admit_beside,                                                               \
      P##plan_words,     P##check_words, P##to_words,  P##to_bytes,                                                    \
@@ -27,22 +28,24 @@ const maker makers[MAKERS] = {
 };
 
 enum {
-    PLAN, CHECK, LOAD_TEST, CHAIN, CLASS, LEAST, READ_SITE, WRITE_SITE, READ_PLAN, WRITE_PLAN, READ_SHEET, WRITE_SHEET,
-    SHARE, OPERATIONS
+    FAULT, SET_LOAD, SET_REACH, CLEAR_REACH, PLAN, CHECK, LOAD_TEST, CHAIN, CLASS, LEAST, READ_SITE, WRITE_SITE, READ_PLAN,
+    WRITE_PLAN, READ_SHEET, WRITE_SHEET, SHARE, OPERATIONS
 };
 
 static const char *const operations[OPERATIONS] = {
-    "plan", "check", "load test", "chain", "nested", "least", "read site", "write site", "read plan", "write plan",
-    "read sheet", "write sheet", "share with repeats",
+    "fault", "set load", "set reach", "clear reach", "plan", "check", "load test", "chain", "nested", "least", "read site",
+    "write site", "read plan", "write plan", "read sheet", "write sheet", "share with repeats",
 };
 
-/* A site with its planned table, its two files and its sheet, and a flow on it. */
+/* A site with its planned table, its two files and its sheet, a flow on it, a cell whose load is edited, and pairs of cells
+ * for the edits of reach. */
 typedef struct {
     const char *name;
     dugg_site site;
     size_t table_len, site_len, plan_len, sheet_len;
     uint8_t table[MOST], site_file[4096], plan_file[MOST], sheet[4096];
     uint16_t burst, period, repeats;
+    uint16_t cell, from, to;
 } work;
 
 /* What a call leaves behind. */
@@ -56,6 +59,10 @@ typedef struct {
 static bool has(const maker *m, int operation)
 {
     switch (operation) {
+    case FAULT: return m->fault != NULL;
+    case SET_LOAD: return m->set_load != NULL;
+    case SET_REACH: return m->set_reach != NULL;
+    case CLEAR_REACH: return m->clear_reach != NULL;
     case PLAN: return m->plan != NULL;
     case CHECK: return m->check != NULL;
     case LOAD_TEST: return m->load_test != NULL;
@@ -88,6 +95,10 @@ static dugg_blocked blocked_of(const dugg_site *s)
 static void run(const maker *m, int operation, const work *w, left *l)
 {
     switch (operation) {
+    case FAULT: l->answer = m->fault(w->site); break;
+    case SET_LOAD: keep(l, m->set_load(w->site, w->cell, 7)); break;
+    case SET_REACH: keep(l, m->set_reach(w->site, w->cell, w->from)); break;
+    case CLEAR_REACH: keep(l, m->clear_reach(w->site, w->from, w->to)); break;
     case PLAN: l->answer = m->plan(w->site, l->bytes, w->table_len); break;
     case CHECK: l->answer = m->check(w->site, w->table, w->table_len); break;
     case LOAD_TEST: l->answer = m->load_test(w->site); break;
@@ -176,16 +187,20 @@ static int agree(const work *w)
 
 /* The same inputs made wrong in a few ways: a load one more or one less, a chain that is broken, a table too short, files
  * cut, a table of 1 throughout, a table whose last forbidden position is reserved; repeats of 0 and of 5, a period of 0,
- * too large a share. */
+ * too large a share; an edit of a cell that is not there, and of the reach of a cell to itself. */
 static int agree_when_wrong(const work *w)
 {
     static work wrong;
     wrong = *w;
     wrong.site.loads[w->site.cells - 1]++;
     wrong.repeats = 0;
+    wrong.cell = w->site.cells + 1;
+    wrong.to = 0;
     int fine = agree(&wrong);
     wrong.site.loads[w->site.cells - 1] -= 2;
     wrong.repeats = 5;
+    wrong.cell = 0;
+    wrong.to = w->site.cells + 1;
     fine &= agree(&wrong);
     wrong = *w;
     wrong.site.reach[0] = 1u << (w->site.cells - 1);
@@ -194,6 +209,7 @@ static int agree_when_wrong(const work *w)
     wrong = *w;
     wrong.table_len--, wrong.site_len--, wrong.plan_len--, wrong.sheet_len--;
     flow(&wrong, 65535, 1, 2);
+    wrong.cell = wrong.to = wrong.from;
     fine &= agree(&wrong);
     wrong = *w;
     memset(wrong.table, 1, wrong.table_len);
@@ -228,6 +244,10 @@ static void call(int m, const void *of)
 static void print_size(int operation, const work *w)
 {
     switch (operation) {
+    case FAULT:
+    case SET_LOAD:
+    case SET_REACH:
+    case CLEAR_REACH: printf("record of %u cells", w->site.cells); break;
     case PLAN:
     case CHECK: printf("table of %zu bytes", w->table_len); break;
     case LOAD_TEST:
@@ -279,6 +299,7 @@ int main(void)
         w[k].name = site_name(sites[k]);
         w[k].site = site_of(sites[k]);
         flow(&w[k], flows[k][0], flows[k][1], flows[k][2]);
+        w[k].cell = w[k].site.cells, w[k].from = 2, w[k].to = 3;
         if (make_files(&w[k]) != 0) {
             printf("%s: has no plan\n", w[k].name);
             return 1;

@@ -27,6 +27,7 @@ use planner::PlanAnswer;
 use positions::is_blocked;
 use positions::none_blocked;
 use words::apart;
+use words::has;
 use words::lay;
 use words::lowest;
 
@@ -48,6 +49,7 @@ fn least(run: usize, left: u16) -> usize
 }
 
 // The stretch that begins where these cells, of so many, are in need: the lowest is taken, then the lowest of those that do not clash with it, and so on.
+// What is left is looked at without the clash row of the cell before: the cells that clash with one taken are dropped all at once, where such a cell is met.
 fn stretch_of(need: u32, left: &[u16], clash: &[u32; 32], cells: usize, most: usize) -> Stretch
     requires { ⌜ (cells ≤ 32) × (cells ≤ length (now left)) × (need < 2 ^ cells) ⌝ }
     ensures word { λ r. ⌜ r .word ≡ wordOf (chosen (bitIn (now (clash .entry))) (bitAt need)) cells ⌝ }
@@ -55,12 +57,18 @@ fn stretch_of(need: u32, left: &[u16], clash: &[u32; 32], cells: usize, most: us
 {
     let mut word: u32 = 0;
     let mut run = most;
+    let mut met: u32 = 0;
     let mut rest = need;
     while rest != 0 {
         let i = u32::trailing_zeros(rest) as usize;
+        if has(met, i) {
+            rest = apart(rest, met);
+            continue;
+        }
         run = least(run, left[i]);
         word = word | (1 << i);
-        rest = apart(rest & (rest - 1), clash[i]);
+        met = met | clash[i];
+        rest = rest & (rest - 1);
     }
     Stretch {
         word: word,

@@ -1,2 +1,3 @@
 -- The definitions of crate `wordforms`, module by module.
 pub mod Words
+pub mod Eights

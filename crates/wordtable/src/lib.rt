@@ -3,7 +3,7 @@
 // What planning costs stands in crates/stretches/src/lib.rt; the local room is the clash rows and a load for each cell.
 // What the check costs: a run of equal words is passed at a compare a word, and its word is looked at once, in it only the cells that are set;
 // the local room is the clash rows and a count for each cell. Where positions are blocked, each position is looked at once before that.
-// The changes of form go row by row over neighbouring places, without a branch.
+// The changes of form go over neighbouring places, eight rows at a time, without a branch.
 ghost use mathlib.Core.Path.{_≡_};
 ghost use mathlib.Core.Bool.{_&&_, not};
 ghost use mathlib.Core.List.{_++_};

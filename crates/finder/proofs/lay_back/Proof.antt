@@ -74,7 +74,7 @@ lay-row-requires c κs =
     let a = start e in
     let l = e .before .loop in (
       c .before .cell-at .ensures .1,
-      omega (arith, lent-long (a .args .n) (says a) (a .args .table .now) (l .i) (l .table) (lent e), a .pre .1),
+      omega (arith, lent-long (l .i * a .args .n) (a .args .n) (l .table) (lent e), a .pre .1),
     )
 
 loop-again : tie.Need-loop-again Inv-loop μ-loop
@@ -84,7 +84,7 @@ loop-again c =
     let a = start e in
     let l = e .before .loop in
     let row : ℕ → ℕ → ℕ = λ j k. bit (sendsAt (a .args .words .now) j k) in
-    let whole = lent-long (a .args .n) (says a) (a .args .table .now) (l .i) (l .table) (lent e) in (
+    let whole = lent-long (l .i * a .args .n) (a .args .n) (l .table) (lent e) in (
       omega arith,
       one-scattered (a .args .n) (says a) (a .args .table .now) (l .i) (l .table) (c .before .before .lay-row .last .0) (l .inv .1)
           (c .before .before .lay-row .ensures

@@ -1,4 +1,4 @@
--- `wordforms::scatter` meets its contract: before cell i, the rows of the cells below i are written, and what is past them is as it was. Assumes nothing.
+-- `wordforms::lay_rows` meets its contract: before cell i, the rows of the cells below i are written, and what is past them is as it was. Assumes nothing.
 use mathlib.Core.Path.{_≡_, ap, _∙_}
 use Prim.Native.Nat.{ℕ, _+_, _-_, _*_, _≤_}
 use native.Mathlib.Omega.{arith}
@@ -9,8 +9,8 @@ use Rattle.laws.specs.Sum.{bit}
 use Rattle.laws.proofs.Grid.{row-before}
 use Rattle.wordforms.specs.Words.{sendsAt}
 use Rattle.wordforms.proofs.Rows.{Scattered, none-scattered, one-scattered, scattered-long, lent-long}
-use Rattle.wordforms.proofs.scatter.Statement.{statement}
-use Rattle.wordforms.proofs.scatter.Tie as tie
+use Rattle.wordforms.proofs.lay_rows.Statement.{statement}
+use Rattle.wordforms.proofs.lay_rows.Tie as tie
 
 abbrev Inv-loop : tie.InvT-loop
 Inv-loop table₀ words n cells i₀ table i = (i ≤ cells) × Scattered n (sendsAt words) table₀ i table
@@ -57,7 +57,7 @@ lay-row-requires c κs =
     let a = start (c .before) in
     let l = c .before .before .loop in (
       omega (arith, c .before .loop-test .taken, a .pre .0),
-      omega (arith, lent-long (a .args .n) (sendsAt (a .args .words .now)) (a .args .table .now) (l .i) (l .table) (lent (c .before)), a .pre .1),
+      omega (arith, lent-long (l .i * a .args .n) (a .args .n) (l .table) (lent (c .before)), a .pre .1),
     )
 
 add-i : tie.Need-add-i Inv-loop μ-loop
@@ -74,8 +74,7 @@ loop-again c =
     let f : ℕ → ℕ = λ k. bit (sendsAt (a .args .words .now) (l .i) k) in (
       omega arith,
       one-scattered (a .args .n) (sendsAt (a .args .words .now)) (a .args .table .now) (l .i) (l .table) (c .before .before .lay-row .last .0) (l .inv .1)
-          (c .before .before .lay-row .ensures ∙ ap (listOf f) (lent-long (a .args .n) (sendsAt (a .args .words .now)) (a .args .table .now) (l .i)
-          (l .table) (lent e))),
+          (c .before .before .lay-row .ensures ∙ ap (listOf f) (lent-long (l .i * a .args .n) (a .args .n) (l .table) (lent e))),
     )
 
 same-length : tie.Need-same-length Inv-loop μ-loop
@@ -92,8 +91,8 @@ returns c =
     let all : l .i ≡ a .args .cells = omega (arith, c .loop-test .left, l .inv .0) in
     rw all at (l .inv .1)
 
-pub scatter-spec : {M : Type 1} → statement M
-scatter-spec =
+pub lay-rows-spec : {M : Type 1} → statement M
+lay-rows-spec =
     tie.close
     (tie.spec
     Inv-loop
