@@ -11,6 +11,7 @@ pub mod FlowSheets
 pub mod Admission
 pub mod Beside
 pub mod Words
+pub mod Views
 pub mod Mending
 pub mod Blocked
 pub mod Rules
