@@ -20,7 +20,7 @@ unfolding gathered noFlows
 gathered-count fs zero = refl
 gathered-count fs (suc n) = omega (arith, gathered-count fs n)
 
-gathered-long : (fs : List Flow) (n : ℕ) → length (gathered fs n .list) ≡ 16
+pub gathered-long : (fs : List Flow) (n : ℕ) → length (gathered fs n .list) ≡ 16
 unfolding gathered noFlows
 gathered-long fs zero = length-replicate {A = Flow} 16 zeroFlow
 gathered-long fs (suc n) = rw length-set (gathered-long fs n)

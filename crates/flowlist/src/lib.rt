@@ -20,9 +20,9 @@ pub struct FlowList {
     pub count: usize,
 }
 
-// No flows yet.
-pub fn empty() -> FlowList
-    ensures { λ r. ⌜ r ≡ noFlows ⌝ }
+// Room for 16 flows: zeros.
+fn blank() -> [Flow; 16]
+    ensures { λ r. ⌜ r ≡ noFlows .list ⌝ }
 {
     let none = Flow {
         cell: 0,
@@ -31,7 +31,14 @@ pub fn empty() -> FlowList
         repeats: 0,
         value: 0,
     };
-    let list = [none; 16];
+    [none; 16]
+}
+
+// No flows yet.
+pub fn empty() -> FlowList
+    ensures { λ r. ⌜ r ≡ noFlows ⌝ }
+{
+    let list = blank();
     FlowList { list, count: 0 }
 }
 
@@ -65,17 +72,24 @@ fn limit(n: usize) -> usize
     16
 }
 
-// The first 16 flows.
+// The list of the first n flows of an array.
+fn counted(list: [Flow; 16], n: usize) -> FlowList
+    ensures { λ r. ⌜ r ≡ record { list = list; count = n } ⌝ }
+{
+    FlowList { list, count: n }
+}
+
+// The first 16 flows: each is stored at its place in an array of zeros.
 pub fn gather(flows: &[Flow]) -> FlowList
     ensures { λ r. ⌜ r ≡ gathered (now (flows .entry)) (few (length (now (flows .entry)))) ⌝ }
 {
     let n = limit(flows.len());
-    let mut l = empty();
+    let mut list = blank();
     let mut i: usize = 0;
     while i < n {
         let f = flow_at(flows, i);
-        l = push(l, f);
+        list[i] = f;
         i += 1;
     }
-    l
+    counted(list, n)
 }
