@@ -1,5 +1,5 @@
--- A table has two views, a word of cells for each position and a set of positions for each cell, and they are one: the word of a position has a cell exactly where
--- the set of the cell's row has the position. Assumes nothing.
+-- A table has two views, a word of cells for each position and a set of positions for each cell, and they are one: the word of a position has a cell
+-- exactly where the set of the cell's row has the position. Assumes nothing.
 use mathlib.Core.Path.{_≡_, sym, ap, _∙_}
 use mathlib.Core.Bool.{_&&_}
 use mathlib.Core.List.{List}
