@@ -8,6 +8,9 @@ pub mod ClashcountOne
 pub mod WordsOne
 pub mod BlocksOne
 pub mod BlockwordsOne
+pub mod PackingOne
+pub mod SetwordsOne
+pub mod SetsOne
 pub mod LoadsOne
 pub mod TextOne
 pub mod FlowlistOne
@@ -31,11 +34,6 @@ pub mod OnewayOne
 pub mod SearchOne
 pub mod HeaviestOne
 pub mod SharesOne
-pub mod RecordsOne
-pub mod PlanbitsOne
-pub mod PackingOne
-pub mod SetwordsOne
-pub mod SetsOne
 pub mod StandingOne
 pub mod ChangelistOne
 pub mod MenderOne
@@ -45,6 +43,7 @@ pub mod WordtableOne
 pub mod FinderOne
 pub mod RoomsOne
 pub mod AdmissionOne
+pub mod RecordsOne
 pub mod LinesOne
 pub mod PutlinesOne
 pub mod BlocklistOne
@@ -55,6 +54,7 @@ pub mod SiteheadOne
 pub mod ReachpairsOne
 pub mod BlockbitsOne
 pub mod SitefileOne
+pub mod PlanbitsOne
 pub mod PlanfileOne
 pub mod CleaningOne
 pub mod LinefaultsOne

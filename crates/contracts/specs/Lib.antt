@@ -8,6 +8,9 @@ pub mod ClashcountSays
 pub mod WordsSays
 pub mod BlocksSays
 pub mod BlockwordsSays
+pub mod PackingSays
+pub mod SetwordsSays
+pub mod SetsSays
 pub mod LoadsSays
 pub mod TextSays
 pub mod FlowlistSays
@@ -31,11 +34,6 @@ pub mod OnewaySays
 pub mod SearchSays
 pub mod HeaviestSays
 pub mod SharesSays
-pub mod RecordsSays
-pub mod PlanbitsSays
-pub mod PackingSays
-pub mod SetwordsSays
-pub mod SetsSays
 pub mod StandingSays
 pub mod ChangelistSays
 pub mod MenderSays
@@ -45,6 +43,7 @@ pub mod WordtableSays
 pub mod FinderSays
 pub mod RoomsSays
 pub mod AdmissionSays
+pub mod RecordsSays
 pub mod LinesSays
 pub mod PutlinesSays
 pub mod BlocklistSays
@@ -55,6 +54,7 @@ pub mod SiteheadSays
 pub mod ReachpairsSays
 pub mod BlockbitsSays
 pub mod SitefileSays
+pub mod PlanbitsSays
 pub mod PlanfileSays
 pub mod CleaningSays
 pub mod LinefaultsSays
