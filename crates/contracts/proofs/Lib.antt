@@ -21,6 +21,7 @@ pub mod NumberrowsOne
 pub mod RowsOne
 pub mod JudgesOne
 pub mod PlanrowsOne
+pub mod ShortrowsOne
 pub mod PlannerOne
 pub mod StretchesOne
 pub mod RowwordsOne
@@ -34,6 +35,7 @@ pub mod OnewayOne
 pub mod SearchOne
 pub mod HeaviestOne
 pub mod SharesOne
+pub mod WordturnsOne
 pub mod StandingOne
 pub mod ChangelistOne
 pub mod MenderOne

@@ -21,6 +21,7 @@ pub mod NumberrowsSays
 pub mod RowsSays
 pub mod JudgesSays
 pub mod PlanrowsSays
+pub mod ShortrowsSays
 pub mod PlannerSays
 pub mod StretchesSays
 pub mod RowwordsSays
@@ -34,6 +35,7 @@ pub mod OnewaySays
 pub mod SearchSays
 pub mod HeaviestSays
 pub mod SharesSays
+pub mod WordturnsSays
 pub mod StandingSays
 pub mod ChangelistSays
 pub mod MenderSays

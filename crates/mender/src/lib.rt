@@ -2,7 +2,8 @@
 //
 // What it costs, for I cells and N positions: the cells' turns, a word of 64 positions at a time (crate `standing`), and where something changes some steps for
 // each change (crate `changelist`). Nothing lent is written before the outcome is known. The local room is two bits for each cell and position, 16 kilobytes:
-// no second table. Without a list there are 16 kilobytes more, for the changes of one row. For up to 128 positions it is 1 kilobyte, and 1 more.
+// no second table. Without a list there are 16 kilobytes more, for the changes of one row. For up to 128 positions it is 1 kilobyte, and 1 more, and for
+// up to 64 half of that.
 use changelist::list_all;
 use changelist::list_cell;
 use site::Fault;
@@ -113,6 +114,18 @@ fn mend_small(site: Site, table: &mut [u8], changes: &mut [u16]) -> MendAnswer
     mend_in(site, table, changes, &mut stands, &mut old)
 }
 
+// The same for at most 64 positions.
+fn mend_short(site: Site, table: &mut [u8], changes: &mut [u16]) -> MendAnswer
+    requires { ⌜ positions site ≤ 64 ⌝ }
+    ensures answer { λ r. ⌜ r ≡ mendAnswer site (now (table .entry)) (now (changes .entry)) ⌝ }
+    ensures table { λ _. ⌜ now (table .exit) ≡ mendTable site (now (table .entry)) (now (changes .entry)) ⌝ }
+    ensures changes { λ _. ⌜ now (changes .exit) ≡ mendList site (now (table .entry)) (now (changes .entry)) ⌝ }
+{
+    let mut stands = [0u64; 32];
+    let mut old = [0u64; 32];
+    mend_in(site, table, changes, &mut stands, &mut old)
+}
+
 // Mends the table for the site, and lists the changes, four numbers each: cell, position, was, is. A refusal leaves table and list as they were: the record's
 // faults, then a table that is too short, then a cell that finds no room, then a list that is too short.
 pub fn mend(site: Site, table: &mut [u8], changes: &mut [u16]) -> MendAnswer
@@ -121,6 +134,9 @@ pub fn mend(site: Site, table: &mut [u8], changes: &mut [u16]) -> MendAnswer
     ensures changes { λ _. ⌜ now (changes .exit) ≡ mendList site (now (table .entry)) (now (changes .entry)) ⌝ }
 {
     let n = (site.slots as usize) * (site.channels as usize);
+    if n <= 64 {
+        return mend_short(site, table, changes);
+    }
     if n <= 128 {
         return mend_small(site, table, changes);
     }
@@ -164,12 +180,27 @@ fn mend_only_small(site: Site, table: &mut [u8]) -> MendAnswer
     mend_only_in(site, table, &mut row, &mut stands, &mut old)
 }
 
+// The same for at most 64 positions.
+fn mend_only_short(site: Site, table: &mut [u8]) -> MendAnswer
+    requires { ⌜ positions site ≤ 64 ⌝ }
+    ensures answer { λ r. ⌜ r ≡ mendAnswer site (now (table .entry)) (listRoom site) ⌝ }
+    ensures table { λ _. ⌜ now (table .exit) ≡ mendTable site (now (table .entry)) (listRoom site) ⌝ }
+{
+    let mut row = [0u16; 256];
+    let mut stands = [0u64; 32];
+    let mut old = [0u64; 32];
+    mend_only_in(site, table, &mut row, &mut stands, &mut old)
+}
+
 // Mends the table as `mend` does where the list has room for every change, and lists nothing.
 pub fn mend_only(site: Site, table: &mut [u8]) -> MendAnswer
     ensures answer { λ r. ⌜ r ≡ mendAnswer site (now (table .entry)) (listRoom site) ⌝ }
     ensures table { λ _. ⌜ now (table .exit) ≡ mendTable site (now (table .entry)) (listRoom site) ⌝ }
 {
     let n = (site.slots as usize) * (site.channels as usize);
+    if n <= 64 {
+        return mend_only_short(site, table);
+    }
     if n <= 128 {
         return mend_only_small(site, table);
     }

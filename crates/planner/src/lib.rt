@@ -1,11 +1,14 @@
-// The greedy planner over a lent byte table: cells in rising number, and each cell's row filled where it stands.
+// The greedy planner over a lent byte table: cells in rising number, and each cell's row filled where it stands. Where there are few positions each row is
+// a word.
 use planrows::plan_row;
+use shortrows::open_word;
+use shortrows::plan_short_row;
 use site::Fault;
 use site::Site;
 ghost use mathlib.Core.Path.{_≡_};
-ghost use Prim.Native.Nat.{_*_, _≤_, _<_};
+ghost use Prim.Native.Nat.{_*_, _^_, _≤_, _<_};
 ghost use lib.ListN.{length, getD};
-ghost use Rattle.laws.specs.Bits.{bitIn};
+ghost use Rattle.laws.specs.Bits.{bitAt, bitIn};
 ghost use Rattle.theory.specs.Greedy.{greedy};
 ghost use Rattle.planner.specs.Plan.{planAnswer, planTable, answerOf, leaves};
 ghost use Rattle.planrows.specs.Row.{opens, Masks, EitherWay};
@@ -18,6 +21,9 @@ pub enum PlanAnswer {
     NoRoom(usize, usize),
     Refused(Fault),
 }
+
+// A row of so many positions at most is planned as one word. A word has 64, but there the passes over bytes are as quick.
+const SHORT: usize = 32;
 
 // The load of the cell at index `i`.
 fn load_of(loads: &[u16; 32], i: usize) -> u16
@@ -64,7 +70,7 @@ fn plan_rows(
 }
 
 // The same where these positions are blocked: rows are planned with a mask only where there are any.
-fn plan_blocked(
+fn plan_long(
     table: &mut [u8],
     cells: usize,
     slots: usize,
@@ -108,6 +114,78 @@ fn plan_blocked(
         clash,
         &mask,
     )
+}
+
+// The greedy plan of a site with at most 64 positions, a word for each row, of which `usable` has those that may be reserved. The room that is lent is for
+// the word of each row.
+fn plan_short(
+    table: &mut [u8],
+    held: &mut [u64; 32],
+    cells: usize,
+    n: usize,
+    loads: &[u16; 32],
+    clash: &[u32; 32],
+    usable: u64,
+) -> PlanAnswer
+    requires { ⌜ (cells ≤ 32) × (n ≤ 64) × (length (now held) ≡ 32) × (usable < 2 ^ n) ⌝ }
+    requires { ⌜ (cells * n ≤ length (now table)) × EitherWay (now clash) ⌝ }
+    ensures answer { λ r. ⌜ r ≡ answerOf (greedy (netIn cells n (now (loads .entry)) (bitIn (now (clash .entry))) (bitAt usable))) ⌝ }
+    ensures table { λ _. ⌜ now (table .exit) ≡ leaves (netIn cells n (now (loads .entry)) (bitIn (now (clash .entry))) (bitAt usable))
+        (now (table .entry)) ⌝ }
+{
+    for i in 0..cells {
+        let load = load_of(loads, i) as usize;
+        let lacks = plan_short_row(table, held, n, i, load, clash, usable);
+        if 0 < lacks {
+            let end = cells * n;
+            rows::clear(&mut table[..end]);
+            let cell = i + 1;
+            return PlanAnswer::NoRoom(cell, lacks);
+        }
+    }
+    PlanAnswer::Done
+}
+
+// The same where these positions are blocked.
+fn plan_few(
+    table: &mut [u8],
+    cells: usize,
+    n: usize,
+    loads: &[u16; 32],
+    clash: &[u32; 32],
+    blocked: &[u64; 32],
+) -> PlanAnswer
+    requires { ⌜ (cells ≤ 32) × (n ≤ 64) × (cells * n ≤ length (now table)) × EitherWay (now clash) ⌝ }
+    ensures answer { λ r. ⌜ r ≡ answerOf (greedy (netIn cells n (now (loads .entry)) (bitIn (now (clash .entry))) (isOpen (now (blocked .entry))))) ⌝ }
+    ensures table { λ _. ⌜ now (table .exit) ≡ leaves (netIn cells n (now (loads .entry)) (bitIn (now (clash .entry))) (isOpen (now (blocked .entry))))
+        (now (table .entry)) ⌝ }
+{
+    let mut held = [0u64; 32];
+    let usable = open_word(blocked, n);
+    plan_short(table, &mut held, cells, n, loads, clash, usable)
+}
+
+// The same for any number of positions.
+fn plan_blocked(
+    table: &mut [u8],
+    cells: usize,
+    slots: usize,
+    channels: usize,
+    loads: &[u16; 32],
+    clash: &[u32; 32],
+    blocked: &[u64; 32],
+) -> PlanAnswer
+    requires { ⌜ (cells ≤ 32) × (channels ≤ 16) × (slots * channels ≤ 2048) × (cells * (slots * channels) ≤ length (now table)) × EitherWay (now clash) ⌝ }
+    ensures answer { λ r. ⌜ r ≡ answerOf (greedy (netIn cells (slots * channels) (now (loads .entry)) (bitIn (now (clash .entry)))
+        (isOpen (now (blocked .entry))))) ⌝ }
+    ensures table { λ _. ⌜ now (table .exit) ≡ leaves (netIn cells (slots * channels) (now (loads .entry)) (bitIn (now (clash .entry)))
+        (isOpen (now (blocked .entry)))) (now (table .entry)) ⌝ }
+{
+    let n = slots * channels;
+    if n <= SHORT {
+        return plan_few(table, cells, n, loads, clash, blocked);
+    }
+    plan_long(table, cells, slots, channels, loads, clash, blocked)
 }
 
 // Plans the site into the lent table: the planner's answer for any site and any table.

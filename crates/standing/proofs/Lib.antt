@@ -2,5 +2,6 @@
 pub mod Free
 pub mod Keeping
 pub mod Within
+pub mod Words
 pub mod Standing
 pub mod Turns

@@ -11,6 +11,8 @@ use sets::put_set;
 use sets::take_away;
 use sets::take_first;
 use sets::unlike_count;
+use wordturns::free_word;
+use wordturns::word_turn;
 ghost use mathlib.Core.Path.{_≡_};
 ghost use mathlib.Core.Bool.{_&&_, _||_, not};
 ghost use Prim.Native.Nat.{_+_, _-_, _*_, _≤_, _<_};
@@ -118,6 +120,41 @@ fn stand(here: &mut [u64], free: &mut [u64], old: &[u64], w: usize, load: usize)
     }
 }
 
+// The first word of a set.
+fn first_of(set: &[u64]) -> u64
+    requires { ⌜ 0 < length (now set) ⌝ }
+    ensures { λ r. ⌜ r ≡ getD (now (set .entry)) 0 0 ⌝ }
+{
+    set[0]
+}
+
+// Cell i's turn, where each set is one word.
+fn stand_word(
+    stands: &mut [u64],
+    vacant: &[u64],
+    old: &[u64],
+    w: usize,
+    i: usize,
+    load: usize,
+    row: u32,
+) -> Turn
+    requires { ⌜ (w ≡ 1) × (i < 32) × (i < length (now stands)) × (i < length (now old)) × (0 < length (now vacant)) ⌝ }
+    ensures stands { λ _. ⌜ now (stands .exit) ≡ sets (now (stands .entry)) (i * w)
+        (setIn (standAt (freeBy (inSet (now (vacant .entry))) w row (now (stands .entry)) i) (standsIn w (now (old .entry)) i) load (64 * w)) w) ⌝ }
+    ensures short { λ r. ⌜ r .short
+        ≡ shortCount (freeBy (inSet (now (vacant .entry))) w row (now (stands .entry)) i) (standsIn w (now (old .entry)) i) load (64 * w) ⌝ }
+    ensures changes { λ r. ⌜ r .changes
+        ≡ turnCount (freeBy (inSet (now (vacant .entry))) w row (now (stands .entry)) i) (standsIn w (now (old .entry)) i) load (64 * w) ⌝ }
+{
+    let free = free_word(first_of(vacant), stands, row, i);
+    let turn = word_turn(free, old[i], load);
+    stands[i] = turn.here;
+    Turn {
+        short: turn.short,
+        changes: turn.changes,
+    }
+}
+
 // Cell i's turn, where the sets have the cells below it: it keeps what it may, then adds what is lacking. Its set is stored at word i * w.
 fn stand_cell(
     stands: &mut [u64],
@@ -139,6 +176,9 @@ fn stand_cell(
     ensures changes { λ r. ⌜ r .changes
         ≡ turnCount (freeBy (inSet (now (vacant .entry))) w row (now (stands .entry)) i) (standsIn w (now (old .entry)) i) load (64 * w) ⌝ }
 {
+    if w == 1 {
+        return stand_word(stands, vacant, old, w, i, load, row);
+    }
     free_set(free, vacant, stands, w, i, row);
     let from = i * w;
     let to = from + w;

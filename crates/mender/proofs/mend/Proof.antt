@@ -21,7 +21,7 @@ old-long c = search needs
 
 mend-in-requires : tie.Need-mend-in-requires
 mend-in-requires c κs =
-    let s = c .before .before .before .before .before .before .before .before .before .args .site in
+    let s = c .before .before .before .before .before .before .before .before .before .before .args .site in
     (large-sets s _ (omega (arith, stands-long (c .before))), large-sets s _ (omega (arith, old-long c)))
 
 pub mend-spec : {M : Type 1} → statement M
@@ -31,6 +31,10 @@ mend-spec =
     (λ c. search needs)
     (λ c. search needs)
     mul-n
+    (λ c κs. search needs)
+    (λ c. search needs)
+    (λ c. search needs)
+    (λ c. search needs)
     (λ c κs. search needs)
     (λ c. search needs)
     (λ c. search needs)

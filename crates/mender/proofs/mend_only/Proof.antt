@@ -24,7 +24,7 @@ old-long c = search needs
 
 mend-only-in-requires : tie.Need-mend-only-in-requires
 mend-only-in-requires c κs =
-    let s = c .before .before .before .before .before .before .before .before .args .site in (
+    let s = c .before .before .before .before .before .before .before .before .before .args .site in (
       large-row s _ (omega (arith, row-long (c .before .before))),
       large-sets s _ (omega (arith, stands-long (c .before))),
       large-sets s _ (omega (arith, old-long c)),
@@ -37,6 +37,9 @@ mend-only-spec =
     (λ c. search needs)
     (λ c. search needs)
     mul-n
+    (λ c κs. search needs)
+    (λ c. search needs)
+    (λ c. search needs)
     (λ c κs. search needs)
     (λ c. search needs)
     (λ c. search needs)

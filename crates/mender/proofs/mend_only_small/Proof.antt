@@ -1,6 +1,6 @@
 -- `mender::mend_only_small` meets its contract: the room is enough for so few positions. Assumes nothing.
 use native.Mathlib.Omega.{arith}
-use Rattle.mender.proofs.Lent.{small-sets, small-row}
+use Rattle.mender.proofs.Lent.{few-sets, few-row}
 use borrow.Author.Needs.{needs}
 use Rattle.mender.proofs.mend_only_small.Statement.{statement}
 use Rattle.mender.proofs.mend_only_small.Tie as tie
@@ -18,9 +18,9 @@ mend-only-in-requires : tie.Need-mend-only-in-requires
 mend-only-in-requires c κs =
     let s = c .before .before .before .before .before in
     let site = s .args .site in (
-      small-row site _ (s .pre) (omega (arith, row-long (c .before .before))),
-      small-sets site _ (s .pre) (omega (arith, stands-long (c .before))),
-      small-sets site _ (s .pre) (omega (arith, old-long c)),
+      few-row site _ 2 (s .pre) (omega (arith, row-long (c .before .before))),
+      few-sets site _ 2 (s .pre) (omega (arith, stands-long (c .before))),
+      few-sets site _ 2 (s .pre) (omega (arith, old-long c)),
     )
 
 pub mend-only-small-spec : {M : Type 1} → statement M

@@ -1,6 +1,6 @@
 -- `mender::mend_small` meets its contract: the room is enough for so few positions. Assumes nothing.
 use native.Mathlib.Omega.{arith}
-use Rattle.mender.proofs.Lent.{small-sets}
+use Rattle.mender.proofs.Lent.{few-sets}
 use borrow.Author.Needs.{needs}
 use Rattle.mender.proofs.mend_small.Statement.{statement}
 use Rattle.mender.proofs.mend_small.Tie as tie
@@ -14,7 +14,7 @@ old-long c = search needs
 mend-in-requires : tie.Need-mend-in-requires
 mend-in-requires c κs =
     let s = c .before .before .before .before .before .before in
-    (small-sets (s .args .site) _ (s .pre) (omega (arith, stands-long (c .before))), small-sets (s .args .site) _ (s .pre) (omega (arith, old-long c)))
+    (few-sets (s .args .site) _ 2 (s .pre) (omega (arith, stands-long (c .before))), few-sets (s .args .site) _ 2 (s .pre) (omega (arith, old-long c)))
 
 pub mend-small-spec : {M : Type 1} → statement M
 mend-small-spec =

@@ -2,6 +2,8 @@
 use mathlib.Core.Path.{_≡_, ap, _∙_}
 use mathlib.Core.List.{List}
 use Prim.Native.Nat.{ℕ, _+_, _-_, _*_, _<_}
+use native.Mathlib.Nat.{mul-one}
+use native.Mathlib.Omega.{arith}
 use borrow.Rule.Slice.PartMut.{midOf}
 use lib.Seq.{sets}
 use Rattle.mending.specs.Keep.{standAt}
@@ -13,6 +15,14 @@ use Rattle.standing.proofs.Within.{set-both, short-both, count-both}
 use borrow.Author.Needs.{needs}
 use Rattle.standing.proofs.stand_cell.Statement.{statement}
 use Rattle.standing.proofs.stand_cell.Tie as tie
+
+stand-word-requires : tie.Need-stand-word-requires
+stand-word-requires c κs =
+    let s = c .before .before .before .before .before .before .before in
+    let a = s .args in
+    let one : a .w ≡ 1 = omega (arith, c .before .if1 .taken) in
+    let at : a .i * a .w ≡ a .i = ap (λ (x : ℕ). a .i * x) one ∙ mul-one (a .i) in
+    (one, s .pre .0 .0, omega (arith, at, s .pre .0 .2), omega (arith, at, s .pre .0 .3), omega (arith, s .pre .1 .2))
 
 free-set-requires : tie.Need-free-set-requires
 free-set-requires c κs = search needs
@@ -41,21 +51,21 @@ stand-requires c κs = search needs
 put-set-requires : tie.Need-put-set-requires
 put-set-requires c κs = search needs
 
-same-length : tie.Need-same-length
-same-length c = search needs
-
 same-length-2 : tie.Need-same-length-2
 same-length-2 c = search needs
 
 same-length-3 : tie.Need-same-length-3
 same-length-3 c = search needs
 
-returns : tie.Need-returns
-returns c =
+same-length-4 : tie.Need-same-length-4
+same-length-4 c = search needs
+
+returns-2 : tie.Need-returns-2
+returns-2 c =
     let p = c .before .before in
     let t = p .before .before .before .before .before .before .before in
     let f = t .before .before .before .before .before .before in
-    let s = f .before .before .before .before .before .before .before .before in
+    let s = f .before .before .before .before .before .before .before .before .before in
     let a = s .args in
     let free = freeBy (inSet (a .vacant .now)) (a .w) (a .row) (a .stands .now) (a .i) in
     let old = standsIn (a .w) (a .old .now) (a .i) in
@@ -78,6 +88,9 @@ pub stand-cell-spec : {M : Type 1} → statement M
 stand-cell-spec =
     tie.close
     (tie.spec
+    stand-word-requires
+    (λ c. search needs)
+    (λ c. search needs)
     free-set-requires
     mul-from
     add-to
@@ -87,7 +100,7 @@ stand-cell-spec =
     part-stand-end
     stand-requires
     put-set-requires
-    same-length
     same-length-2
     same-length-3
-    returns)
+    same-length-4
+    returns-2)

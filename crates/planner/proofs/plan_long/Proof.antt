@@ -1,4 +1,4 @@
--- `planner::plan_blocked` meets its contract: where nothing is blocked no mask is needed, and else the mask bars what is blocked. Assumes nothing.
+-- `planner::plan_long` meets its contract: where nothing is blocked no mask is needed, and else the mask bars what is blocked. Assumes nothing.
 use mathlib.Core.Path.{_≡_, sym, ap, subst, _∙_}
 use mathlib.Core.List.{List, [], _++_}
 use Prim.Native.Nat.{ℕ, _*_, _≤_, _<_}
@@ -13,8 +13,8 @@ use Rattle.site.specs.Reach.{isOpen}
 use Rattle.planrows.specs.Row.{opens}
 use Rattle.planner.proofs.Alike.{answer-alike, leaves-alike}
 use Rattle.planner.proofs.MaskLaws.{none-open, no-mask, mask-opens, mask-bars}
-use Rattle.planner.proofs.plan_blocked.Statement.{statement}
-use Rattle.planner.proofs.plan_blocked.Tie as tie
+use Rattle.planner.proofs.plan_long.Statement.{statement}
+use Rattle.planner.proofs.plan_long.Tie as tie
 
 -- the mask before it is made
 abbrev zeros : List ℕ
@@ -130,8 +130,8 @@ returns-2 c =
           ∙ leaves-alike (a .cells) (size way) (a .loads .now) (bitIn (a .clash .now)) (isOpen (words way)) (opens (mask way)) (barred way) (a .table .now),
     )
 
-pub plan-blocked-spec : {M : Type 1} → statement M
-plan-blocked-spec =
+pub plan-long-spec : {M : Type 1} → statement M
+plan-long-spec =
     tie.close
     (tie.spec
     none-blocked-requires

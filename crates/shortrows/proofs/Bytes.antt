@@ -1,0 +1,91 @@
+-- The bytes of a row, from its words. Four bits times 1 + 2^7 + 2^14 + 2^21 stand once at the lowest bits of four bytes, each at its own (`spread-four`, by
+-- all sixteen), and the number of four bytes has each of them as a digit (`four-digits`). Assumes nothing.
+use mathlib.Core.Path.{_≡_, refl, sym, ap, _∙_}
+use mathlib.Core.Bool.{Bool, true, false, not}
+use mathlib.Core.List.{[], _∷_}
+use Prim.Native.Nat.{ℕ, _+_, _*_, _/_, _%_, _^_, _≤_, _<_}
+use native.Mathlib.Nat.{add-zero, mod-lt}
+use native.Mathlib.Omega.{arith}
+use lib.Bits.{bitAnd}
+use lib.Dec.{eqb, lit<}
+use borrow.Author.Tests.{eqb-true}
+use Rattle.laws.specs.Bits.{bitAt}
+use Rattle.laws.specs.Part.{listOf}
+use Rattle.laws.specs.Sum.{bit, any}
+use Rattle.laws.proofs.Any.{any-none}
+use Rattle.laws.proofs.Bits.{digit, shr-bit, mod-bit}
+use Rattle.shortrows.specs.Short.{byteIn}
+
+-- four bits, each a byte of its own
+abbrev pub fourApart : ℕ → ℕ
+fourApart x = bit (bitAt x 0) + 256 * bit (bitAt x 1) + 65536 * bit (bitAt x 2) + 16777216 * bit (bitAt x 3)
+
+-- whether a product and a mask do not bring the four bits of x there
+abbrev pub wrongFour : ℕ → ℕ → ℕ → Bool
+wrongFour by mask x = not (eqb (bitAnd (x * by) mask) (fourApart x))
+
+was-not : (b : Bool) → not b ≡ false → b ≡ true
+was-not true h = refl
+was-not false h = sym h
+
+pub spread-four : (by mask : ℕ) → any (wrongFour by mask) 16 ≡ false → (x : ℕ) → x < 16 → bitAnd (x * by) mask ≡ fourApart x
+spread-four by mask none x h = eqb-true _ _ (was-not (eqb (bitAnd (x * by) mask) (fourApart x)) (any-none (wrongFour by mask) 16 none x h))
+
+-- ---- four bits of a word
+
+module _ (x p : ℕ) where
+  abbrev four : ℕ
+  four = x / 2 ^ p % 16
+
+  bit-first : bitAt four 0 ≡ bitAt x p
+  bit-first = ap (λ (d : ℕ). eqb d 1) (mod-bit (x / 2 ^ p) 0 3 ∙ shr-bit x p 0 ∙ ap (λ (k : ℕ). x / 2 ^ k % 2) (add-zero p))
+
+  bit-second : bitAt four 1 ≡ bitAt x (p + 1)
+  bit-second = ap (λ (d : ℕ). eqb d 1) (mod-bit (x / 2 ^ p) 1 2 ∙ shr-bit x p 1)
+
+  bit-third : bitAt four 2 ≡ bitAt x (p + 2)
+  bit-third = ap (λ (d : ℕ). eqb d 1) (mod-bit (x / 2 ^ p) 2 1 ∙ shr-bit x p 2)
+
+  bit-fourth : bitAt four 3 ≡ bitAt x (p + 3)
+  bit-fourth = ap (λ (d : ℕ). eqb d 1) (mod-bit (x / 2 ^ p) 3 0 ∙ shr-bit x p 3)
+
+  pub four-of : fourApart (x / 2 ^ p % 16)
+      ≡ bit (bitAt x p) + 256 * bit (bitAt x (p + 1)) + 65536 * bit (bitAt x (p + 2)) + 16777216 * bit (bitAt x (p + 3))
+  four-of =
+      (λ i. bit (bit-first i) + 256 * bit (bit-second i) + 65536 * bit (bit-third i) + 16777216 * bit (bit-fourth i))
+
+pub bit-most : (b : Bool) → bit b ≤ 1
+bit-most true = omega arith
+bit-most false = omega arith
+
+pub four-most : (x : ℕ) → fourApart x ≤ 16843009
+four-most x = omega (arith, bit-most (bitAt x 0), bit-most (bitAt x 1), bit-most (bitAt x 2), bit-most (bitAt x 3))
+
+-- ---- the byte of a position
+
+pub byte-most : (mine taken p : ℕ) → byteIn mine taken p < 4
+byte-most mine taken p = omega (arith, bit-most (bitAt mine p), bit-most (bitAt taken p))
+
+pub byte-sum : (mine taken p : ℕ) → mine / 2 ^ p % 2 + taken / 2 ^ p % 2 * 2 ≡ byteIn mine taken p
+byte-sum mine taken p = omega (arith, digit (mine / 2 ^ p % 2) (mod-lt _ (lit< tt)), digit (taken / 2 ^ p % 2) (mod-lt _ (lit< tt)))
+
+-- the bytes of four positions as one number, and its digits
+abbrev pub fourBytes : ℕ → ℕ → ℕ → ℕ
+fourBytes mine taken p =
+    byteIn mine taken p + 256 * byteIn mine taken (p + 1) + 65536 * byteIn mine taken (p + 2) + 16777216 * byteIn mine taken (p + 3)
+
+pub four-joined : (mine taken p x y : ℕ) → x ≡ fourApart (mine / 2 ^ p % 16) → y ≡ fourApart (taken / 2 ^ p % 16) → x + 2 * y ≡ fourBytes mine taken p
+four-joined mine taken p x y e f = omega (arith, e, f, four-of mine p, four-of taken p)
+
+digits : (a b c d x : ℕ) → a < 4 → b < 4 → c < 4 → d < 4 → x ≡ a + 256 * b + 65536 * c + 16777216 * d
+    → (x % 256 ≡ a) × (x / 256 % 256 ≡ b) × (x / 65536 % 256 ≡ c) × (x / 16777216 % 256 ≡ d)
+digits a b c d x p q r s e = (omega arith, omega arith, omega arith, omega arith)
+
+pub four-digits : (mine taken p x : ℕ) → x ≡ fourBytes mine taken p
+    → x % 256 ∷ x / 256 % 256 ∷ x / 65536 % 256 ∷ x / 16777216 % 256 ∷ [] ≡ listOf (λ k. byteIn mine taken (p + k)) 4
+unfolding listOf
+four-digits mine taken p x e =
+    let d = digits (byteIn mine taken p) (byteIn mine taken (p + 1)) (byteIn mine taken (p + 2)) (byteIn mine taken (p + 3)) x
+    (byte-most mine taken p) (byte-most mine taken (p + 1)) (byte-most mine taken (p + 2)) (byte-most mine taken (p + 3)) e in
+    let first : x % 256 ≡ byteIn mine taken (p + 0) = d .0 ∙ ap (byteIn mine taken) (sym (add-zero p)) in
+    (λ i. first i ∷ d .1 i ∷ d .2 i ∷ d .3 i ∷ [])

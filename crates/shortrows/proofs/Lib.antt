@@ -1,0 +1,3 @@
+-- The laws of crate `shortrows`, module by module.
+pub mod Bytes
+pub mod Row

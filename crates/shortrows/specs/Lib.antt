@@ -1,0 +1,2 @@
+-- The definitions of crate `shortrows`, module by module.
+pub mod Short

@@ -1,0 +1,2 @@
+-- The laws of crate `wordturns`, module by module.
+pub mod Turn

@@ -1,0 +1,2 @@
+-- The definitions of crate `wordturns`, module by module.
+pub mod Turn
