@@ -24,7 +24,7 @@ const maker makers[MAKERS] = {
     [SECOND] = MAKER("second", second_),
     [C2] = MAKER("C -O2", plain2_),
     [C3] = MAKER("C -O3", plain3_),
-    [BITS] = {.name = "C bits", .plan = bits_plan, .check = bits_check, .mend = bits_mend},
+    [BITS] = {.name = "C bits", .plan = bits_plan, .check = bits_check, .mend = bits_mend, .change_load = bits_change_load},
 };
 
 enum {

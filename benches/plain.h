@@ -52,9 +52,10 @@
 DECLARE(PREFIX)
 #endif
 
-/* The C on bit sets has these three, and the quicker search for the flows to admit the last two. */
+/* The C on bit sets has these four, and the quicker search for the flows to admit the last two. */
 dugg_answer bits_plan(dugg_site site, uint8_t *table, size_t len);
 dugg_answer bits_check(dugg_site site, const uint8_t *table, size_t len);
+dugg_answer bits_change_load(dugg_site *site, uint16_t cell, uint16_t load, uint8_t *table, size_t len);
 dugg_answer bits_mend(dugg_site site, uint8_t *table, size_t len, uint16_t *changes, size_t count);
 dugg_answer sets_admit(dugg_site site, const dugg_flow *flows, size_t count);
 dugg_answer sets_admit_beside(dugg_site site, const dugg_flow *flows, size_t count);

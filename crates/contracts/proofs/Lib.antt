@@ -24,7 +24,7 @@ pub mod PlanrowsOne
 pub mod ShortrowsOne
 pub mod PlannerOne
 pub mod StretchesOne
-pub mod RowwordsOne
+pub mod RowapartOne
 pub mod PlantestOne
 pub mod ReplanOne
 pub mod HandheldOne

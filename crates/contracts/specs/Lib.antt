@@ -24,7 +24,7 @@ pub mod PlanrowsSays
 pub mod ShortrowsSays
 pub mod PlannerSays
 pub mod StretchesSays
-pub mod RowwordsSays
+pub mod RowapartSays
 pub mod PlantestSays
 pub mod ReplanSays
 pub mod HandheldSays

@@ -37,7 +37,7 @@ use Rattle.planner.proofs.Answer.{run-answer, run-table}
 use Rattle.planner.proofs.Meaning.{done-means}
 use Rattle.planner.specs.declared.PlanAnswer.{PlanAnswer}
 use Rattle.planner.specs.declared.PlanAnswer.the-variants as Plan
-use Rattle.rowwords.proofs.Runs.{plan-front}
+use Rattle.rowapart.proofs.Runs.{plan-front}
 use Rattle.handheld.specs.Change.{tableIsPlan, changeOf, inOrder, changeAnswer, changeSite, changeTable}
 use Rattle.handheld.specs.declared.ChangeAnswer.the-variants.{Done, TableShort, NotPlan, NoRoom, Refused}
 use Rattle.handheld.proofs.Loads.{planned-before}

@@ -18,7 +18,7 @@ use Rattle.site.proofs.Edits.{done-new, set-load-fine}
 use Rattle.planner.specs.Plan.{planAnswer, planTable}
 use Rattle.planner.specs.Loop.{PlannedTo}
 use Rattle.planner.specs.declared.PlanAnswer.{PlanAnswer}
-use Rattle.rowwords.proofs.Runs.{plan-front}
+use Rattle.rowapart.proofs.Runs.{plan-front}
 use Rattle.handheld.specs.Change.{tableIsPlan, changeOf, inOrder, changeTable, changedOf}
 use Rattle.handheld.specs.declared.Changed.{Changed}
 use Rattle.handheld.specs.declared.ChangeAnswer.{ChangeAnswer}

@@ -1,6 +1,6 @@
 // One load changes on the handheld: the record is edited where it stands, and the table that is lent with it is planned anew from that cell on.
 // It must be the greedy plan of the unedited site, which is tested in place: there is no second record and no second table.
-// The local room is that of crate `plantest`, 12 kilobytes.
+// The local room beyond the copy of the record is that of crates `plantest` and `replan`, one after the other: a row and a mask, 4 kilobytes.
 use planner::PlanAnswer;
 use site::Fault;
 use site::Site;

@@ -1,16 +1,17 @@
-// Whether a table is the greedy plan, tested in place: each row is made anew from the words of the rows before it, and compared.
+// Whether a table is the greedy plan, tested in place: each row is made anew from the rows before it, and compared.
 //
-// What it costs, for I cells and N positions: one pass over a row's words to make it, one to compare it and one to join it to the words. The local room is
-// a word and two bytes for each position, 12 kilobytes, and for up to 64 positions 384 bytes: no second table.
-use rowwords::load_of;
-use rowwords::next_row;
+// What it costs: for each row what it costs to plan it, and one pass to compare it. The local room is a byte for each position, and one more for each where a
+// position is blocked: 4 kilobytes, and for up to 64 positions 128 bytes. There is no second table.
+use rowapart::load_of;
+use rowapart::make_row;
+use rowapart::mask_size;
 ghost use mathlib.Core.Path.{_≡_};
 ghost use Prim.Native.Nat.{_+_, _*_, _≤_, _<_};
 ghost use lib.ListN.{length};
-ghost use Rattle.laws.specs.Part.{Zeros};
 ghost use Rattle.theory.specs.Plan.{isPlan};
 ghost use Rattle.site.specs.Reach.{isOpen, netBy};
-ghost use Rattle.rowwords.specs.Code.{bytesAlike, MaskBars, EitherWay};
+ghost use Rattle.planrows.specs.Row.{opens, Masks, EitherWay};
+ghost use Rattle.rowapart.specs.Code.{bytesAlike, maskSize};
 
 // Whether n bytes of the table, from `from` on, are those of a row. No branch in the loop, so that many are compared at once.
 fn same(table: &[u8], from: usize, row: &[u8], n: usize) -> bool
@@ -24,30 +25,41 @@ fn same(table: &[u8], from: usize, row: &[u8], n: usize) -> bool
     other == 0
 }
 
-// Whether the table's rows are the greedy plan, cell after cell. The words that are lent are 0. Which positions are blocked only the contract asks.
+// Whether the table's rows are the greedy plan, cell after cell. The room that is lent is for a row, and for where each row's reserved positions start and end.
 fn test_rows(
     table: &[u8],
     row: &mut [u8],
-    words: &mut [u32],
+    starts: &mut [u16; 32],
+    ends: &mut [u16; 32],
     cells: usize,
     slots: usize,
     channels: usize,
     loads: &[u16; 32],
     clash: &[u32; 32],
     mask: &[u8],
-    blocked: &[u64; 32],
 ) -> bool
-    requires { ⌜ (0 < cells) × (cells ≤ 32) × (channels ≤ 16) × (cells * (slots * channels) ≤ length (now table)) × (length (now row) ≡ slots * channels) ⌝ }
-    requires { ⌜ (slots * channels ≤ length (now words)) × (slots * channels ≤ length (now mask)) ⌝ }
-    requires { ⌜ Zeros (slots * channels) (now words) × MaskBars (slots * channels) (now blocked) (now mask) × EitherWay (now clash) ⌝ }
-    ensures { λ r. ⌜ r ≡ isPlan (netBy cells (slots * channels) (now (loads .entry)) (now (clash .entry)) (isOpen (now (blocked .entry))))
+    requires { ⌜ (0 < cells) × (cells ≤ 32) × (channels ≤ 16) × (slots * channels ≤ 2048) × (cells * (slots * channels) ≤ length (now table)) ⌝ }
+    requires { ⌜ (length (now row) ≡ slots * channels) × (length (now starts) ≡ 32) × (length (now ends) ≡ 32) ⌝ }
+    requires { ⌜ Masks (slots * channels) (now mask) × EitherWay (now clash) ⌝ }
+    ensures { λ r. ⌜ r ≡ isPlan (netBy cells (slots * channels) (now (loads .entry)) (now (clash .entry)) (opens (now (mask .entry))))
         (now (table .entry)) ⌝ }
 {
     let n = slots * channels;
     for i in 0..cells {
         let load = load_of(loads, i) as usize;
-        let near = clash[i];
-        let short = next_row(row, slots, channels, load, words, near, mask);
+        let made = make_row(
+            row,
+            table,
+            slots,
+            channels,
+            i,
+            load,
+            clash,
+            mask,
+            starts,
+            ends,
+        );
+        let short = made.left;
         if 0 < short {
             return false;
         }
@@ -55,17 +67,17 @@ fn test_rows(
         if !same(table, from, row, n) {
             return false;
         }
-        words::add_row(words, table, from, n, 1 << i);
+        starts[i] = made.from as u16;
+        ends[i] = made.to as u16;
     }
     true
 }
 
-// The same in lent room: bytes for a mask and a row, and words that are 0.
+// The same in lent room: bytes for a row, and for a mask where a position is blocked.
 fn test_in(
     table: &[u8],
     mask: &mut [u8],
     row: &mut [u8],
-    words: &mut [u32],
     cells: usize,
     slots: usize,
     channels: usize,
@@ -74,23 +86,25 @@ fn test_in(
     blocked: &[u64; 32],
 ) -> bool
     requires { ⌜ (0 < cells) × (cells ≤ 32) × (channels ≤ 16) × (slots * channels ≤ 2048) × (cells * (slots * channels) ≤ length (now table)) ⌝ }
-    requires { ⌜ (length (now mask) ≡ slots * channels) × (length (now row) ≡ slots * channels) × (slots * channels ≤ length (now words)) ⌝ }
-    requires { ⌜ Zeros (slots * channels) (now words) × EitherWay (now clash) ⌝ }
+    requires { ⌜ (length (now mask) ≡ maskSize (now blocked) (slots * channels)) × (length (now row) ≡ slots * channels) ⌝ }
+    requires { ⌜ EitherWay (now clash) ⌝ }
     ensures { λ r. ⌜ r ≡ isPlan (netBy cells (slots * channels) (now (loads .entry)) (now (clash .entry)) (isOpen (now (blocked .entry))))
         (now (table .entry)) ⌝ }
 {
+    let mut starts = [0u16; 32];
+    let mut ends = [0u16; 32];
     positions::bars(blocked, mask);
     test_rows(
         table,
         row,
-        words,
+        &mut starts,
+        &mut ends,
         cells,
         slots,
         channels,
         loads,
         clash,
         mask,
-        blocked,
     )
 }
 
@@ -110,14 +124,13 @@ fn is_small_plan(
         (now (table .entry)) ⌝ }
 {
     let n = slots * channels;
+    let m = mask_size(blocked, n);
     let mut mask = [0u8; 64];
     let mut row = [0u8; 64];
-    let mut words = [0u32; 64];
     test_in(
         table,
-        &mut mask[..n],
+        &mut mask[..m],
         &mut row[..n],
-        &mut words,
         cells,
         slots,
         channels,
@@ -146,14 +159,13 @@ pub fn is_plan(
     if n <= 64 {
         return is_small_plan(table, cells, slots, channels, loads, clash, blocked);
     }
+    let m = mask_size(blocked, n);
     let mut mask = [0u8; 2048];
     let mut row = [0u8; 2048];
-    let mut words = [0u32; 2048];
     test_in(
         table,
-        &mut mask[..n],
+        &mut mask[..m],
         &mut row[..n],
-        &mut words,
         cells,
         slots,
         channels,

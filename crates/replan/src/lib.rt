@@ -1,36 +1,29 @@
-// The greedy plan from a cell on, where the rows before it stand. The function that writes is lent the part of the table from that cell's row on, and no more.
+// The greedy plan from a cell on, where the rows before it stand. Each row is made apart from the table, and what is lent to be written is that one row.
 //
-// What it costs: one pass over a row's words to mark it, one to fill it and one to join it to the words, whatever the clashes. The local room is a word and a
-// byte for each position: no second table. Of at most 64 positions only so many are cleared.
+// What it costs: for each row what it costs to plan it, and one pass to store it. The local room is a byte for each position, and one more for each where a
+// position is blocked: no second table. Of at most 64 positions only so many are cleared.
 use planner::PlanAnswer;
-use rowwords::load_of;
-use rowwords::next_row;
+use rowapart::load_of;
+use rowapart::make_row;
+use rowapart::mask_size;
 ghost use mathlib.Core.Path.{_≡_};
-ghost use mathlib.Core.List.{List, _++_};
-ghost use Prim.Native.Nat.{ℕ, _-_, _*_, _≤_};
-ghost use lib.ListN.{length, drop};
-ghost use Rattle.laws.specs.Part.{Zeros};
+ghost use Prim.Native.Nat.{_*_, _≤_};
+ghost use lib.ListN.{length};
 ghost use Rattle.theory.specs.Greedy.{greedy};
 ghost use Rattle.site.specs.Reach.{isOpen, netBy};
 ghost use Rattle.planner.specs.Plan.{answerOf, leaves};
 ghost use Rattle.planner.specs.Loop.{PlannedTo};
-ghost use Rattle.rowwords.specs.Code.{MaskBars, EitherWay, Gathered, Reached, upperOf};
+ghost use Rattle.planrows.specs.Row.{opens, Masks, Sending, EitherWay};
+ghost use Rattle.rowapart.specs.Code.{maskSize};
 
-// Gathers the words of the first rows of a table. The words that are lent are 0.
-fn gather(words: &mut [u32], table: &[u8], n: usize, first: usize)
-    requires { ⌜ (first ≤ 32) × (n ≤ length (now words)) × (first * n ≤ length (now table)) ⌝ }
-    requires { ⌜ Zeros n (now words) ⌝ }
-    ensures { λ _. ⌜ Gathered n first (now (table .entry)) (now (words .exit)) ⌝ }
-{
-    for i in 0..first {
-        words::add_row(words, table, i * n, n, 1 << i);
-    }
-}
-
-// The greedy rows from cell `first` on, by index, in the part of the table that begins with that cell's row: no other byte of the table is lent.
-// The words have the rows before. Where a cell finds no room, what is lent of the site's rows is made idle.
+// The greedy rows from cell `first` on, by index, where the rows before it are planned. Of the table only the row that is laid is lent to be written, so that
+// those rows are read and never written while every cell finds room. Where one finds none, the site's part is made idle.
+// The other room that is lent is for a row, and for where each row's reserved positions start and end.
 fn rows_from(
-    part: &mut [u8],
+    table: &mut [u8],
+    row: &mut [u8],
+    starts: &mut [u16; 32],
+    ends: &mut [u16; 32],
     first: usize,
     cells: usize,
     slots: usize,
@@ -38,44 +31,53 @@ fn rows_from(
     loads: &[u16; 32],
     clash: &[u32; 32],
     mask: &[u8],
-    words: &mut [u32],
-    blocked: &[u64; 32],
 ) -> PlanAnswer
-    requires { ⌜ (first ≤ cells) × (cells ≤ 32) × (channels ≤ 16) × ((cells - first) * (slots * channels) ≤ length (now part)) ⌝ }
-    requires { ⌜ (slots * channels ≤ length (now words)) × (slots * channels ≤ length (now mask)) × (slots * channels ≤ 2048) ⌝ }
-    requires { ⌜ ((t : List ℕ) × Reached (netBy cells (slots * channels) (now loads) (now clash) (isOpen (now blocked))) first t (now words))
-        × MaskBars (slots * channels) (now blocked) (now mask) × EitherWay (now clash) ⌝ }
+    requires { ⌜ (first ≤ cells) × (cells ≤ 32) × (channels ≤ 16) × (slots * channels ≤ 2048) × (cells * (slots * channels) ≤ length (now table)) ⌝ }
+    requires { ⌜ (length (now row) ≡ slots * channels) × (length (now starts) ≡ 32) × (length (now ends) ≡ 32) ⌝ }
+    requires { ⌜ PlannedTo (netBy cells (slots * channels) (now loads) (now clash) (opens (now mask))) first (now table)
+        × Sending (slots * channels) (now table) first (now starts) (now ends) × Masks (slots * channels) (now mask) × EitherWay (now clash) ⌝ }
     ensures answer { λ r. ⌜ r ≡ answerOf (greedy (netBy cells (slots * channels) (now (loads .entry)) (now (clash .entry))
-        (isOpen (now (blocked .entry))))) ⌝ }
-    ensures part { λ _. ⌜ now (part .exit)
-        ≡ upperOf (netBy cells (slots * channels) (now (loads .entry)) (now (clash .entry)) (isOpen (now (blocked .entry)))) first
-        ++ drop ((cells - first) * (slots * channels)) (now (part .entry)) ⌝ }
+        (opens (now (mask .entry))))) ⌝ }
+    ensures table { λ _. ⌜ now (table .exit) ≡ leaves (netBy cells (slots * channels) (now (loads .entry)) (now (clash .entry))
+        (opens (now (mask .entry)))) (now (table .entry)) ⌝ }
 {
     let n = slots * channels;
-    let mut at: usize = 0;
     for i in first..cells {
         let load = load_of(loads, i) as usize;
-        let near = clash[i];
-        let to = at + n;
-        let short = next_row(&mut part[at..to], slots, channels, load, words, near, mask);
+        let made = make_row(
+            row,
+            table,
+            slots,
+            channels,
+            i,
+            load,
+            clash,
+            mask,
+            starts,
+            ends,
+        );
+        let short = made.left;
         if 0 < short {
-            let size = (cells - first) * n;
-            rows::clear(&mut part[..size]);
+            let size = cells * n;
+            rows::clear(&mut table[..size]);
             let cell = i + 1;
             return PlanAnswer::NoRoom(cell, short);
         }
-        words::add_row(words, part, at, n, 1 << i);
-        at = to;
+        let from = i * n;
+        let to = from + n;
+        rows::lay_mask(&mut table[from..to], row);
+        starts[i] = made.from as u16;
+        ends[i] = made.to as u16;
     }
     PlanAnswer::Done
 }
 
-// The greedy plan from cell `first` on, by index, where the rows before it are planned: they are read, and never written while every cell finds room.
-// Where one finds none, the site's part is made idle, the rows before included. The room is lent: bytes for a mask, and words that are 0.
+// The same in lent room: bytes for a row, and for a mask where a position is blocked. Where the reserved positions of a row before `first` start and end is not
+// known: such a row is asked as a whole.
 fn plan_in(
     table: &mut [u8],
     mask: &mut [u8],
-    words: &mut [u32],
+    row: &mut [u8],
     first: usize,
     cells: usize,
     slots: usize,
@@ -85,7 +87,7 @@ fn plan_in(
     blocked: &[u64; 32],
 ) -> PlanAnswer
     requires { ⌜ (first ≤ cells) × (cells ≤ 32) × (channels ≤ 16) × (slots * channels ≤ 2048) × (cells * (slots * channels) ≤ length (now table)) ⌝ }
-    requires { ⌜ (length (now mask) ≡ slots * channels) × (slots * channels ≤ length (now words)) × Zeros (slots * channels) (now words) ⌝ }
+    requires { ⌜ (length (now mask) ≡ maskSize (now blocked) (slots * channels)) × (length (now row) ≡ slots * channels) ⌝ }
     requires { ⌜ PlannedTo (netBy cells (slots * channels) (now loads) (now clash) (isOpen (now blocked))) first (now table) × EitherWay (now clash) ⌝ }
     ensures answer { λ r. ⌜ r ≡ answerOf (greedy (netBy cells (slots * channels) (now (loads .entry)) (now (clash .entry))
         (isOpen (now (blocked .entry))))) ⌝ }
@@ -93,11 +95,15 @@ fn plan_in(
         (isOpen (now (blocked .entry)))) (now (table .entry)) ⌝ }
 {
     let n = slots * channels;
-    let from = first * n;
+    let end = n as u16;
+    let mut starts = [0u16; 32];
+    let mut ends = [end; 32];
     positions::bars(blocked, mask);
-    gather(words, table, n, first);
-    let answer = rows_from(
-        &mut table[from..],
+    rows_from(
+        table,
+        row,
+        &mut starts,
+        &mut ends,
         first,
         cells,
         slots,
@@ -105,14 +111,7 @@ fn plan_in(
         loads,
         clash,
         mask,
-        words,
-        blocked,
-    );
-    let PlanAnswer::Done = answer else {
-        rows::clear(&mut table[..from]);
-        return answer;
-    };
-    PlanAnswer::Done
+    )
 }
 
 // The same for at most 64 positions: the room is cleared for so many alone.
@@ -134,12 +133,13 @@ fn plan_small_from(
         (isOpen (now (blocked .entry)))) (now (table .entry)) ⌝ }
 {
     let n = slots * channels;
+    let m = mask_size(blocked, n);
     let mut mask = [0u8; 64];
-    let mut words = [0u32; 64];
+    let mut row = [0u8; 64];
     plan_in(
         table,
-        &mut mask[..n],
-        &mut words,
+        &mut mask[..m],
+        &mut row[..n],
         first,
         cells,
         slots,
@@ -172,12 +172,13 @@ pub fn plan_from(
     if n <= 64 {
         return plan_small_from(table, first, cells, slots, channels, loads, clash, blocked);
     }
+    let m = mask_size(blocked, n);
     let mut mask = [0u8; 2048];
-    let mut words = [0u32; 2048];
+    let mut row = [0u8; 2048];
     plan_in(
         table,
-        &mut mask[..n],
-        &mut words,
+        &mut mask[..m],
+        &mut row[..n],
         first,
         cells,
         slots,

@@ -6,7 +6,7 @@ use native.Mathlib.Omega.{arith}
 use lib.Dec.{eqb}
 use lib.ListN.{getD}
 use Rattle.laws.specs.Sum.{any}
-use Rattle.rowwords.proofs.Bytes.{differ-more, differ-end}
+use Rattle.rowapart.proofs.Bytes.{differ-more, differ-end}
 use borrow.Author.Needs.{needs}
 use Rattle.plantest.proofs.same.Statement.{statement}
 use Rattle.plantest.proofs.same.Tie as tie

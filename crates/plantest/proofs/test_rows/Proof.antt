@@ -1,86 +1,114 @@
--- `plantest::test_rows` meets its contract: before cell i, the table's rows of the cells below i are the run's, and the words have them. Assumes nothing.
-use mathlib.Core.Path.{_≡_, refl, sym, ap, subst, _∙_}
-use mathlib.Core.Bool.{true}
-use mathlib.Core.List.{List, _++_}
+-- `plantest::test_rows` meets its contract: before cell i, the table's rows of the cells below i are the run's, and each of them sends in the stretch that is
+-- noted of it. Assumes nothing.
+use mathlib.Core.Path.{_≡_, refl, sym, ap, _∙_}
+use mathlib.Core.Bool.{Bool, true}
+use mathlib.Core.List.{List}
 use borrow.Author.Tests.{not-true, not-false}
 use Prim.Native.Nat.{ℕ, _+_, _-_, _*_, _≤_, _<_}
 use native.Mathlib.Omega.{arith}
-use lib.ListN.{length, getD, take}
-use Rattle.laws.proofs.Bits.{one-shl}
+use lib.ListN.{length, getD, length-set}
+use Rattle.laws.specs.Bits.{bitIn}
+use Rattle.laws.specs.Part.{put}
 use Rattle.laws.proofs.Grid.{row-before}
-use Rattle.laws.proofs.Stores.{sets-long}
-use Rattle.theory.specs.Greedy.{row}
-use Rattle.site.specs.Reach.{isOpen, netBy}
-use Rattle.rowwords.specs.Code.{bytesAlike, Reached}
-use Rattle.rowwords.proofs.Bytes.{same-all}
-use Rattle.rowwords.proofs.Runs.{none-reached, row-new, row-long, turn-stops, turn-goes, short-not, row-not, row-yes, all-yes}
+use Rattle.theory.specs.Net.{Net}
+use Rattle.site.specs.Reach.{netBy}
+use Rattle.planrows.specs.Row.{rowPlanned, opens, Sending}
+use Rattle.planrows.proofs.Sent.{sends-in-is, sending-none, sending-more}
+use Rattle.planner.specs.Loop.{PlannedTo}
+use Rattle.planner.proofs.Before.{planned-marked}
+use Rattle.planner.proofs.Cells.{no-rows, more-planned, more-short}
+use Rattle.rowapart.specs.Code.{bytesAlike}
+use Rattle.rowapart.proofs.Runs.{short-not, row-not, row-yes, all-yes}
 use borrow.Author.Needs.{needs}
 use Rattle.plantest.proofs.test_rows.Statement.{statement}
 use Rattle.plantest.proofs.test_rows.Tie as tie
 
 abbrev Inv-loop : tie.InvT-loop
-Inv-loop table row₀ words₀ cells slots channels loads clash mask blocked n i₀ row words i =
+Inv-loop table row₀ starts₀ ends₀ cells slots channels loads clash mask n i₀ row starts ends i =
     (i ≤ cells)
-    × (length row ≡ length row₀)
-    × (length words ≡ length words₀)
-    × Reached (netBy cells (slots * channels) loads clash (isOpen blocked)) i (take (i * (slots * channels)) table) words
+    × (length row ≡ slots * channels)
+    × (length starts ≡ 32)
+    × (length ends ≡ 32)
+    × PlannedTo (netBy cells (slots * channels) loads clash (opens mask)) i table
+    × Sending (slots * channels) table i starts ends
 
 abbrev μ-loop : tie.MeasureT-loop
-μ-loop table row₀ words₀ cells slots channels loads clash mask blocked n i₀ row words i = cells - i
+μ-loop table row₀ starts₀ ends₀ cells slots channels loads clash mask n i₀ row starts ends i = cells - i
 
--- the arguments, the size of a row, and what is known before cell i
+-- the arguments, the size of a row, the problem, and what is known before cell i
 abbrev start : tie.In-loop Inv-loop μ-loop → tie.Start Inv-loop μ-loop
-start c = c .before .before .before .before .before .before
+start c = c .before .before .before .before .before
 
 abbrev size : tie.In-loop Inv-loop μ-loop → ℕ
 size c = start c .args .slots * start c .args .channels
 
+abbrev table : tie.In-loop Inv-loop μ-loop → List ℕ
+table c = start c .args .table .now
+
+abbrev clash : tie.In-loop Inv-loop μ-loop → ℕ → ℕ → Bool
+clash c = bitIn (start c .args .clash .now)
+
+abbrev usable : tie.In-loop Inv-loop μ-loop → ℕ → Bool
+usable c = opens (start c .args .mask .now)
+
+abbrev net : tie.In-loop Inv-loop μ-loop → Net
+net c = netBy (start c .args .cells) (size c) (start c .args .loads .now) (start c .args .clash .now) (usable c)
+
 below : (c : tie.In-loop Inv-loop μ-loop) → c .before .loop .i < start c .args .cells
 below c = omega (arith, c .loop-test .taken, start c .pre .0 .0)
 
-inside : (c : tie.In-loop Inv-loop μ-loop) → c .before .loop .i * size c + size c ≤ length (start c .args .table .now)
-inside c = omega (arith, row-before (size c) (below c), start c .pre .0 .3)
+inside : (c : tie.In-loop Inv-loop μ-loop) → c .before .loop .i * size c + size c ≤ length (table c)
+inside c = omega (arith, row-before (size c) (below c), start c .pre .0 .4)
 
 low : (c : tie.In-loop Inv-loop μ-loop) → c .before .loop .i < 32
 low c = omega (arith, below c, start c .pre .0 .1)
 
 -- once the row is made
-module _ (c : tie.After-next-row Inv-loop μ-loop) where
+module _ (c : tie.After-make-row Inv-loop μ-loop) where
   abbrev at : tie.In-loop Inv-loop μ-loop
   at = c .before .before .before .before .before
 
   abbrev turn : ℕ
   turn = at .before .loop .i
 
-  own : c .before .before .before .before .load-of .result ≡ getD (start at .args .loads .now) turn 0
+  abbrev load : ℕ
+  load = c .before .before .before .before .load-of .result
+
+  abbrev made : List ℕ
+  made = c .make-row .last .0
+
+  own : load ≡ getD (start at .args .loads .now) turn 0
   own = c .before .before .before .before .load-of .ensures
 
-  wide : size at ≤ length (at .before .loop .words)
-  wide = omega (arith, at .before .loop .inv .2, start at .pre .1 .0 .0)
+  made-long : length made ≡ size at
+  made-long = omega (arith, c .make-row .kept .0, at .before .loop .inv .1)
 
-  made-long : length (c .next-row .last .0) ≡ size at
-  made-long = ap length (c .next-row .ensures .0)
-      ∙ row-long (start at .args .cells) (size at) (start at .args .loads .now) (start at .args .clash .now) (start at .args .blocked .now)
-      (start at .args .mask .now) (at .before .loop .words) (take (turn * size at) (start at .args .table .now)) turn (start at .pre .1 .1 .2)
-      (start at .pre .1 .1 .1) (at .before .loop .inv .3) own
+  -- the table with that row in its place
+  is : put (turn * size at) (size at) made (table at) ≡ rowPlanned (size at) (clash at) (usable at) turn load (table at)
+  is = ap (λ (r : List ℕ). put (turn * size at) (size at) r (table at)) (c .make-row .ensures .0)
 
-  made-row : c .next-row .last .0
-      ≡ row (netBy (start at .args .cells) (size at) (start at .args .loads .now) (start at .args .clash .now) (isOpen (start at .args .blocked .now)))
-      (take (turn * size at) (start at .args .table .now)) turn
-  made-row = c .next-row .ensures .0
-      ∙ row-new (start at .args .cells) (size at) (start at .args .loads .now) (start at .args .clash .now) (start at .args .blocked .now)
-      (start at .args .mask .now) (at .before .loop .words) (take (turn * size at) (start at .args .table .now)) turn (start at .pre .1 .1 .2)
-      (start at .pre .1 .1 .1) (at .before .loop .inv .3) own
+  -- its stretch is noted in two bytes
+  short-places : (c .make-row .result .from ≤ 2048) × (c .make-row .result .to ≤ 2048)
+  short-places =
+      let s = c .make-row .ensures .1 .1 .0 in
+      let few : size at ≤ 2048 = start at .pre .0 .3 in
+      (omega (arith, s .0, s .1, few), omega (arith, s .1, few))
 
 mul-n : tie.Need-mul-n Inv-loop μ-loop
-mul-n c = let s = c .before .before .before .before in omega (arith, s .pre .1 .0 .0)
+mul-n c = let s = c .before .before .before in omega (arith, s .pre .0 .3)
 
 loop-holds : tie.Need-loop-holds Inv-loop μ-loop
 loop-holds c =
-    let s = c .before .before .before .before in
+    let s = c .before .before .before in
     let a = s .args in
-    let net = netBy (a .cells) (a .slots * a .channels) (a .loads .now) (a .clash .now) (isOpen (a .blocked .now)) in
-    (omega arith, refl, refl, none-reached net (a .words .now) (a .table .now) (s .pre .1 .1 .0))
+    let n = a .slots * a .channels in (
+      omega arith,
+      s .pre .1 .0 .0,
+      s .pre .1 .0 .1,
+      s .pre .1 .0 .2,
+      no-rows (netBy (a .cells) n (a .loads .now) (a .clash .now) (opens (a .mask .now))) (a .table .now),
+      sending-none n (a .table .now) (a .starts .now) (a .ends .now),
+    )
 
 load-of-requires : tie.Need-load-of-requires Inv-loop μ-loop
 load-of-requires c κs = low c
@@ -88,34 +116,26 @@ load-of-requires c κs = low c
 cast-load : tie.Need-cast-load Inv-loop μ-loop
 cast-load c = search needs
 
-mul-near : tie.Need-mul-near Inv-loop μ-loop
-mul-near c = search needs
-
-element-copy-out-near : tie.Need-element-copy-out-near Inv-loop μ-loop
-element-copy-out-near c = search needs
-
-next-row-requires : tie.Need-next-row-requires Inv-loop μ-loop
-next-row-requires c κs =
+make-row-requires : tie.Need-make-row-requires Inv-loop μ-loop
+make-row-requires c κs =
     let in′ = c .before .before .before .before in
     let s = start in′ in
-    ((s .pre .0 .2, in′ .before .loop .inv .1 ∙ s .pre .0 .4), (omega (arith, in′ .before .loop .inv .2, s .pre .1 .0 .0), s .pre .1 .0 .1))
+    let l = in′ .before .loop in (
+      (low in′, s .pre .0 .2, l .inv .1, inside in′),
+      ((l .inv .5, (planned-marked (net in′) (l .i) (table in′) (l .inv .4), s .pre .1 .1 .1)), s .pre .1 .1 .0),
+    )
 
 same-length : tie.Need-same-length Inv-loop μ-loop
-same-length c = let n′ = c .before .before .before in made-long n′ ∙ sym (start (at n′) .pre .0 .4)
-
-same-length-2 : tie.Need-same-length-2 Inv-loop μ-loop
-same-length-2 c = at (c .before .before .before) .before .loop .inv .2
+same-length c = let n′ = c .before .before .before in made-long n′ ∙ sym (start (at n′) .pre .1 .0 .0)
 
 returns : tie.Need-returns Inv-loop μ-loop
 returns c =
     let n′ = c .before .before .before in
     let in′ = at n′ in
     let a = start in′ .args in
-    short-not (netBy (a .cells) (size in′) (a .loads .now) (a .clash .now) (isOpen (a .blocked .now))) (a .table .now)
-    (turn-stops (start in′ .args .cells) (size in′) (start in′ .args .loads .now) (start in′ .args .clash .now) (start in′ .args .blocked .now)
-    (start in′ .args .mask .now) (in′ .before .loop .words) (take (turn n′ * size in′) (start in′ .args .table .now)) (turn n′) (start in′ .pre .1 .1 .2)
-    (start in′ .pre .1 .1 .1) (in′ .before .loop .inv .3) (own n′) (n′ .next-row .ensures .1)
-    (omega (arith, c .if1 .taken)) (a .cells) (below in′))
+    short-not (net in′) (table in′)
+    (more-short (a .cells) (size in′) (a .loads .now) (clash in′) (usable in′) (turn n′) (table in′) (inside in′) (own n′) (is n′) (in′ .before .loop .inv .4)
+    (n′ .make-row .ensures .1 .0) (omega (arith, c .if1 .taken)) (a .cells) (below in′))
 
 mul-from : tie.Need-mul-from Inv-loop μ-loop
 mul-from c = let in′ = at (c .before .before .before) in omega (arith, inside in′, start in′)
@@ -123,29 +143,37 @@ mul-from c = let in′ = at (c .before .before .before) in omega (arith, inside 
 same-requires : tie.Need-same-requires Inv-loop μ-loop
 same-requires c κs = let n′ = c .before .before .before .before in (inside (at n′), omega (arith, made-long n′))
 
-same-length-3 : tie.Need-same-length-3 Inv-loop μ-loop
-same-length-3 c = let n′ = c .before .before .before .before .before .before in made-long n′ ∙ sym (start (at n′) .pre .0 .4)
-
-same-length-4 : tie.Need-same-length-4 Inv-loop μ-loop
-same-length-4 c = at (c .before .before .before .before .before .before) .before .loop .inv .2
+same-length-2 : tie.Need-same-length-2 Inv-loop μ-loop
+same-length-2 c = let n′ = c .before .before .before .before .before .before in made-long n′ ∙ sym (start (at n′) .pre .1 .0 .0)
 
 returns-2 : tie.Need-returns-2 Inv-loop μ-loop
 returns-2 c =
     let n′ = c .before .before .before .before .before .before in
     let in′ = at n′ in
     let a = start in′ .args in
-    let net = netBy (a .cells) (size in′) (a .loads .now) (a .clash .now) (isOpen (a .blocked .now)) in
-    row-not net (turn n′) (a .table .now) (take (turn n′ * size in′) (a .table .now)) (n′ .next-row .last .0) (in′ .before .loop .inv .3 .runs)
-    (below in′) (made-row n′) (sym (not-true _ (c .if2 .taken)) ∙ c .before .same .ensures)
+    let none : n′ .make-row .result .left ≡ 0 = omega arith in
+    row-not (size in′) (turn n′) (table in′) (made n′) (made-long n′) (inside in′) (net in′) refl (below in′)
+    (more-planned (a .cells) (size in′) (a .loads .now) (clash in′) (usable in′) (turn n′) (table in′) (inside in′) (own n′) (is n′)
+    (in′ .before .loop .inv .4) (n′ .make-row .ensures .1 .0) none)
+    (sym (not-true _ (c .if2 .taken)) ∙ c .before .same .ensures)
 
-cast-add-row : tie.Need-cast-add-row Inv-loop μ-loop
-cast-add-row c = search needs
+cast-starts : tie.Need-cast-starts Inv-loop μ-loop
+cast-starts c = omega (arith, short-places (c .before .before .before .before .before .before .before) .0)
 
-shl-add-row : tie.Need-shl-add-row Inv-loop μ-loop
-shl-add-row c = search needs
+mul-starts : tie.Need-mul-starts Inv-loop μ-loop
+mul-starts c = search needs
 
-add-row-requires : tie.Need-add-row-requires Inv-loop μ-loop
-add-row-requires c κs = let n′ = c .before .before .before .before .before .before .before in (wide n′, inside (at n′))
+element-write-starts : tie.Need-element-write-starts Inv-loop μ-loop
+element-write-starts c = search needs
+
+cast-ends : tie.Need-cast-ends Inv-loop μ-loop
+cast-ends c = omega (arith, short-places (c .before .before .before .before .before .before .before .before) .1)
+
+mul-ends : tie.Need-mul-ends Inv-loop μ-loop
+mul-ends c = search needs
+
+element-write-ends : tie.Need-element-write-ends Inv-loop μ-loop
+element-write-ends c = search needs
 
 add-i : tie.Need-add-i Inv-loop μ-loop
 add-i c = search needs
@@ -155,41 +183,36 @@ loop-less c = search needs
 
 loop-again : tie.Need-loop-again Inv-loop μ-loop
 loop-again c =
-    let n′ = c .before .before .before .before .before .before .before .before .before .before in
+    let else2 = c .before .before in
+    let n′ = else2 .before .before .before .before .before .before in
     let in′ = at n′ in
     let a = start in′ .args in
-    let none : n′ .next-row .result ≡ 0 = omega arith in
-    let alike : true ≡ bytesAlike (a .table .now) (turn n′ * size in′) (n′ .next-row .last .0) (size in′)
-    = sym (not-false _ (c .before .before .before .before .if2 .left)) ∙ c .before .before .before .before .before .same .ensures in
-    let joined = c .before .before .add-row in
-    let rows : take (turn n′ * size in′) (a .table .now) ++ (n′ .next-row .last .0) ≡ take ((turn n′ + 1) * size in′) (a .table .now)
-    = row-yes (size in′) (turn n′) (a .table .now) (n′ .next-row .last .0) (inside in′) (made-long n′) alike in
-    let goes = turn-goes (start in′ .args .cells) (size in′) (start in′ .args .loads .now) (start in′ .args .clash .now) (start in′ .args .blocked .now)
-    (start in′ .args .mask .now) (in′ .before .loop .words) (take (turn n′ * size in′) (start in′ .args .table .now)) (turn n′) (start in′ .pre .1 .1 .2)
-    (start in′ .pre .1 .1 .1) (in′ .before .loop .inv .3) (own n′) (n′ .next-row .ensures .1)
-    none (a .table .now) (turn n′ * size in′) _ (one-shl (turn n′) (low in′)) (joined .ensures) (wide n′)
-    (λ k h. same-all (a .table .now) (turn n′ * size in′) (n′ .next-row .last .0) (size in′) (sym alike) k h
-    ∙ ap (λ (l : List ℕ). getD l k 0) (n′ .next-row .ensures .0)) in (
+    let l = in′ .before .loop in
+    let none : n′ .make-row .result .left ≡ 0 = omega arith in
+    let alike : true ≡ bytesAlike (table in′) (turn n′ * size in′) (made n′) (size in′)
+    = sym (not-false _ (else2 .if2 .left)) ∙ else2 .before .same .ensures in
+    let back = row-yes (size in′) (turn n′) (table in′) (made n′) (made-long n′) (inside in′) alike in
+    let stands = sym back ∙ is n′ in (
       omega (arith, below in′),
-      made-long n′ ∙ sym (start in′ .pre .0 .4),
-      sets-long _ (size in′) (in′ .before .loop .words) (joined .last .0) (joined .ensures) ∙ in′ .before .loop .inv .2,
-      subst (λ (t : List ℕ). Reached (netBy (a .cells) (size in′) (a .loads .now) (a .clash .now) (isOpen (a .blocked .now)))
-          (turn n′ + 1) t (joined .last .0))
-          (ap (λ (l : List ℕ). take (turn n′ * size in′) (a .table .now) ++ l) (sym (n′ .next-row .ensures .0)) ∙ rows) goes,
+      made-long n′,
+      simp length-set (l .inv .2),
+      simp length-set (l .inv .3),
+      more-planned (a .cells) (size in′) (a .loads .now) (clash in′) (usable in′) (turn n′) (table in′) (inside in′) (own n′) stands (l .inv .4)
+          (n′ .make-row .ensures .1 .0) none,
+      sending-more (size in′) (clash in′) (turn n′) (table in′) (inside in′) (usable in′) (load n′) stands (l .starts) (l .ends)
+          (omega (arith, low in′, l .inv .2)) (omega (arith, low in′, l .inv .3)) (l .inv .5) _ _
+          (sends-in-is (size in′) (turn n′) (sym back) refl refl (n′ .make-row .ensures .1 .1 .0)),
     )
 
-same-length-5 : tie.Need-same-length-5 Inv-loop μ-loop
-same-length-5 c = c .before .loop .inv .1
-
-same-length-6 : tie.Need-same-length-6 Inv-loop μ-loop
-same-length-6 c = c .before .loop .inv .2
+same-length-3 : tie.Need-same-length-3 Inv-loop μ-loop
+same-length-3 c = c .before .loop .inv .1 ∙ sym (c .before .before .before .before .before .pre .1 .0 .0)
 
 returns-3 : tie.Need-returns-3 Inv-loop μ-loop
 returns-3 c =
-    let a = c .before .before .before .before .before .before .args in
-    let net = netBy (a .cells) (a .slots * a .channels) (a .loads .now) (a .clash .now) (isOpen (a .blocked .now)) in
+    let a = c .before .before .before .before .before .args in
     let last : c .before .loop .i ≡ a .cells = omega (arith, c .loop-test .left, c .before .loop .inv .0) in
-    all-yes net (a .table .now) (rw last at (c .before .loop .inv .3 .runs))
+    all-yes (netBy (a .cells) (a .slots * a .channels) (a .loads .now) (a .clash .now) (opens (a .mask .now))) (a .table .now)
+    (rw last at (c .before .loop .inv .4))
 
 pub test-rows-spec : {M : Type 1} → statement M
 test-rows-spec =
@@ -201,23 +224,21 @@ test-rows-spec =
     loop-holds
     load-of-requires
     cast-load
-    mul-near
-    element-copy-out-near
-    next-row-requires
+    make-row-requires
     same-length
-    same-length-2
     returns
     mul-from
     same-requires
-    same-length-3
-    same-length-4
+    same-length-2
     returns-2
-    cast-add-row
-    shl-add-row
-    add-row-requires
+    cast-starts
+    mul-starts
+    element-write-starts
+    cast-ends
+    mul-ends
+    element-write-ends
     add-i
     loop-less
     loop-again
-    same-length-5
-    same-length-6
+    same-length-3
     returns-3)

@@ -1,0 +1,2 @@
+-- The definitions of crate `rowapart`, module by module.
+pub mod Code

@@ -1,2 +1,0 @@
--- The definitions of crate `rowwords`, module by module.
-pub mod Code
