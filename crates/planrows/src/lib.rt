@@ -15,7 +15,7 @@ ghost use Rattle.rows.specs.Stretch.{SameBut, SendsIn, filledBy};
 ghost use Rattle.planrows.specs.Row.{marksIn, marksHere, rowPlanned, rowShort, opens, Masks, Sending, EitherWay, nearIn, byWord, RowsMarked, RowsBefore};
 
 // The cells before cell `i` that clash with it, as a word.
-fn near_of(clash: &[u32; 32], i: usize) -> u32
+pub fn near_of(clash: &[u32; 32], i: usize) -> u32
     requires { ⌜ i < 32 ⌝ }
     ensures { λ r. ⌜ r ≡ nearIn (now (clash .entry)) i ⌝ }
 {
@@ -23,7 +23,7 @@ fn near_of(clash: &[u32; 32], i: usize) -> u32
 }
 
 // The same, and cell `i` itself.
-fn group_of(clash: &[u32; 32], i: usize) -> u32
+pub fn group_of(clash: &[u32; 32], i: usize) -> u32
     requires { ⌜ i < 32 ⌝ }
     ensures { λ r. ⌜ r ≡ setBit (nearIn (now (clash .entry)) i) i ⌝ }
 {

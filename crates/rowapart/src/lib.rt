@@ -2,37 +2,23 @@
 //
 // What it costs is what it costs in crate `planrows`: for each earlier clashing row a pass over the stretch in which that row is reserved, and one pass to fill
 // it. Where the marks of the row before can be taken over, that is one pass for all of the rows that they come from.
+use planrows::group_of;
+use planrows::near_of;
 use rows::Filled;
 ghost use mathlib.Core.Path.{_≡_};
 ghost use mathlib.Core.List.{[]};
 ghost use Prim.Native.Nat.{_+_, _*_, _^_, _≤_, _<_};
 ghost use lib.Dec.{eqb};
 ghost use lib.ListN.{length, getD};
-ghost use Rattle.laws.specs.Bits.{bitIn, setBit};
+ghost use Rattle.laws.specs.Bits.{bitIn};
 ghost use Rattle.laws.specs.Choice.{pick};
 ghost use Rattle.laws.specs.Part.{part, put, listOf};
 ghost use Rattle.theory.specs.Net.{unblocked};
 ghost use Rattle.theory.specs.Greedy.{sends, forbid, fill};
 ghost use Rattle.rows.specs.Bars.{barRow};
 ghost use Rattle.rows.specs.Stretch.{SameBut, SendsIn, filledBy};
-ghost use Rattle.planrows.specs.Row.{marksIn, marksOn, rowShort, opens, Masks, Sending, EitherWay, nearIn, byWord, RowsMarked, RowsBefore};
+ghost use Rattle.planrows.specs.Row.{marksIn, marksOn, rowShort, opens, Masks, Sending, EitherWay, byWord, RowsMarked, RowsBefore};
 ghost use Rattle.rowapart.specs.Code.{coverBy, maskSize};
-
-// The cells before cell `i` that clash with it, as a word.
-fn near_of(clash: &[u32; 32], i: usize) -> u32
-    requires { ⌜ i < 32 ⌝ }
-    ensures { λ r. ⌜ r ≡ nearIn (now (clash .entry)) i ⌝ }
-{
-    clash[i] % (1 << i)
-}
-
-// The same, and cell `i` itself.
-fn group_of(clash: &[u32; 32], i: usize) -> u32
-    requires { ⌜ i < 32 ⌝ }
-    ensures { λ r. ⌜ r ≡ setBit (nearIn (now (clash .entry)) i) i ⌝ }
-{
-    near_of(clash, i) | (1 << i)
-}
 
 // A byte of a row, where an earlier clashing row holds `earlier`.
 fn mark(earlier: u8, byte: u8) -> u8
