@@ -3,12 +3,32 @@
 use mathlib.Core.Path.{_≡_, refl}
 use mathlib.Core.List.{List}
 use Prim.Native.Nat.{_*_, ℕ}
-use Rattle.contracts.specs.PlanrowsSays.{PlanrowsPlanRow}
-use Rattle.laws.specs.Bits.{bitIn}
-use Rattle.planrows.specs.Row.{marksIn, opens, rowPlanned}
+use Rattle.contracts.specs.PlanrowsSays.{PlanrowsGroupOf, PlanrowsNearOf, PlanrowsPlanRow}
+use Rattle.laws.specs.Bits.{bitIn, setBit}
+use Rattle.planrows.specs.Row.{marksIn, nearIn, opens, rowPlanned}
 use Rattle.rows.specs.Bars.{barRow}
 use Rattle.rows.specs.Stretch.{filledBy}
 use Rattle.rows.specs.declared.Filled.{Filled}
+
+-- planrows::near_of
+pub planrowsNearOf-one : (clash : List ℕ) (i : ℕ)
+    → (r : ℕ) × (PlanrowsNearOf clash i r)
+    × ((q : ℕ) → PlanrowsNearOf clash i q → (q ≡ r))
+planrowsNearOf-one clash i = (
+  nearIn clash i,
+  record { answer = refl },
+  λ q says. says .answer,
+)
+
+-- planrows::group_of
+pub planrowsGroupOf-one : (clash : List ℕ) (i : ℕ)
+    → (r : ℕ) × (PlanrowsGroupOf clash i r)
+    × ((q : ℕ) → PlanrowsGroupOf clash i q → (q ≡ r))
+planrowsGroupOf-one clash i = (
+  setBit (nearIn clash i) i,
+  record { answer = refl },
+  λ q says. says .answer,
+)
 
 -- planrows::plan_row
 pub planrowsPlanRow-one : (table : List ℕ) (slots : ℕ) (channels : ℕ) (i : ℕ) (load : ℕ) (clash : List ℕ) (mask : List ℕ) (starts : List ℕ) (ends : List ℕ)

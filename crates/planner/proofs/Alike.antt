@@ -1,19 +1,28 @@
--- Two problems that differ in no usable position of a row have one greedy run, and so one answer and one table. Assumes nothing.
+-- Two problems that differ in no usable position of a row have one greedy run, and so one answer and one table. The first 64 positions are blocked by the
+-- first word of the set (`first-open`). Assumes nothing.
 use mathlib.Core.Path.{_≡_, refl, sym, ap, _∙_}
-use mathlib.Core.Bool.{Bool, _&&_}
+use mathlib.Core.Bool.{Bool, _&&_, not}
 use mathlib.Core.List.{List, [], _∷_, _++_}
-use Prim.Native.Nat.{ℕ, zero, suc, _+_, _-_, _*_, _<_}
+use Prim.Native.Nat.{ℕ, zero, suc, _+_, _-_, _*_, _/_, _%_, _≤_, _<_}
 use native.Mathlib.Omega.{arith}
 use native.Mathlib.Nat.{add-zero, zero-add}
 use lib.Dec.{eqb}
 use lib.ListN.{length, getD, drop}
+use Rattle.laws.specs.Bits.{bitAt}
 use Rattle.laws.specs.Choice.{pick}
 use Rattle.theory.specs.Net.{Net}
 use Rattle.theory.specs.Greedy.{marked, fill, row, held, Outcome, planned, noRoom, close, next, run, greedy}
 use Rattle.theory.proofs.Row.{marked-length}
-use Rattle.site.specs.Reach.{netIn}
+use Rattle.site.specs.Reach.{netIn, isOpen}
 use Rattle.planner.specs.Plan.{answerOf, tableOf, leaves}
 use Rattle.planner.proofs.Marked.{marked-alike}
+
+-- below 64 the first word says what is blocked
+pub first-open : (words : List ℕ) (n : ℕ) → n ≤ 64 → (k : ℕ) → k < n → isOpen words k ≡ not (bitAt (getD words 0 0) k)
+first-open words n small k l =
+    let low : k / 64 ≡ 0 = omega arith in
+    let own : k % 64 ≡ k = omega arith in
+    rw (low, own) refl
 
 fill-alike : (u v : ℕ → Bool) (k l : ℕ) (r : List ℕ) → ((p : ℕ) → p < length r → u (k + p) ≡ v (k + p)) → fill u k l r ≡ fill v k l r
 unfolding fill

@@ -6,6 +6,7 @@ use shortrows::plan_short_row;
 use site::Fault;
 use site::Site;
 ghost use mathlib.Core.Path.{_≡_};
+ghost use mathlib.Core.Bool.{not};
 ghost use Prim.Native.Nat.{_*_, _^_, _≤_, _<_};
 ghost use lib.ListN.{length, getD};
 ghost use Rattle.laws.specs.Bits.{bitAt, bitIn};
@@ -122,22 +123,23 @@ fn plan_short(
     table: &mut [u8],
     held: &mut [u64; 32],
     cells: usize,
-    n: usize,
+    slots: usize,
+    channels: usize,
     loads: &[u16; 32],
     clash: &[u32; 32],
     usable: u64,
 ) -> PlanAnswer
-    requires { ⌜ (cells ≤ 32) × (n ≤ 64) × (length (now held) ≡ 32) × (usable < 2 ^ n) ⌝ }
-    requires { ⌜ (cells * n ≤ length (now table)) × EitherWay (now clash) ⌝ }
-    ensures answer { λ r. ⌜ r ≡ answerOf (greedy (netIn cells n (now (loads .entry)) (bitIn (now (clash .entry))) (bitAt usable))) ⌝ }
-    ensures table { λ _. ⌜ now (table .exit) ≡ leaves (netIn cells n (now (loads .entry)) (bitIn (now (clash .entry))) (bitAt usable))
+    requires { ⌜ (cells ≤ 32) × (slots * channels ≤ 64) × (length (now held) ≡ 32) × (usable < 2 ^ (slots * channels)) ⌝ }
+    requires { ⌜ (cells * (slots * channels) ≤ length (now table)) × EitherWay (now clash) ⌝ }
+    ensures answer { λ r. ⌜ r ≡ answerOf (greedy (netIn cells (slots * channels) (now (loads .entry)) (bitIn (now (clash .entry))) (bitAt usable))) ⌝ }
+    ensures table { λ _. ⌜ now (table .exit) ≡ leaves (netIn cells (slots * channels) (now (loads .entry)) (bitIn (now (clash .entry))) (bitAt usable))
         (now (table .entry)) ⌝ }
 {
     for i in 0..cells {
         let load = load_of(loads, i) as usize;
-        let lacks = plan_short_row(table, held, n, i, load, clash, usable);
+        let lacks = plan_short_row(table, held, slots, channels, i, load, clash, usable);
         if 0 < lacks {
-            let end = cells * n;
+            let end = cells * (slots * channels);
             rows::clear(&mut table[..end]);
             let cell = i + 1;
             return PlanAnswer::NoRoom(cell, lacks);
@@ -146,46 +148,35 @@ fn plan_short(
     PlanAnswer::Done
 }
 
-// The same where these positions are blocked.
+// The same where the positions of a word are blocked.
 fn plan_few(
-    table: &mut [u8],
-    cells: usize,
-    n: usize,
-    loads: &[u16; 32],
-    clash: &[u32; 32],
-    blocked: &[u64; 32],
-) -> PlanAnswer
-    requires { ⌜ (cells ≤ 32) × (n ≤ 64) × (cells * n ≤ length (now table)) × EitherWay (now clash) ⌝ }
-    ensures answer { λ r. ⌜ r ≡ answerOf (greedy (netIn cells n (now (loads .entry)) (bitIn (now (clash .entry))) (isOpen (now (blocked .entry))))) ⌝ }
-    ensures table { λ _. ⌜ now (table .exit) ≡ leaves (netIn cells n (now (loads .entry)) (bitIn (now (clash .entry))) (isOpen (now (blocked .entry))))
-        (now (table .entry)) ⌝ }
-{
-    let mut held = [0u64; 32];
-    let usable = open_word(blocked, n);
-    plan_short(table, &mut held, cells, n, loads, clash, usable)
-}
-
-// The same for any number of positions.
-fn plan_blocked(
     table: &mut [u8],
     cells: usize,
     slots: usize,
     channels: usize,
     loads: &[u16; 32],
     clash: &[u32; 32],
-    blocked: &[u64; 32],
+    blocked: u64,
 ) -> PlanAnswer
-    requires { ⌜ (cells ≤ 32) × (channels ≤ 16) × (slots * channels ≤ 2048) × (cells * (slots * channels) ≤ length (now table)) × EitherWay (now clash) ⌝ }
+    requires { ⌜ (cells ≤ 32) × (slots * channels ≤ 64) × (cells * (slots * channels) ≤ length (now table)) × EitherWay (now clash) ⌝ }
     ensures answer { λ r. ⌜ r ≡ answerOf (greedy (netIn cells (slots * channels) (now (loads .entry)) (bitIn (now (clash .entry)))
-        (isOpen (now (blocked .entry))))) ⌝ }
+        (λ k. not (bitAt blocked k)))) ⌝ }
     ensures table { λ _. ⌜ now (table .exit) ≡ leaves (netIn cells (slots * channels) (now (loads .entry)) (bitIn (now (clash .entry)))
-        (isOpen (now (blocked .entry)))) (now (table .entry)) ⌝ }
+        (λ k. not (bitAt blocked k))) (now (table .entry)) ⌝ }
 {
+    let mut held = [0u64; 32];
     let n = slots * channels;
-    if n <= SHORT {
-        return plan_few(table, cells, n, loads, clash, blocked);
-    }
-    plan_long(table, cells, slots, channels, loads, clash, blocked)
+    let usable = open_word(blocked, n);
+    plan_short(
+        table,
+        &mut held,
+        cells,
+        slots,
+        channels,
+        loads,
+        clash,
+        usable,
+    )
 }
 
 // Plans the site into the lent table: the planner's answer for any site and any table.
@@ -206,6 +197,10 @@ pub fn plan(site: Site, table: &mut [u8]) -> PlanAnswer
     }
     let loads = site.loads;
     let clash = site.clash_rows();
+    if slots * channels <= SHORT {
+        let first = site.blocked[0];
+        return plan_few(table, cells, slots, channels, &loads, &clash, first);
+    }
     let blocked = site.blocked;
-    plan_blocked(table, cells, slots, channels, &loads, &clash, &blocked)
+    plan_long(table, cells, slots, channels, &loads, &clash, &blocked)
 }

@@ -1,4 +1,4 @@
--- The bytes of a row, from its words. Four bits times 1 + 2^7 + 2^14 + 2^21 stand once at the lowest bits of four bytes, each at its own (`spread-four`, by
+-- The marks of a row, from a word. Four bits times 1 + 2^7 + 2^14 + 2^21 stand once at the lowest bits of four bytes, each at its own (`spread-four`, by
 -- all sixteen), and the number of four bytes has each of them as a digit (`four-digits`). Assumes nothing.
 use mathlib.Core.Path.{_≡_, refl, sym, ap, _∙_}
 use mathlib.Core.Bool.{Bool, true, false, not}
@@ -14,7 +14,7 @@ use Rattle.laws.specs.Part.{listOf}
 use Rattle.laws.specs.Sum.{bit, any}
 use Rattle.laws.proofs.Any.{any-none}
 use Rattle.laws.proofs.Bits.{digit, shr-bit, mod-bit}
-use Rattle.shortrows.specs.Short.{byteIn}
+use Rattle.shortrows.specs.Short.{markIn}
 
 -- four bits, each a byte of its own
 abbrev pub fourApart : ℕ → ℕ
@@ -61,31 +61,33 @@ bit-most false = omega arith
 pub four-most : (x : ℕ) → fourApart x ≤ 16843009
 four-most x = omega (arith, bit-most (bitAt x 0), bit-most (bitAt x 1), bit-most (bitAt x 2), bit-most (bitAt x 3))
 
--- ---- the byte of a position
+-- ---- the mark of a position
 
-pub byte-most : (mine taken p : ℕ) → byteIn mine taken p < 4
-byte-most mine taken p = omega (arith, bit-most (bitAt mine p), bit-most (bitAt taken p))
+mark-most : (taken p : ℕ) → markIn taken p < 4
+mark-most taken p = omega (arith, bit-most (bitAt taken p))
 
-pub byte-sum : (mine taken p : ℕ) → mine / 2 ^ p % 2 + taken / 2 ^ p % 2 * 2 ≡ byteIn mine taken p
-byte-sum mine taken p = omega (arith, digit (mine / 2 ^ p % 2) (mod-lt _ (lit< tt)), digit (taken / 2 ^ p % 2) (mod-lt _ (lit< tt)))
+pub one-bit : (x p : ℕ) → x / 2 ^ p % 2 ≡ bit (bitAt x p)
+one-bit x p = digit (x / 2 ^ p % 2) (mod-lt _ (lit< tt))
 
--- the bytes of four positions as one number, and its digits
-abbrev pub fourBytes : ℕ → ℕ → ℕ → ℕ
-fourBytes mine taken p =
-    byteIn mine taken p + 256 * byteIn mine taken (p + 1) + 65536 * byteIn mine taken (p + 2) + 16777216 * byteIn mine taken (p + 3)
+pub byte-sum : (taken p : ℕ) → taken / 2 ^ p % 2 * 2 ≡ markIn taken p
+byte-sum taken p = omega (arith, one-bit taken p)
 
-pub four-joined : (mine taken p x y : ℕ) → x ≡ fourApart (mine / 2 ^ p % 16) → y ≡ fourApart (taken / 2 ^ p % 16) → x + 2 * y ≡ fourBytes mine taken p
-four-joined mine taken p x y e f = omega (arith, e, f, four-of mine p, four-of taken p)
+-- the marks of four positions as one number, and its digits
+abbrev pub fourBytes : ℕ → ℕ → ℕ
+fourBytes taken p = markIn taken p + 256 * markIn taken (p + 1) + 65536 * markIn taken (p + 2) + 16777216 * markIn taken (p + 3)
+
+pub four-twice : (taken p y : ℕ) → y ≡ fourApart (taken / 2 ^ p % 16) → 2 * y ≡ fourBytes taken p
+four-twice taken p y e = omega (arith, e, four-of taken p)
 
 digits : (a b c d x : ℕ) → a < 4 → b < 4 → c < 4 → d < 4 → x ≡ a + 256 * b + 65536 * c + 16777216 * d
     → (x % 256 ≡ a) × (x / 256 % 256 ≡ b) × (x / 65536 % 256 ≡ c) × (x / 16777216 % 256 ≡ d)
 digits a b c d x p q r s e = (omega arith, omega arith, omega arith, omega arith)
 
-pub four-digits : (mine taken p x : ℕ) → x ≡ fourBytes mine taken p
-    → x % 256 ∷ x / 256 % 256 ∷ x / 65536 % 256 ∷ x / 16777216 % 256 ∷ [] ≡ listOf (λ k. byteIn mine taken (p + k)) 4
+pub four-digits : (taken p x : ℕ) → x ≡ fourBytes taken p
+    → x % 256 ∷ x / 256 % 256 ∷ x / 65536 % 256 ∷ x / 16777216 % 256 ∷ [] ≡ listOf (λ k. markIn taken (p + k)) 4
 unfolding listOf
-four-digits mine taken p x e =
-    let d = digits (byteIn mine taken p) (byteIn mine taken (p + 1)) (byteIn mine taken (p + 2)) (byteIn mine taken (p + 3)) x
-    (byte-most mine taken p) (byte-most mine taken (p + 1)) (byte-most mine taken (p + 2)) (byte-most mine taken (p + 3)) e in
-    let first : x % 256 ≡ byteIn mine taken (p + 0) = d .0 ∙ ap (byteIn mine taken) (sym (add-zero p)) in
+four-digits taken p x e =
+    let d = digits (markIn taken p) (markIn taken (p + 1)) (markIn taken (p + 2)) (markIn taken (p + 3)) x
+    (mark-most taken p) (mark-most taken (p + 1)) (mark-most taken (p + 2)) (mark-most taken (p + 3)) e in
+    let first : x % 256 ≡ markIn taken (p + 0) = d .0 ∙ ap (markIn taken) (sym (add-zero p)) in
     (λ i. first i ∷ d .1 i ∷ d .2 i ∷ d .3 i ∷ [])

@@ -1,3 +1,4 @@
 -- The laws of crate `shortrows`, module by module.
 pub mod Bytes
+pub mod Fill
 pub mod Row

@@ -1,56 +1,62 @@
--- A row of at most 64 positions, by its words. Its bytes are what marking and filling leave (`row-filled`): a position is forbidden where the joined word of
--- the earlier clashing rows has it, and reserved where it is one of the first that are usable and not in that word. Assumes nothing.
+-- A row of at most 64 positions, by its words. The marks are those of the earlier clashing rows (`marks-are`), and filling by the word of what is free is
+-- filling what is usable and idle (`row-filled`). The free positions before the end of the filling are what the row reserves (`row-word`). Assumes nothing.
 use mathlib.Core.Path.{_≡_, refl, sym, ap, ap₂, _∙_}
-use mathlib.Core.Bool.{Bool, true, false, _&&_, _||_, not, true≢false}
+use mathlib.Core.Bool.{Bool, true, false, _&&_, _||_, not, true≢false, and-true, and-false}
 use mathlib.Core.List.{List, []}
 use mathlib.Core.Logic.{⊎-elim}
-use Prim.Native.Nat.{ℕ, _+_, _-_, _*_, _/_, _%_, _^_, _≤_, _<_}
+use Prim.Native.Nat.{ℕ, _+_, _-_, _*_, _^_, _≤_, _<_}
 use native.Mathlib.Nat.{zero-add}
 use native.Mathlib.Omega.{arith}
 use lib.Dec.{eqb, ltb}
 use lib.ListN.{length, getD, set}
-use lib.Seq.{ext-getD, getD-set-same, getD-set-other}
+use lib.Seq.{sets, ext-getD, getD-set-same, getD-set-other}
 use native.Mathlib.Nat.{eq-or-lt-of-le}
-use borrow.Author.Tests.{lt-ltb, le-ltb}
+use borrow.Author.Tests.{lt-ltb, le-ltb, ltb-true, ltb-false}
 use Rattle.laws.specs.Bits.{bitAt, bitIn, wordOf}
 use Rattle.laws.specs.Choice.{pick}
-use Rattle.laws.specs.Few.{firstFew}
 use Rattle.laws.specs.Part.{put, listOf}
-use Rattle.laws.specs.Sum.{bit, count, any}
+use Rattle.laws.specs.Sum.{bit, any}
 use Rattle.laws.proofs.Any.{any-eq, any-skip, any-more}
 use Rattle.laws.proofs.Bits.{bit-past}
-use Rattle.laws.proofs.Choice.{both}
 use Rattle.laws.proofs.Few.{few-eq}
 use Rattle.laws.proofs.Part.{getD-put}
-use Rattle.laws.proofs.Stores.{length-list, list-at}
+use Rattle.laws.proofs.Stores.{length-list, list-at, sets-at, sets-beyond}
 use Rattle.laws.proofs.Sums.{sum-eq, sum-stop}
 use Rattle.laws.proofs.Words.{word-bit, word-eq, word-lt, none-word}
 use Rattle.theory.specs.Net.{unblocked}
-use Rattle.theory.specs.Greedy.{sends, reserved, fill}
+use Rattle.theory.specs.Greedy.{sends, reserved, fill, unmet}
 use Rattle.theory.proofs.Row.{marked-length, marked-at, fill-length, fill-at, unmet-count, idle-byte}
-use Rattle.positions.specs.Blocked.{blockedAt}
 use Rattle.site.specs.Reach.{netIn}
 use Rattle.planrows.specs.Row.{marksIn, rowPlanned, rowShort, EitherWay, nearIn}
 use Rattle.planrows.proofs.Sent.{reserved-before}
-use Rattle.shortrows.specs.Short.{byteIn, anyHeld, WordsHeld}
+use Rattle.shortrows.specs.Short.{markIn, anyHeld, WordsHeld, tookAt, Vacant}
 
 -- a word of 64 numbers, of which none from n on passes
 pub word-few : (p : ℕ → Bool) (n : ℕ) → n ≤ 64 → ((k : ℕ) → n ≤ k → p k ≡ false) → wordOf p 64 ≡ wordOf p n
 unfolding wordOf
 word-few p n h none = sum-stop (λ i. pick (p i) (2 ^ i) 0) n 64 h (λ k l. ap (λ t. pick t (2 ^ k) 0) (none k l))
 
--- the byte of a position that is not both
-byte-picked : (m t : Bool) → (m ≡ true → t ≡ true → ⊥) → _≡_ {A = ℕ} (pick m 1 (pick t 2 0)) (bit m + 2 * bit t)
-byte-picked true true h = absurd (h refl refl)
-byte-picked true false h = refl
-byte-picked false true h = refl
-byte-picked false false h = refl
+-- the byte of a position, and whether it sends
+mark-picked : (t : Bool) → _≡_ {A = ℕ} (pick t 2 0) (2 * bit t)
+mark-picked true = refl
+mark-picked false = refl
 
-byte-sends : (m t : Bool) → (m ≡ true → t ≡ true → ⊥) → sends (bit m + 2 * bit t) ≡ m
-byte-sends true true h = absurd (h refl refl)
-byte-sends true false h = refl
-byte-sends false true h = refl
-byte-sends false false h = refl
+mark-silent : (t : Bool) → sends (2 * bit t) ≡ false
+mark-silent true = refl
+mark-silent false = refl
+
+took-sends : (f t : Bool) → sends (pick f 1 (2 * bit t)) ≡ f
+took-sends true t = refl
+took-sends false t = mark-silent t
+
+mark-open : (t : Bool) → (t ≡ true → ⊥) → 2 * bit t ≡ 0
+mark-open true h = absurd (h refl)
+mark-open false h = refl
+
+twice : (u z f : Bool) → f ≡ (u && z) → (f && z) ≡ (u && z)
+twice true true f e = ap (λ b. b && true) e
+twice true false f e = ap (λ b. b && false) e
+twice false z f e = ap (λ b. b && z) e
 
 never : (u t : Bool) → (u && not t) ≡ true → t ≡ true → ⊥
 never true true h e = true≢false (sym h)
@@ -58,8 +64,8 @@ never true false h e = true≢false (sym e)
 never false t h e = true≢false (sym h)
 
 module _ (n : ℕ) (small : n ≤ 64) (clash : List ℕ) (i : ℕ) (t held : List ℕ) (words : WordsHeld n t i held) (way : EitherWay clash) (usable load : ℕ)
-    (within : usable < 2 ^ n) {near taken free mine : ℕ} (is-near : near ≡ nearIn clash i) (is-taken : taken ≡ wordOf (anyHeld held near i) 64)
-    (is-free : free ≡ wordOf (λ b. bitAt usable b && not (bitAt taken b)) 64) (is-mine : mine ≡ wordOf (firstFew (bitAt free) load) 64) where
+    (within : usable < 2 ^ n) {near taken free : ℕ} (is-near : near ≡ nearIn clash i) (is-taken : taken ≡ wordOf (anyHeld held near i) 64)
+    (is-free : free ≡ wordOf (λ b. bitAt usable b && not (bitAt taken b)) 64) where
   abbrev marks : List ℕ
   marks = marksIn n (bitIn clash) t i
 
@@ -79,25 +85,12 @@ module _ (n : ℕ) (small : n ≤ 64) (clash : List ℕ) (i : ℕ) (t held : Lis
   free-bit : (p : ℕ) → p < 64 → bitAt free p ≡ (bitAt usable p && not (bitAt taken p))
   free-bit p h = ap (λ (x : ℕ). bitAt x p) is-free ∙ word-bit (λ b. bitAt usable b && not (bitAt taken b)) 64 p h
 
-  mine-bit : (p : ℕ) → p < 64 → bitAt mine p ≡ firstFew (bitAt free) load p
-  mine-bit p h = ap (λ (x : ℕ). bitAt x p) is-mine ∙ word-bit (firstFew (bitAt free) load) 64 p h
-
   -- no position past the row
   free-small : free < 2 ^ n
   free-small =
       let e : free ≡ wordOf (λ b. bitAt usable b && not (bitAt taken b)) n
       = is-free ∙ word-few (λ b. bitAt usable b && not (bitAt taken b)) n small (λ k l. ap (λ u. u && not (bitAt taken k)) (bit-past usable k n within l)) in
       rw e (word-lt (λ b. bitAt usable b && not (bitAt taken b)) n)
-
-  mine-word : mine ≡ wordOf (firstFew (bitAt free) load) n
-  mine-word =
-      is-mine ∙ word-few (firstFew (bitAt free) load) n small (λ k l. ap (λ u. u && ltb (count (bitAt free) k) load) (bit-past free k n free-small l))
-
-  -- what is reserved is not forbidden
-  apart : (p : ℕ) → p < n → bitAt mine p ≡ true → bitAt taken p ≡ true → ⊥
-  apart p h m f =
-      let in′ : bitAt free p ≡ true = both (bitAt free p) (ltb (count (bitAt free) p) load) (sym (mine-bit p (omega arith)) ∙ m) .0 in
-      never (bitAt usable p) (bitAt taken p) (sym (free-bit p (omega arith)) ∙ in′) f
 
   mark : (p : ℕ) → p < n → getD marks p 0 ≡ pick (bitAt taken p) 2 0
   mark p h = marked-at (netIn 0 n [] (bitIn clash) unblocked) t i i p h ∙ ap (λ b. pick b 2 0) (sym (taken-bit p h))
@@ -111,51 +104,87 @@ module _ (n : ℕ) (small : n ≤ 64) (clash : List ℕ) (i : ℕ) (t held : Lis
   row-long : length (fill (bitAt usable) 0 load (marksIn n (bitIn clash) t i)) ≡ n
   row-long = fill-length (bitAt usable) 0 load marks ∙ long
 
-  filled-byte : (p : ℕ) → p < n → getD row p 0 ≡ byteIn mine taken p
-  filled-byte p h =
-      fill-at (bitAt usable) 0 load marks (bitAt usable) (λ q. ap (bitAt usable) (sym (zero-add q))) p (omega (arith, long))
-      ∙ ap₂ (λ (b : Bool) (w : ℕ). pick b 1 w)
-      (few-eq (λ q. bitAt usable q && eqb (getD marks q 0) 0) (bitAt free) load p (λ q l. idle q (omega arith)) ∙ sym (mine-bit p (omega arith)))
-      (mark p h)
-      ∙ byte-picked (bitAt mine p) (bitAt taken p) (apart p h)
+  -- what the word of the earlier rows marks
+  abbrev laid : List ℕ
+  laid = listOf (markIn taken) n
 
-  row-filled : listOf (byteIn mine taken) n ≡ fill (bitAt usable) 0 load (marksIn n (bitIn clash) t i)
+  marks-are : laid ≡ marks
+  marks-are =
+      ext-getD 0 laid marks (length-list (markIn taken) n ∙ sym long)
+      (λ p h.
+      let l : p < n = omega (arith, length-list (markIn taken) n) in
+      list-at (markIn taken) n p l ∙ sym (mark p l ∙ mark-picked (bitAt taken p)))
+
+  -- what is free is not forbidden
+  pub laid-vacant : Vacant free 0 (listOf (markIn taken) n)
+  laid-vacant p _ h e =
+      let l : p < n = omega (arith, length-list (markIn taken) n) in
+      list-at (markIn taken) n p l
+      ∙ mark-open (bitAt taken p) (never (bitAt usable p) (bitAt taken p) (sym (free-bit p (omega arith)) ∙ e))
+
+  -- a free position is idle, and so is one that is usable and idle
+  free-idle : (p : ℕ) → p < n → (bitAt free p && eqb (getD marks p 0) 0) ≡ (bitAt usable p && eqb (getD marks p 0) 0)
+  free-idle p h = twice (bitAt usable p) (eqb (getD marks p 0) 0) (bitAt free p) (sym (idle p h))
+
+  row-filled : fill (bitAt free) 0 load (listOf (markIn taken) n) ≡ fill (bitAt usable) 0 load (marksIn n (bitIn clash) t i)
   row-filled =
-      ext-getD 0 (listOf (byteIn mine taken) n) row (length-list (byteIn mine taken) n ∙ sym row-long)
-      (λ p h. let l : p < n = omega (arith, length-list (byteIn mine taken) n) in list-at (byteIn mine taken) n p l ∙ sym (filled-byte p l))
+      ap (fill (bitAt free) 0 load) marks-are
+      ∙ ext-getD 0 (fill (bitAt free) 0 load marks) row (fill-length (bitAt free) 0 load marks ∙ sym (fill-length (bitAt usable) 0 load marks))
+      (λ p h.
+      let l : p < length marks = omega (arith, fill-length (bitAt free) 0 load marks) in
+      let m : p < n = omega (arith, long) in
+      fill-at (bitAt free) 0 load marks (bitAt free) (λ q. ap (bitAt free) (sym (zero-add q))) p l
+      ∙ ap (λ (b : Bool). pick b 1 (getD marks p 0))
+      (few-eq (λ q. bitAt free q && eqb (getD marks q 0) 0) (λ q. bitAt usable q && eqb (getD marks q 0) 0) load p (λ q g. free-idle q (omega arith)))
+      ∙ sym (fill-at (bitAt usable) 0 load marks (bitAt usable) (λ q. ap (bitAt usable) (sym (zero-add q))) p l))
 
   -- the fragments that find no room
-  row-short : load - count (bitAt free) 64 ≡ rowShort n (bitIn clash) (bitAt usable) i load t
+  row-short : unmet (bitAt free) 0 load (listOf (markIn taken) n) ≡ rowShort n (bitIn clash) (bitAt usable) i load t
   row-short =
-      let lacks = unmet-count (bitAt usable) 0 load marks (bitAt usable) (λ q. ap (bitAt usable) (sym (zero-add q))) in
-      let same : count (λ q. bitAt usable q && eqb (getD marks q 0) 0) n ≡ count (bitAt free) n = sum-eq _ _ n (λ q l. ap bit (idle q l)) in
-      let all : count (bitAt free) 64 ≡ count (bitAt free) n
-      = sum-stop (λ k. bit (bitAt free k)) n 64 small (λ k l. ap bit (bit-past free k n free-small l)) in
-      ap (λ (k : ℕ). load - k) (all ∙ sym same)
-      ∙ ap (λ (k : ℕ). load - count (λ q. bitAt usable q && eqb (getD marks q 0) 0) k) (sym long)
-      ∙ sym lacks
+      ap (unmet (bitAt free) 0 load) marks-are
+      ∙ unmet-count (bitAt free) 0 load marks (bitAt free) (λ q. ap (bitAt free) (sym (zero-add q)))
+      ∙ ap (λ (k : ℕ). load - k) (sum-eq _ _ (length marks) (λ q l. ap bit (free-idle q (omega (arith, long)))))
+      ∙ sym (unmet-count (bitAt usable) 0 load marks (bitAt usable) (λ q. ap (bitAt usable) (sym (zero-add q))))
 
-  -- the word of the row, once it is written
-  module _ (fits : i * n + n ≤ length t) {u : List ℕ} (is : u ≡ put (i * n) n (listOf (byteIn mine taken) n) t) where
+  -- the row is filled up to `to`, and stands in the table
+  module _ (fits : i * n + n ≤ length t) (to : ℕ) (ends : to ≤ n) {r u : List ℕ} (filled : r ≡ fill (bitAt free) 0 load (listOf (markIn taken) n))
+      (took : r ≡ sets (listOf (markIn taken) n) 0 (listOf (tookAt free (listOf (markIn taken) n)) to)) (is : u ≡ put (i * n) n r t) where
     row-planned : u ≡ rowPlanned n (bitIn clash) (bitAt usable) i load t
-    row-planned = is ∙ ap (λ (r : List ℕ). put (i * n) n r t) row-filled
+    row-planned = is ∙ ap (λ (x : List ℕ). put (i * n) n x t) (filled ∙ row-filled)
 
-    sent : (p : ℕ) → p < n → firstFew (bitAt free) load p ≡ reserved n u i p
-    sent p h =
-        sym (mine-bit p (omega arith)) ∙ sym (byte-sends (bitAt mine p) (bitAt taken p) (apart p h))
+    byte : (p : ℕ) → p < n → (b : Bool) → ltb p to ≡ b → sends (getD r p 0) ≡ (bitAt free p && b)
+    byte p h true e =
+        ap (λ (x : List ℕ). sends (getD x p 0)) took
         ∙ ap sends
-        (sym
-        (ap (λ (x : List ℕ). getD x (i * n + p) 0) is
-        ∙ getD-put (i * n) n (listOf (byteIn mine taken) n) t (length-list (byteIn mine taken) n) fits p 0 h
-        ∙ list-at (byteIn mine taken) n p h))
+        (sets-at (tookAt free laid) to laid p (ltb-true p to e) (omega (arith, length-list (markIn taken) n))
+        ∙ ap (λ (x : ℕ). pick (bitAt free p) 1 x) (list-at (markIn taken) n p h))
+        ∙ took-sends (bitAt free p) (bitAt taken p)
+        ∙ sym (and-true (bitAt free p))
+    byte p h false e =
+        ap (λ (x : List ℕ). sends (getD x p 0)) took
+        ∙ ap sends (sets-beyond (tookAt free laid) to laid p (ltb-false p to e) ∙ list-at (markIn taken) n p h)
+        ∙ mark-silent (bitAt taken p)
+        ∙ sym (and-false (bitAt free p))
 
-    row-word : mine ≡ wordOf (reserved n u i) n
-    row-word = mine-word ∙ word-eq (firstFew (bitAt free) load) (reserved n u i) n sent
+    sent : (p : ℕ) → p < n → reserved n u i p ≡ (bitAt free p && ltb p to)
+    sent p h =
+        let r-long : length r ≡ n = ap length filled ∙ fill-length (bitAt free) 0 load laid ∙ length-list (markIn taken) n in
+        ap sends (ap (λ (x : List ℕ). getD x (i * n + p) 0) is ∙ getD-put (i * n) n r t r-long fits p 0 h) ∙ byte p h (ltb p to) refl
 
-    pub row-by-words : (u ≡ rowPlanned n (bitIn clash) (bitAt usable) i load t)
-        × (load - count (bitAt free) 64 ≡ rowShort n (bitIn clash) (bitAt usable) i load t)
-        × (mine ≡ wordOf (reserved n (rowPlanned n (bitIn clash) (bitAt usable) i load t) i) n)
-    row-by-words = (row-planned, row-short, row-word ∙ ap (λ (x : List ℕ). wordOf (reserved n x i) n) row-planned)
+    -- the free positions before the end, and those that the row reserves
+    row-word : {low word : ℕ} → low ≡ wordOf (λ b. ltb b to) 64 → word ≡ wordOf (λ b. bitAt free b && bitAt low b) 64 → word ≡ wordOf (reserved n u i) n
+    row-word {low} {word} is-low is-word =
+        is-word
+        ∙ word-few (λ b. bitAt free b && bitAt low b) n small (λ k l. ap (λ x. x && bitAt low k) (bit-past free k n free-small l))
+        ∙ word-eq (λ b. bitAt free b && bitAt low b) (reserved n u i) n
+        (λ p h.
+        ap (λ x. bitAt free p && x) (ap (λ (x : ℕ). bitAt x p) is-low ∙ word-bit (λ b. ltb b to) 64 p (omega arith)) ∙ sym (sent p h))
+
+    pub row-by-words : {low word : ℕ} → low ≡ wordOf (λ b. ltb b to) 64 → word ≡ wordOf (λ b. bitAt free b && bitAt low b) 64
+        → (u ≡ rowPlanned n (bitIn clash) (bitAt usable) i load t)
+        × (unmet (bitAt free) 0 load (listOf (markIn taken) n) ≡ rowShort n (bitIn clash) (bitAt usable) i load t)
+        × (word ≡ wordOf (reserved n (rowPlanned n (bitIn clash) (bitAt usable) i load t) i) n)
+    row-by-words is-low is-word = (row-planned, row-short, row-word is-low is-word ∙ ap (λ (x : List ℕ). wordOf (reserved n x i) n) row-planned)
 
 -- ---- words joined, one after the other
 
@@ -207,23 +236,15 @@ module _ (n : ℕ) (clash : ℕ → ℕ → Bool) (usable : ℕ → Bool) (i loa
       getD-set-other held i j own 0 (λ o. omega arith) ∙ words j less ∙ word-eq (reserved n t j) (reserved n u j) n (λ p b. earlier j p less b))
       (eq-or-lt-of-le {n = j} {m = i} (omega arith))
 
--- the word of the first n positions that are not in the set
-first-bit : (set′ : List ℕ) (k : ℕ) → k < 64 → blockedAt set′ k ≡ bitAt (getD set′ 0 0) k
-first-bit set′ k l =
-    let low : k / 64 ≡ 0 = omega arith in
-    let own : k % 64 ≡ k = omega arith in
-    rw (low, own) refl
-
-pub open-is : (set′ : List ℕ) (n all first : ℕ) → n ≤ 64 → all ≡ wordOf (λ b. ltb b n) 64 → first ≡ getD set′ 0 0
-    → wordOf (λ b. bitAt all b && not (bitAt first b)) 64 ≡ wordOf (λ k. not (blockedAt set′ k)) n
-open-is set′ n all first small is-all is-first =
-    word-few (λ b. bitAt all b && not (bitAt first b)) n small
-    (λ k l. ap (λ u. u && not (bitAt first k)) (bit-past all k n all-small l))
-    ∙ word-eq (λ b. bitAt all b && not (bitAt first b)) (λ k. not (blockedAt set′ k)) n
+-- the word of the first n positions that are not in another
+pub open-is : (n all blocked : ℕ) → n ≤ 64 → all ≡ wordOf (λ b. ltb b n) 64
+    → wordOf (λ b. bitAt all b && not (bitAt blocked b)) 64 ≡ wordOf (λ k. not (bitAt blocked k)) n
+open-is n all blocked small is-all =
+    word-few (λ b. bitAt all b && not (bitAt blocked b)) n small
+    (λ k l. ap (λ u. u && not (bitAt blocked k)) (bit-past all k n all-small l))
+    ∙ word-eq (λ b. bitAt all b && not (bitAt blocked b)) (λ k. not (bitAt blocked k)) n
     (λ k l.
-    ap₂ (λ a b. a && not b)
-    (ap (λ (x : ℕ). bitAt x k) is-all ∙ word-bit (λ b. ltb b n) 64 k (omega arith) ∙ lt-ltb k n l)
-    (ap (λ (x : ℕ). bitAt x k) is-first ∙ sym (first-bit set′ k (omega arith))))
+    ap (λ a. a && not (bitAt blocked k)) (ap (λ (x : ℕ). bitAt x k) is-all ∙ word-bit (λ b. ltb b n) 64 k (omega arith) ∙ lt-ltb k n l))
   where
     all-small : all < 2 ^ n
     all-small =

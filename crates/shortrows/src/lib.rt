@@ -1,48 +1,32 @@
-// The row of one cell in the greedy plan, where rows have at most 64 positions: each row is a word, and its bytes are written once.
+// The row of one cell in the greedy plan, where rows have at most 64 positions: a word of each row says what is free, and the row's bytes are filled where
+// they stand, slot by slot.
 //
-// What it costs: a step for each earlier clashing row, one for each reserved position, and one for each four positions.
-use positions::bits_in;
+// What it costs: a step for each earlier clashing row, one for each four positions, and one for each position until the load is met.
+use planrows::near_of;
 use setwords::either;
-use setwords::first_few;
 use setwords::low_word;
+use setwords::shared;
 use setwords::without;
 ghost use mathlib.Core.Path.{_≡_};
 ghost use mathlib.Core.Bool.{not};
 ghost use mathlib.Core.List.{[], _∷_};
-ghost use Prim.Native.Nat.{_+_, _-_, _*_, _/_, _%_, _^_, _≤_, _<_};
+ghost use Prim.Native.Nat.{_+_, _*_, _/_, _%_, _^_, _≤_, _<_};
 ghost use lib.ListN.{length, getD, set};
 ghost use lib.Seq.{sets};
 ghost use Rattle.laws.specs.Bits.{bitAt, bitIn, wordOf};
 ghost use Rattle.laws.specs.Part.{listOf};
 ghost use Rattle.laws.specs.Sum.{bit};
-ghost use Rattle.theory.specs.Greedy.{reserved};
-ghost use Rattle.positions.specs.Blocked.{blockedAt};
-ghost use Rattle.planrows.specs.Row.{rowPlanned, rowShort, EitherWay, nearIn};
-ghost use Rattle.shortrows.specs.Short.{byteIn, anyHeld, WordsHeld};
+ghost use Rattle.theory.specs.Greedy.{reserved, fill, unmet};
+ghost use Rattle.planrows.specs.Row.{rowPlanned, rowShort, EitherWay};
+ghost use Rattle.shortrows.specs.Short.{markIn, anyHeld, WordsHeld, tookAt, Vacant};
 
-// The word of the positions from 0 to 63.
-fn first_word(set: &[u64; 32]) -> u64
-    ensures { λ r. ⌜ r ≡ getD (now (set .entry)) 0 0 ⌝ }
-{
-    set[0]
-}
-
-// The word of the first n positions that are not blocked.
-pub fn open_word(blocked: &[u64; 32], n: usize) -> u64
+// The word of the first n positions that are not blocked, by the word of those that are.
+pub fn open_word(blocked: u64, n: usize) -> u64
     requires { ⌜ n ≤ 64 ⌝ }
-    ensures { λ r. ⌜ r ≡ wordOf (λ k. not (blockedAt (now (blocked .entry)) k)) n ⌝ }
+    ensures { λ r. ⌜ r ≡ wordOf (λ k. not (bitAt blocked k)) n ⌝ }
 {
     let all = low_word(n);
-    let set = first_word(blocked);
-    without(all, set)
-}
-
-// The cells before cell `i` that clash with it, as a word.
-fn near_cells(clash: &[u32; 32], i: usize) -> u32
-    requires { ⌜ i < 32 ⌝ }
-    ensures { λ r. ⌜ r ≡ nearIn (now (clash .entry)) i ⌝ }
-{
-    clash[i] % (1 << i)
+    without(all, blocked)
 }
 
 // The word of row `j`.
@@ -84,13 +68,12 @@ fn four_bits(x: u64, p: usize) -> u32
     ((x >> p) % 16) as u32
 }
 
-// The bytes of four positions from p on, as one number.
-fn four_bytes(mine: u64, taken: u64, p: usize) -> u32
+// The marks of four positions from p on, as one number.
+fn four_bytes(taken: u64, p: usize) -> u32
     requires { ⌜ p < 64 ⌝ }
-    ensures { λ r. ⌜ r ≡ byteIn mine taken p + 256 * byteIn mine taken (p + 1) + 65536 * byteIn mine taken (p + 2)
-        + 16777216 * byteIn mine taken (p + 3) ⌝ }
+    ensures { λ r. ⌜ r ≡ markIn taken p + 256 * markIn taken (p + 1) + 65536 * markIn taken (p + 2) + 16777216 * markIn taken (p + 3) ⌝ }
 {
-    spread(four_bits(mine, p)) + 2 * spread(four_bits(taken, p))
+    2 * spread(four_bits(taken, p))
 }
 
 // Stores the four bytes of a number, the lowest first.
@@ -105,48 +88,101 @@ fn store_four(row: &mut [u8], at: usize, x: u32)
     row[at + 3] = (x / 16777216 % 256) as u8;
 }
 
-// Writes the bytes of the first 4 * m positions, four at a time.
-fn lay_fours(row: &mut [u8], m: usize, mine: u64, taken: u64)
+// Writes the marks of the first 4 * m positions, four at a time.
+fn lay_fours(row: &mut [u8], m: usize, taken: u64)
     requires { ⌜ (4 * m ≤ length (now row)) × (m ≤ 16) ⌝ }
-    ensures { λ _. ⌜ now (row .exit) ≡ sets (now (row .entry)) 0 (listOf (byteIn mine taken) (4 * m)) ⌝ }
+    ensures { λ _. ⌜ now (row .exit) ≡ sets (now (row .entry)) 0 (listOf (markIn taken) (4 * m)) ⌝ }
 {
     for q in 0..m {
         let at = 4 * q;
-        store_four(row, at, four_bytes(mine, taken, at));
+        store_four(row, at, four_bytes(taken, at));
     }
 }
 
-// The byte of one position.
-fn byte_at(mine: u64, taken: u64, p: usize) -> u8
+// The mark of one position.
+fn byte_at(taken: u64, p: usize) -> u8
     requires { ⌜ p < 64 ⌝ }
-    ensures { λ r. ⌜ r ≡ byteIn mine taken p ⌝ }
+    ensures { λ r. ⌜ r ≡ markIn taken p ⌝ }
 {
-    ((mine >> p) % 2 + (taken >> p) % 2 * 2) as u8
+    ((taken >> p) % 2 * 2) as u8
 }
 
-// Writes the bytes of a row of at most 64 positions. The last few that make no four are written one by one.
-fn lay_row(row: &mut [u8], mine: u64, taken: u64)
+// Writes the marks of a row of at most 64 positions: 2 where the word has a position, else 0. The last few that make no four are written one by one.
+fn lay_row(row: &mut [u8], taken: u64)
     requires { ⌜ length (now row) ≤ 64 ⌝ }
-    ensures { λ _. ⌜ now (row .exit) ≡ listOf (byteIn mine taken) (length (now (row .entry))) ⌝ }
+    ensures { λ _. ⌜ now (row .exit) ≡ listOf (markIn taken) (length (now (row .entry))) ⌝ }
 {
     let n = row.len();
     let m = n / 4;
-    lay_fours(row, m, mine, taken);
+    lay_fours(row, m, taken);
     let mut p = 4 * m;
     while p < n {
-        row[p] = byte_at(mine, taken, p);
+        row[p] = byte_at(taken, p);
         p += 1;
     }
 }
 
-// How many of the load find no room.
-fn short_of(load: usize, room: usize) -> usize
-    ensures { λ r. ⌜ r ≡ load - room ⌝ }
+// 1 for a free position, and 0 for any other: whether a fragment may be placed there.
+fn free_bit(free: u64, p: usize) -> u8
+    requires { ⌜ p < 64 ⌝ }
+    ensures { λ r. ⌜ r ≡ bit (bitAt free p) ⌝ }
 {
-    if load < room {
-        return 0;
+    ((free >> p) % 2) as u8
+}
+
+// A row that is filled: how many fragments found no place, and the position before which every free one is reserved, and from which on none is.
+struct ShortFilled {
+    left: usize,
+    to: usize,
+}
+
+// Reserves the first `load` free positions of a row, in rising position. Each byte is raised by what it takes, 1 or 0, and so is stored without a branch.
+fn fill_short(row: &mut [u8], slots: usize, channels: usize, free: u64, load: usize) -> ShortFilled
+    requires { ⌜ (length (now row) ≡ slots * channels) × (slots * channels ≤ 64) × Vacant free 0 (now row) ⌝ }
+    ensures filled { λ _. ⌜ now (row .exit) ≡ fill (bitAt free) 0 load (now (row .entry)) ⌝ }
+    ensures left { λ r. ⌜ r .left ≡ unmet (bitAt free) 0 load (now (row .entry)) ⌝ }
+    ensures to { λ r. ⌜ now (row .exit) ≡ sets (now (row .entry)) 0 (listOf (tookAt free (now (row .entry))) (r .to)) ⌝ }
+    ensures within { λ r. ⌜ r .to ≤ length (now (row .entry)) ⌝ }
+{
+    let mut left = load;
+    let mut slot: usize = 0;
+    let mut at: usize = 0;
+    'slots: while slot < slots {
+        let mut channel: usize = 0;
+        while channel < channels {
+            if left == 0 {
+                break 'slots;
+            }
+            let byte = row[at];
+            let taken = free_bit(free, at);
+            row[at] = byte + taken;
+            left -= taken as usize;
+            at += 1;
+            channel += 1;
+        }
+        slot += 1;
     }
-    load - room
+    ShortFilled { left: left, to: at }
+}
+
+// Writes a row: its marks, and then the fragments at the first free positions.
+fn write_row(
+    row: &mut [u8],
+    slots: usize,
+    channels: usize,
+    taken: u64,
+    free: u64,
+    load: usize,
+) -> ShortFilled
+    requires { ⌜ (length (now row) ≡ slots * channels) × (slots * channels ≤ 64) × Vacant free 0 (listOf (markIn taken) (slots * channels)) ⌝ }
+    ensures filled { λ _. ⌜ now (row .exit) ≡ fill (bitAt free) 0 load (listOf (markIn taken) (slots * channels)) ⌝ }
+    ensures left { λ r. ⌜ r .left ≡ unmet (bitAt free) 0 load (listOf (markIn taken) (slots * channels)) ⌝ }
+    ensures to { λ r. ⌜ now (row .exit) ≡ sets (listOf (markIn taken) (slots * channels)) 0
+        (listOf (tookAt free (listOf (markIn taken) (slots * channels))) (r .to)) ⌝ }
+    ensures within { λ r. ⌜ r .to ≤ slots * channels ⌝ }
+{
+    lay_row(row, taken);
+    fill_short(row, slots, channels, free, load)
 }
 
 // Plans row `i`, where the rows before it are planned and have at most 64 positions, and gives how many fragments found no room. `usable` has the positions
@@ -154,26 +190,28 @@ fn short_of(load: usize, room: usize) -> usize
 pub fn plan_short_row(
     table: &mut [u8],
     held: &mut [u64; 32],
-    n: usize,
+    slots: usize,
+    channels: usize,
     i: usize,
     load: usize,
     clash: &[u32; 32],
     usable: u64,
 ) -> usize
-    requires { ⌜ (i < 32) × (n ≤ 64) × (i * n + n ≤ length (now table)) × (length (now held) ≡ 32) × (usable < 2 ^ n) ⌝ }
-    requires { ⌜ WordsHeld n (now table) i (now held) × EitherWay (now clash) ⌝ }
-    ensures row { λ _. ⌜ now (table .exit) ≡ rowPlanned n (bitIn (now (clash .entry))) (bitAt usable) i load (now (table .entry)) ⌝ }
-    ensures short { λ r. ⌜ r ≡ rowShort n (bitIn (now (clash .entry))) (bitAt usable) i load (now (table .entry)) ⌝ }
-    ensures held { λ _. ⌜ now (held .exit) ≡ set (now (held .entry)) i
-        (wordOf (reserved n (rowPlanned n (bitIn (now (clash .entry))) (bitAt usable) i load (now (table .entry))) i) n) ⌝ }
+    requires { ⌜ (i < 32) × (slots * channels ≤ 64) × (i * (slots * channels) + slots * channels ≤ length (now table)) × (length (now held) ≡ 32)
+        × (usable < 2 ^ (slots * channels)) ⌝ }
+    requires { ⌜ WordsHeld (slots * channels) (now table) i (now held) × EitherWay (now clash) ⌝ }
+    ensures row { λ _. ⌜ now (table .exit) ≡ rowPlanned (slots * channels) (bitIn (now (clash .entry))) (bitAt usable) i load (now (table .entry)) ⌝ }
+    ensures short { λ r. ⌜ r ≡ rowShort (slots * channels) (bitIn (now (clash .entry))) (bitAt usable) i load (now (table .entry)) ⌝ }
+    ensures held { λ _. ⌜ now (held .exit) ≡ set (now (held .entry)) i (wordOf (reserved (slots * channels)
+        (rowPlanned (slots * channels) (bitIn (now (clash .entry))) (bitAt usable) i load (now (table .entry))) i) (slots * channels)) ⌝ }
 {
-    let near = near_cells(clash, i);
+    let near = near_of(clash, i);
     let taken = taken_by(held, near, i);
     let free = without(usable, taken);
-    let mine = first_few(free, load);
+    let n = slots * channels;
     let from = i * n;
     let to = from + n;
-    lay_row(&mut table[from..to], mine, taken);
-    held[i] = mine;
-    short_of(load, bits_in(free))
+    let filled = write_row(&mut table[from..to], slots, channels, taken, free, load);
+    held[i] = shared(free, low_word(filled.to));
+    filled.left
 }

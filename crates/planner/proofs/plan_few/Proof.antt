@@ -1,12 +1,11 @@
 -- `planner::plan_few` meets its contract: below n the word has the positions that are not blocked, and no others count. Assumes nothing.
 use mathlib.Core.Path.{_≡_, sym, ap, subst, _∙_}
-use mathlib.Core.List.{List}
-use Prim.Native.Nat.{ℕ, _^_, _<_}
+use mathlib.Core.Bool.{Bool, not}
+use Prim.Native.Nat.{ℕ, _*_, _^_, _<_}
 use native.Mathlib.Omega.{arith}
 use borrow.Author.Needs.{needs}
 use Rattle.laws.specs.Bits.{bitAt, bitIn}
 use Rattle.laws.proofs.Words.{word-bit, word-lt}
-use Rattle.site.specs.Reach.{isOpen}
 use Rattle.planner.proofs.Alike.{answer-alike, leaves-alike}
 use Rattle.planner.proofs.plan_few.Statement.{statement}
 use Rattle.planner.proofs.plan_few.Tie as tie
@@ -16,14 +15,17 @@ module _ (c : tie.After-open-word) where
   abbrev start : tie.Start
   start = c .before .before
 
-  abbrev words : List ℕ
-  words = start .args .blocked .now
+  abbrev n : ℕ
+  n = start .args .slots * start .args .channels
 
-  same : (k : ℕ) → k < start .args .n → isOpen words k ≡ bitAt (c .open-word .result) k
-  same k l = sym (ap (λ (x : ℕ). bitAt x k) (c .open-word .ensures) ∙ word-bit (isOpen words) (start .args .n) k l)
+  abbrev opened : ℕ → Bool
+  opened k = not (bitAt (start .args .blocked) k)
 
-  few : c .open-word .result < 2 ^ start .args .n
-  few = subst (λ (x : ℕ). x < 2 ^ start .args .n) (sym (c .open-word .ensures)) (word-lt (isOpen words) (start .args .n))
+  same : (k : ℕ) → k < n → opened k ≡ bitAt (c .open-word .result) k
+  same k l = sym (ap (λ (x : ℕ). bitAt x k) (c .open-word .ensures) ∙ word-bit opened n k l)
+
+  few : c .open-word .result < 2 ^ n
+  few = subst (λ (x : ℕ). x < 2 ^ n) (sym (c .open-word .ensures)) (word-lt opened n)
 
 plan-short-requires : tie.Need-plan-short-requires
 plan-short-requires c κs =
@@ -36,14 +38,15 @@ returns c =
     let way = c .before .before .before .before .before in
     let a = start way .args in
     let usable = bitAt (way .open-word .result) in (
-      call .ensures .0 ∙ answer-alike (a .cells) (a .n) (a .loads .now) (bitIn (a .clash .now)) (isOpen (words way)) usable (same way),
-      call .ensures .1 ∙ leaves-alike (a .cells) (a .n) (a .loads .now) (bitIn (a .clash .now)) (isOpen (words way)) usable (same way) (a .table .now),
+      call .ensures .0 ∙ answer-alike (a .cells) (n way) (a .loads .now) (bitIn (a .clash .now)) (opened way) usable (same way),
+      call .ensures .1 ∙ leaves-alike (a .cells) (n way) (a .loads .now) (bitIn (a .clash .now)) (opened way) usable (same way) (a .table .now),
     )
 
 pub plan-few-spec : {M : Type 1} → statement M
 plan-few-spec =
     tie.close
     (tie.spec
+    (λ c. search needs)
     (λ c κs. search needs)
     plan-short-requires
     (λ c. search needs)

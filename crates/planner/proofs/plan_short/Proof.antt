@@ -20,23 +20,23 @@ use Rattle.planner.proofs.plan_short.Tie as tie
 use Rattle.site.specs.Reach.{netIn}
 
 abbrev Inv-loop : tie.InvT-loop
-Inv-loop table₀ held₀ cells n loads clash usable i₀ table held i =
+Inv-loop table₀ held₀ cells slots channels loads clash usable i₀ table held i =
     (i ≤ cells)
     × (length table ≡ length table₀)
-    × PlannedTo (netIn cells n loads (bitIn clash) (bitAt usable)) i table
-    × (drop (cells * n) table ≡ drop (cells * n) table₀)
+    × PlannedTo (netIn cells (slots * channels) loads (bitIn clash) (bitAt usable)) i table
+    × (drop (cells * (slots * channels)) table ≡ drop (cells * (slots * channels)) table₀)
     × (length held ≡ 32)
-    × WordsHeld n table i held
+    × WordsHeld (slots * channels) table i held
 
 abbrev μ-loop : tie.MeasureT-loop
-μ-loop table₀ held₀ cells n loads clash usable i₀ table held i = cells - i
+μ-loop table₀ held₀ cells slots channels loads clash usable i₀ table held i = cells - i
 
 -- the arguments, the size of a row, and of the whole site; row i lies in the table
 abbrev start : tie.In-loop Inv-loop μ-loop → tie.Start Inv-loop μ-loop
 start c = c .before .before .before
 
 abbrev size : tie.In-loop Inv-loop μ-loop → ℕ
-size c = start c .args .n
+size c = start c .args .slots * start c .args .channels
 
 abbrev whole : tie.In-loop Inv-loop μ-loop → ℕ
 whole c = start c .args .cells * size c
@@ -83,13 +83,13 @@ module _ (c : tie.After-plan-short-row Inv-loop μ-loop) where
 loop-holds : tie.Need-loop-holds Inv-loop μ-loop
 loop-holds c =
     let s = c .before in
-    let net = netIn (s .args .cells) (s .args .n) (s .args .loads .now) (bitIn (s .args .clash .now)) (bitAt (s .args .usable)) in (
+    let net = netIn (s .args .cells) (s .args .slots * s .args .channels) (s .args .loads .now) (bitIn (s .args .clash .now)) (bitAt (s .args .usable)) in (
       omega arith,
       refl,
       no-rows net (s .args .table .now),
       refl,
       s .pre .0 .2,
-      words-none (s .args .n) (s .args .table .now) (s .args .held .now),
+      words-none (s .args .slots * s .args .channels) (s .args .table .now) (s .args .held .now),
     )
 
 load-of-requires : tie.Need-load-of-requires Inv-loop μ-loop
@@ -108,6 +108,11 @@ plan-short-row-requires c κs =
 
 mul-end : tie.Need-mul-end Inv-loop μ-loop
 mul-end c =
+    let in′ = at (c .before .before .before) in
+    omega (arith, inside in′, room in′, start in′)
+
+mul-end-2 : tie.Need-mul-end-2 Inv-loop μ-loop
+mul-end-2 c =
     let in′ = at (c .before .before .before) in
     omega (arith, inside in′, room in′, start in′)
 
@@ -175,7 +180,7 @@ returns-2 c =
     let last : c .before .loop .i ≡ args .cells = omega arith in
     let e = rw last at (c .before .loop .inv .2) in (
       sym (ap answerOf e),
-      end-done (args .cells * args .n) (c .before .loop .table) (args .table .now) e (c .before .loop .inv .3),
+      end-done (args .cells * (args .slots * args .channels)) (c .before .loop .table) (args .table .now) e (c .before .loop .inv .3),
     )
 
 pub plan-short-spec : {M : Type 1} → statement M
@@ -189,6 +194,7 @@ plan-short-spec =
     cast-load
     plan-short-row-requires
     mul-end
+    mul-end-2
     slice-relend-prefix-clear
     slice-aggregate-clear
     clear-requires

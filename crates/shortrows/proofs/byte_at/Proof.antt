@@ -5,8 +5,8 @@ use Rattle.shortrows.proofs.byte_at.Statement.{statement}
 use Rattle.shortrows.proofs.byte_at.Tie as tie
 
 returns : tie.Need-returns
-returns c = byte-sum (c .args .mine) (c .args .taken) (c .args .p)
+returns c = byte-sum (c .args .taken) (c .args .p)
 
 pub byte-at-spec : {M : Type 1} → statement M
 byte-at-spec =
-    tie.close (tie.spec (λ c. search needs) (λ c. search needs) (λ c. search needs) (λ c. search needs) (λ c. search needs) returns)
+    tie.close (tie.spec (λ c. search needs) (λ c. search needs) (λ c. search needs) returns)

@@ -7,21 +7,21 @@ use lib.ListN.{length, length-set}
 use lib.Seq.{sets}
 use Rattle.laws.specs.Part.{listOf}
 use Rattle.laws.proofs.Stores.{length-list, sets-more, sets-all}
-use Rattle.shortrows.specs.Short.{byteIn}
+use Rattle.shortrows.specs.Short.{markIn}
 use borrow.Author.Needs.{needs}
 use Rattle.shortrows.proofs.lay_row.Statement.{statement}
 use Rattle.shortrows.proofs.lay_row.Tie as tie
 
 abbrev Inv-loop : tie.InvT-loop
-Inv-loop row₀ mine taken n m p₀ row p =
+Inv-loop row₀ taken n m p₀ row p =
     (p ≤ n)
     × (n ≤ 64)
     × (n ≡ length row₀)
     × (length row ≡ length row₀)
-    × ((l : List ℕ) → row₀ ≡ sets l 0 (listOf (byteIn mine taken) p₀) → row ≡ sets l 0 (listOf (byteIn mine taken) p))
+    × ((l : List ℕ) → row₀ ≡ sets l 0 (listOf (markIn taken) p₀) → row ≡ sets l 0 (listOf (markIn taken) p))
 
 abbrev μ-loop : tie.MeasureT-loop
-μ-loop row₀ mine taken n m p₀ row p = n - p
+μ-loop row₀ taken n m p₀ row p = n - p
 
 lay-fours-requires : tie.Need-lay-fours-requires Inv-loop μ-loop
 lay-fours-requires c κs = search needs
@@ -51,7 +51,7 @@ loop-again : tie.Need-loop-again Inv-loop μ-loop
 loop-again c =
     let l = c .before .before .loop in
     let i = l .inv in
-    (omega arith, i .1, i .2, simp length-set (i .3), λ x e. sets-more (byteIn _ _) (l .p) (c .byte-at .result) (l .row) x (c .byte-at .ensures) (i .4 x e))
+    (omega arith, i .1, i .2, simp length-set (i .3), λ x e. sets-more (markIn _) (l .p) (c .byte-at .result) (l .row) x (c .byte-at .ensures) (i .4 x e))
 
 same-length : tie.Need-same-length Inv-loop μ-loop
 same-length c = c .before .loop .inv .3 ∙ c .before .before .before .before .lay-fours .kept .0
@@ -63,7 +63,7 @@ returns c =
     let l = c .before .loop in
     let e : l .p ≡ length (a .row .now) = omega arith in
     (rw e at (l .inv .4 (a .row .now) (fours .lay-fours .ensures)))
-    ∙ sets-all (listOf (byteIn (a .mine) (a .taken)) (length (a .row .now))) (a .row .now) (length-list (byteIn (a .mine) (a .taken)) (length (a .row .now)))
+    ∙ sets-all (listOf (markIn (a .taken)) (length (a .row .now))) (a .row .now) (length-list (markIn (a .taken)) (length (a .row .now)))
 
 pub lay-row-spec : {M : Type 1} → statement M
 lay-row-spec =
