@@ -101,9 +101,6 @@ module _ (n : ℕ) (small : n ≤ 64) (clash : List ℕ) (i : ℕ) (t held : Lis
   long : length marks ≡ n
   long = marked-length (netIn 0 n [] (bitIn clash) unblocked) t i i
 
-  row-long : length (fill (bitAt usable) 0 load (marksIn n (bitIn clash) t i)) ≡ n
-  row-long = fill-length (bitAt usable) 0 load marks ∙ long
-
   -- what the word of the earlier rows marks
   abbrev laid : List ℕ
   laid = listOf (markIn taken) n
