@@ -1,5 +1,7 @@
 -- `finder::sought` meets its contract: an arm for each answer of the search. Assumes nothing.
 use borrow.Author.Needs.{needs}
+use Rattle.laws.proofs.Arms.{arm}
+use Rattle.finder.specs.Find.{soughtAnswer}
 use Rattle.finder.proofs.sought.Statement.{statement}
 use Rattle.finder.proofs.sought.Tie as tie
 
@@ -13,9 +15,9 @@ sought-spec =
     (λ c. search needs)
     (λ c. search needs)
     (λ c. search needs)
-    (λ c. cc)
-    (λ c. cc)
-    (λ c. cc)
-    (λ c. cc)
-    (λ c. cc)
-    (λ c. cc))
+    (λ c. search (arm soughtAnswer))
+    (λ c. search (arm soughtAnswer))
+    (λ c. search (arm soughtAnswer))
+    (λ c. search (arm soughtAnswer))
+    (λ c. search (arm soughtAnswer))
+    (λ c. search (arm soughtAnswer)))

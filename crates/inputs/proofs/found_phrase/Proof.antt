@@ -1,5 +1,7 @@
 -- `inputs::found_phrase` meets its contract: an arm for each file. Assumes nothing.
 use borrow.Author.Needs.{needs}
+use Rattle.laws.proofs.Arms.{arm}
+use Rattle.inputs.specs.Said.{foundPhrase}
 use Rattle.inputs.proofs.found_phrase.Statement.{statement}
 use Rattle.inputs.proofs.found_phrase.Tie as tie
 
@@ -12,8 +14,8 @@ found-phrase-spec =
     (λ c. search needs)
     (λ c. search needs)
     (λ c. search needs)
-    (λ c. cc)
-    (λ c. cc)
-    (λ c. cc)
-    (λ c. cc)
-    (λ c. cc))
+    (λ c. search (arm foundPhrase))
+    (λ c. search (arm foundPhrase))
+    (λ c. search (arm foundPhrase))
+    (λ c. search (arm foundPhrase))
+    (λ c. search (arm foundPhrase)))

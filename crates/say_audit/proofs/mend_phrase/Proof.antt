@@ -1,5 +1,7 @@
 -- `say_audit::mend_phrase` meets its contract: an arm for each answer. Assumes nothing.
 use borrow.Author.Needs.{needs}
+use Rattle.laws.proofs.Arms.{arm}
+use Rattle.say_audit.specs.Said.{mendPhrase}
 use Rattle.say_audit.proofs.mend_phrase.Statement.{statement}
 use Rattle.say_audit.proofs.mend_phrase.Tie as tie
 
@@ -12,8 +14,8 @@ mend-phrase-spec =
     (λ c. search needs)
     (λ c. search needs)
     (λ c. search needs)
-    (λ c. cc)
-    (λ c. cc)
-    (λ c. cc)
-    (λ c. cc)
-    (λ c. cc))
+    (λ c. search (arm mendPhrase))
+    (λ c. search (arm mendPhrase))
+    (λ c. search (arm mendPhrase))
+    (λ c. search (arm mendPhrase))
+    (λ c. search (arm mendPhrase)))

@@ -1,5 +1,7 @@
 -- `say_csv::plan_fields` meets its contract: an arm for each case. Assumes nothing.
 use borrow.Author.Needs.{needs}
+use Rattle.laws.proofs.Arms.{arm}
+use Rattle.say_csv.specs.Fields.{planFields}
 use Rattle.say_csv.proofs.plan_fields.Statement.{statement}
 use Rattle.say_csv.proofs.plan_fields.Tie as tie
 
@@ -20,8 +22,8 @@ plan-fields-spec =
     (λ c. search needs)
     (λ c. search needs)
     (λ c κs. search needs)
-    (λ c. cc)
-    (λ c. cc)
+    (λ c. search (arm planFields))
+    (λ c. search (arm planFields))
     returns-3
-    (λ c. cc)
+    (λ c. search (arm planFields))
     returns-5)

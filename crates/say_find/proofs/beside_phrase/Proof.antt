@@ -1,5 +1,7 @@
 -- `say_find::beside_phrase` meets its contract: an arm for each answer. Assumes nothing.
 use borrow.Author.Needs.{needs}
+use Rattle.laws.proofs.Arms.{arm}
+use Rattle.finds.specs.Find.{besidePhrase}
 use Rattle.say_find.proofs.beside_phrase.Statement.{statement}
 use Rattle.say_find.proofs.beside_phrase.Tie as tie
 
@@ -21,12 +23,12 @@ beside-phrase-spec =
     (λ c κs. search needs)
     (λ c. search needs)
     (λ c. search needs)
-    (λ c. cc)
-    (λ c. cc)
-    (λ c. cc)
-    (λ c. cc)
-    (λ c. cc)
-    (λ c. cc)
-    (λ c. cc)
-    (λ c. cc)
-    (λ c. cc))
+    (λ c. search (arm (besidePhrase (c .before .before .before .args .site))))
+    (λ c. search (arm (besidePhrase (c .before .before .before .args .site))))
+    (λ c. search (arm (besidePhrase (c .before .before .before .args .site))))
+    (λ c. search (arm (besidePhrase (c .before .before .before .before .args .site))))
+    (λ c. search (arm (besidePhrase (c .before .before .args .site))))
+    (λ c. search (arm (besidePhrase (c .before .before .args .site))))
+    (λ c. search (arm (besidePhrase (c .before .before .before .args .site))))
+    (λ c. search (arm (besidePhrase (c .before .before .args .site))))
+    (λ c. search (arm (besidePhrase (c .before .before .args .site)))))

@@ -1,6 +1,6 @@
 -- `say_find::last_phrase` meets its contract: an arm for each answer. Assumes nothing.
-use mathlib.Core.Path.{_∙_, ap, sym}
 use borrow.Author.Needs.{needs}
+use Rattle.laws.proofs.Arms.{arm}
 use Rattle.finds.specs.Last.{lastPhrase}
 use Rattle.say_find.proofs.last_phrase.Statement.{statement}
 use Rattle.say_find.proofs.last_phrase.Tie as tie
@@ -22,12 +22,12 @@ last-phrase-spec =
     (λ c κs. search needs)
     (λ c. search needs)
     (λ c. search needs)
-    (λ c. cc)
-    (λ c. cc)
-    (λ c. cc)
-    (λ c. cc)
-    (λ c. cc)
-    (λ c. cc)
-    (λ c. cc)
-    (λ c. cc)
-    (λ c. cc))
+    (λ c. search (arm lastPhrase))
+    (λ c. search (arm lastPhrase))
+    (λ c. search (arm lastPhrase))
+    (λ c. search (arm lastPhrase))
+    (λ c. search (arm lastPhrase))
+    (λ c. search (arm lastPhrase))
+    (λ c. search (arm lastPhrase))
+    (λ c. search (arm lastPhrase))
+    (λ c. search (arm lastPhrase)))

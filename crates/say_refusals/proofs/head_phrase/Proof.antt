@@ -1,5 +1,7 @@
 -- `say_refusals::head_phrase` meets its contract: an arm for each place. Assumes nothing.
 use borrow.Author.Needs.{needs}
+use Rattle.laws.proofs.Arms.{arm}
+use Rattle.say_refusals.specs.Said.{headPhrase}
 use Rattle.say_refusals.proofs.head_phrase.Statement.{statement}
 use Rattle.say_refusals.proofs.head_phrase.Tie as tie
 
@@ -14,10 +16,10 @@ head-phrase-spec =
     (λ c. search needs)
     (λ c. search needs)
     (λ c. search needs)
-    (λ c. cc)
-    (λ c. cc)
-    (λ c. cc)
-    (λ c. cc)
-    (λ c. cc)
-    (λ c. cc)
-    (λ c. cc))
+    (λ c. search (arm (headPhrase (c .before .before .args .number))))
+    (λ c. search (arm (headPhrase (c .before .before .before .args .number))))
+    (λ c. search (arm (headPhrase (c .before .before .before .args .number))))
+    (λ c. search (arm (headPhrase (c .before .before .before .args .number))))
+    (λ c. search (arm (headPhrase (c .before .before .before .args .number))))
+    (λ c. search (arm (headPhrase (c .before .before .before .args .number))))
+    (λ c. search (arm (headPhrase (c .before .before .before .args .number)))))

@@ -1,5 +1,7 @@
 -- `say_room::word_end` meets its contract: an arm for each answer. Assumes nothing.
 use borrow.Author.Needs.{needs}
+use Rattle.laws.proofs.Arms.{arm}
+use Rattle.say_room.specs.Said.{wordEnd}
 use Rattle.say_room.proofs.word_end.Statement.{statement}
 use Rattle.say_room.proofs.word_end.Tie as tie
 
@@ -16,12 +18,12 @@ word-end-spec =
     (λ c. search needs)
     (λ c. search needs)
     (λ c. search needs)
-    (λ c. cc)
-    (λ c. cc)
-    (λ c. cc)
-    (λ c. cc)
-    (λ c. cc)
-    (λ c. cc)
-    (λ c. cc)
-    (λ c. cc)
-    (λ c. cc))
+    (λ c. search (arm wordEnd))
+    (λ c. search (arm wordEnd))
+    (λ c. search (arm wordEnd))
+    (λ c. search (arm wordEnd))
+    (λ c. search (arm wordEnd))
+    (λ c. search (arm wordEnd))
+    (λ c. search (arm wordEnd))
+    (λ c. search (arm wordEnd))
+    (λ c. search (arm wordEnd)))

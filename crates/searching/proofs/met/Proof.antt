@@ -1,5 +1,7 @@
 -- `searching::met` meets its contract: an arm for each answer. Assumes nothing.
 use borrow.Author.Needs.{needs}
+use Rattle.laws.proofs.Arms.{arm}
+use Rattle.searching.specs.Met.{isLimit}
 use Rattle.searching.proofs.met.Statement.{statement}
 use Rattle.searching.proofs.met.Tie as tie
 
@@ -13,9 +15,9 @@ met-spec =
     (λ c. search needs)
     (λ c. search needs)
     (λ c. search needs)
-    (λ c. cc)
-    (λ c. cc)
-    (λ c. cc)
-    (λ c. cc)
-    (λ c. cc)
-    (λ c. cc))
+    (λ c. search (arm isLimit))
+    (λ c. search (arm isLimit))
+    (λ c. search (arm isLimit))
+    (λ c. search (arm isLimit))
+    (λ c. search (arm isLimit))
+    (λ c. search (arm isLimit)))
