@@ -1,14 +1,10 @@
 -- The ways that a call on top of the loads goes: what comes before 5, 5 as the load test names it, and the answer of an admission where the loads pass.
 -- Assumes nothing.
 use Prim.Native.Nat.{ℕ, _≤_, _<_}
-use mathlib.Core.Bool.{Bool, true, false, not, _&&_, and-false, false≢true}
-use mathlib.Core.List.{List, [], _∷_}
+use mathlib.Core.Bool.{Bool, true, false, false≢true}
 use mathlib.Core.Logic.{⊎-elim}
 use mathlib.Core.Path.{_≡_, refl, sym, ap, _∙_}
-use native.Mathlib.Omega.{arith}
 use borrow.Author.Tests.{lt-ltb, le-ltb}
-use types.Run.{OneOf}
-use denote.Enum.Declared.{tagOf}
 use Rattle.laws.proofs.Choice.{cases}
 use Rattle.theory.specs.Net.{everyone, loaded, LoadTest}
 use Rattle.theory.specs.Verdict.{LoadVerdict, holds, over, loadVerdict, classVerdict}
@@ -16,20 +12,20 @@ use Rattle.theory.proofs.LoadLaws.{load-holds}
 use Rattle.site.specs.Record.{isFine, faultOf}
 use Rattle.site.specs.Reach.{netOf}
 use Rattle.site.specs.declared.Site.{Site}
+use Rattle.site.specs.declared.Fault.{Fault}
 use Rattle.site.specs.declared.Fault.the-variants.{Fine}
 use Rattle.site.proofs.Faults.{fine-is}
 use Rattle.judges.specs.Judges.{loadOf, loadAnswer}
 use Rattle.judges.specs.declared.LoadAnswer.{LoadAnswer}
 use Rattle.judges.specs.declared.LoadAnswer.the-variants as load
-use Rattle.judges.proofs.LoadAnswer.{the-type}
 use Rattle.flowlist.specs.declared.Flow.{Flow}
 use Rattle.admission.specs.Admit.{isNested, answerFrom}
 use Rattle.admission.specs.Beside.{isAsked, besideWhere, besideIn}
 use Rattle.admission.specs.declared.AdmitAnswer.{AdmitAnswer}
-use Rattle.admission.specs.declared.AdmitAnswer.the-variants.{TooMany, NotNested}
+use Rattle.admission.specs.declared.AdmitAnswer.the-variants.{TooMany, NotNested, Refused}
 use Rattle.admission.specs.declared.BesideAnswer.{BesideAnswer}
 use Rattle.admission.specs.declared.BesideAnswer.the-variants.{Answered, Over}
-use Rattle.admission.proofs.Answer.{many-answer, outside-answer}
+use Rattle.admission.proofs.Answer.{fault-answer, many-answer, outside-answer}
 
 -- ---- the load test's answer
 
@@ -37,12 +33,6 @@ abbrev pub isOver : LoadAnswer → Bool
 isOver load.Holds = false
 isOver (load.Over cell excess) = true
 isOver (load.Refused f) = false
-
--- the arm that takes every answer but 5
-pub not-over : (a : LoadAnswer) → OneOf (0 ∷ 2 ∷ []) (tagOf the-type a) → isOver a ≡ false
-not-over load.Holds h = refl
-not-over (load.Over cell excess) h = absurd (⊎-elim (λ e. omega arith) (λ e. omega arith) h)
-not-over (load.Refused f) h = refl
 
 -- 5 says of the answer what the load test says
 abbrev restated : LoadAnswer → BesideAnswer
@@ -86,6 +76,9 @@ module _ (s : Site) (f : ℕ → Flow) (n : ℕ) where
   pub before : isAsked s n ≡ false → besideIn s f n ≡ Answered (answerFrom (netOf s) s f n)
   unfolding besideIn
   before e = rw e refl
+
+  pub fault-beside : (g : Fault) → faultOf s ≡ g → isFine g ≡ false → besideIn s f n ≡ Answered (Refused g)
+  fault-beside g e h = before (rw (e, h) refl) ∙ ap Answered (fault-answer (netOf s) s f n g e h)
 
   pub many-beside : faultOf s ≡ Fine → 16 < n → besideIn s f n ≡ Answered TooMany
   many-beside e h = before (rw (e, lt-ltb 16 n h) refl) ∙ ap Answered (many-answer (netOf s) s f n e h)

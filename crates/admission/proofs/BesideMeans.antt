@@ -2,17 +2,16 @@
 -- proofs/Meaning.antt, over the site's own loads.
 -- Assumes nothing.
 use Prim.Native.Nat.{ℕ, _≤_}
-use mathlib.Core.Bool.{Bool, true, false, not, _&&_, false≢true}
+use mathlib.Core.Bool.{Bool, true, false, not, false≢true}
 use mathlib.Core.List.{List}
 use mathlib.Core.Logic.{_↔_}
 use mathlib.Core.Path.{_≡_, refl, sym, ap, _∙_}
-use native.Mathlib.Omega.{arith}
 use borrow.Author.Tests.{ltb-false, le-ltb, not-true}
 use lib.Dec.{ltb}
 use lib.ListN.{length}
 use Rattle.laws.proofs.Choice.{both}
 use Rattle.theory.specs.Net.{everyone, loaded, Class, LoadTest}
-use Rattle.theory.specs.Verdict.{LoadVerdict, holds, over, loadVerdict, classVerdict}
+use Rattle.theory.specs.Verdict.{LoadVerdict, holds, over, loadVerdict}
 use Rattle.theory.proofs.LoadLaws.{load-holds}
 use Rattle.site.specs.Record.{isFine, faultOf}
 use Rattle.site.specs.Reach.{netOf}
@@ -23,15 +22,14 @@ use Rattle.judges.specs.declared.LoadAnswer.{LoadAnswer}
 use Rattle.judges.specs.declared.LoadAnswer.the-variants as load
 use Rattle.flowlist.specs.List.{flowAt}
 use Rattle.flowlist.specs.declared.Flow.{Flow}
-use Rattle.admission.specs.Admit.{isNested, answerFrom}
+use Rattle.admission.specs.Admit.{answerFrom}
 use Rattle.admission.specs.Beside.{isAsked, besideWhere, besideIn, admittedBeside, besideAnswer}
 use Rattle.admission.specs.Means.{Settled}
 use Rattle.admission.specs.declared.AdmitAnswer.{AdmitAnswer}
 use Rattle.admission.specs.declared.AdmitAnswer.the-variants.{Admitted, Refused}
 use Rattle.admission.specs.declared.BesideAnswer.{BesideAnswer}
 use Rattle.admission.specs.declared.BesideAnswer.the-variants.{Answered, Over}
-use Rattle.admission.proofs.Answer.{fault-answer}
-use Rattle.admission.proofs.Beside.{isOver, verdict-of, over-fine, before, over-beside, quiet-beside}
+use Rattle.admission.proofs.Beside.{isOver, verdict-of, over-fine, fault-beside, over-beside, quiet-beside}
 use Rattle.admission.proofs.Meaning.{class-means, set-means}
 
 -- ---- what an answer says of the choice
@@ -103,4 +101,4 @@ module _ (s : Site) (fs : List Flow) where
 
   -- the record's fault comes first
   pub fine-means : isFine (faultOf s) ≡ false → besideAnswer s fs ≡ Answered (Refused (faultOf s))
-  fine-means h = before s (flowAt fs) n (rw h refl) ∙ ap Answered (fault-answer (netOf s) s (flowAt fs) n (faultOf s) refl h)
+  fine-means h = fault-beside s (flowAt fs) n (faultOf s) refl h

@@ -1,21 +1,22 @@
 -- What the arrays state of the site: what the loads that count leave of the room in each cell, and no clash with a spare cell (`stands`).
 -- In the class loads that pass the load test leave no cell over, loaded or not, so that what is left and what is used make up the room.
 -- Assumes nothing.
-use Prim.Native.Nat.{ℕ, _+_, _-_, _≤_, _<_}
-use mathlib.Core.Bool.{Bool, true, false, _&&_, and-false}
+use Prim.Native.Nat.{ℕ, _+_, _≤_, _<_}
+use mathlib.Core.Bool.{Bool, true, false, and-false}
 use mathlib.Core.List.{List}
+use mathlib.Core.Logic.{⊎-elim}
 use mathlib.Core.Path.{_≡_, refl, sym, ap, _∙_}
 use native.Mathlib.Omega.{arith}
-use borrow.Author.Tests.{le-ltb}
+use borrow.Author.Tests.{le-ltb, ltb-true, ltb-false}
 use lib.Dec.{ltb}
 use lib.ListN.{getD, replicate, getD-replicate, length-replicate}
 use Rattle.laws.specs.Bits.{bitAt, bitIn, wordOf}
 use Rattle.laws.specs.Choice.{pick}
-use Rattle.laws.specs.Part.{listOf}
-use Rattle.laws.proofs.Stores.{list-at, sets-at}
+use Rattle.laws.proofs.Choice.{cases}
+use Rattle.laws.proofs.Stores.{list-at, sets-at, sets-beyond}
 use Rattle.laws.proofs.Sums.{sum-eq, sum-none}
 use Rattle.laws.proofs.Words.{word-bit}
-use Rattle.theory.specs.Net.{Net, everyone, loaded, LoadTest, room, demand, lower}
+use Rattle.theory.specs.Net.{Net, everyone, loaded, LoadTest, room, demand}
 use Rattle.theory.specs.Verdict.{classVerdict}
 use Rattle.theory.proofs.Exact.{covers-everyone, covers-loaded, test-plans, class-exact}
 use Rattle.positions.specs.Blocked.{openIn}
@@ -34,10 +35,13 @@ use Rattle.admission.specs.Code.{leftIn, roomsFor}
 use Rattle.admission.proofs.Suits.{class-of}
 
 -- no cell has a room above the site's
-pub rooms-most : (beside : Bool) (loads rows : List ℕ) (room : ℕ) (i : ℕ) → i < 32 → getD (roomsFor beside loads rows room) i 0 ≤ room
-rooms-most true loads rows room i h =
-    omega (arith, sets-at (leftIn loads rows room) 32 (replicate 32 0) i h (omega (arith, length-replicate {A = ℕ} 32 0)))
-rooms-most false loads rows room i h = omega (arith, getD-replicate {A = ℕ} 32 i room 0 h)
+pub rooms-most : (beside : Bool) (loads rows : List ℕ) (room cells i : ℕ) → cells ≤ 32 → i < 32 → getD (roomsFor beside loads rows room cells) i 0 ≤ room
+rooms-most true loads rows room cells i few h =
+    ⊎-elim
+    (λ l. omega (arith, sets-at (leftIn loads rows room) cells (replicate 32 0) i (ltb-true i cells l) (omega (arith, length-replicate {A = ℕ} 32 0))))
+    (λ l. omega (arith, sets-beyond (leftIn loads rows room) cells (replicate 32 0) i (ltb-false i cells l), getD-replicate {A = ℕ} 32 i 0 0 h))
+    (cases (ltb i cells))
+rooms-most false loads rows room cells i few h = omega (arith, getD-replicate {A = ℕ} 32 i room 0 h)
 
 -- where no cell has a load nothing is asked for
 gate-none : (b : Bool) → _≡_ {A = ℕ} (pick b 0 0) 0
@@ -65,21 +69,21 @@ module _ (s : Site) (fine : faultOf s ≡ Fine) (rows : List ℕ) (made : rows �
     is-room = counted ∙ sym (net-open s)
 
     -- what is left in a cell and what its loads use are the room
-    left-is : LoadTest (netOf s) (loaded (netOf s)) → (i : ℕ) → i < s .cells → getD (roomsFor true (s .loads) rows n) i 0 + demand (netOf s) i ≡ room (netOf s)
+    left-is : LoadTest (netOf s) (loaded (netOf s)) → (i : ℕ) → i < s .cells
+        → getD (roomsFor true (s .loads) rows n (s .cells)) i 0 + demand (netOf s) i ≡ room (netOf s)
     left-is passed i h =
         let net = netOf s in
         let all = class-exact net everyone (covers-everyone net) (class-of net class) .1 (test-plans net (loaded net) (covers-loaded net) passed) in
-        let short : i < 32 = omega (arith, fine-sized s fine .cells-most) in
         omega (
           arith,
-          sets-at (leftIn (s .loads) rows n) 32 (replicate 32 0) i short (omega (arith, length-replicate {A = ℕ} 32 0)),
+          sets-at (leftIn (s .loads) rows n) (s .cells) (replicate 32 0) i h (omega (arith, length-replicate {A = ℕ} 32 0, fine-sized s fine .cells-most)),
           demand-is s rows relation i,
           all i h refl,
           is-room,
         )
 
     pub stands : (beside : Bool) → (beside ≡ true → LoadTest (netOf s) (loaded (netOf s)))
-        → Stands (startFor beside s) (roomsFor beside (s .loads) rows n) rows own
+        → Stands (startFor beside s) (roomsFor beside (s .loads) rows n (s .cells)) rows own
     stands true passed = record {
       rooms-are = left-is (passed refl);
       clash-is = relation;

@@ -1,31 +1,25 @@
 // Which of at most 16 flows a site admits: the best set of them whose shares, summed by cell, pass the load test.
 // The lent list is taken apart by `flowlist`; all else works on numbers and small arrays.
 ghost use mathlib.Core.Path.{_≡_};
-ghost use mathlib.Core.Bool.{true};
-ghost use Prim.Native.Nat.{_-_, _≤_};
-ghost use lib.ListN.{length, getD, replicate};
+ghost use Prim.Native.Nat.{ℕ, _-_, _≤_, _<_};
+ghost use lib.ListN.{length, getD};
 ghost use lib.Seq.{sets};
 ghost use Rattle.laws.specs.Bits.{bitIn};
 ghost use Rattle.laws.specs.Part.{listOf};
-ghost use Rattle.theory.specs.Net.{everyone, loaded, LoadTest};
+ghost use Rattle.laws.specs.Search.{first};
+ghost use Rattle.theory.specs.Net.{everyone};
 ghost use Rattle.theory.specs.Verdict.{classVerdict};
+ghost use Rattle.positions.specs.Blocked.{openIn};
 ghost use Rattle.chainwords.specs.Chain.{Mirrored, chainIn};
-ghost use Rattle.site.specs.Record.{faultOf};
-ghost use Rattle.site.specs.Reach.{netOf};
-ghost use Rattle.site.specs.declared.Fault.the-variants.{Fine};
-ghost use Rattle.judges.specs.Judges.{loadAnswer};
-ghost use Rattle.judges.specs.declared.LoadAnswer.the-variants as load;
 ghost use Rattle.flowlist.specs.List.{zeroFlow};
-ghost use Rattle.admission.specs.Admit.{shareIn, amount, refusedIn, askedBy, firstBadIn, isNested, answerFrom, answerIn, admitAnswer};
-ghost use Rattle.admission.specs.Beside.{startFor, besideIn, besideAnswer};
-ghost use Rattle.admission.specs.Code.{leftIn, roomsFor};
+ghost use Rattle.admission.specs.Admit.{shareIn, amount, refusedIn, askedBy, firstBadIn, isNested, answerIn, admitAnswer};
+ghost use Rattle.admission.specs.Beside.{besideIn, besideAnswer};
+ghost use Rattle.admission.specs.Code.{leftIn, pastRoom, chosenIn};
 use chainwords::first_split;
 use demands::demand;
 use flowlist::Flow;
 use flowlist::FlowList;
 use flowlist::gather;
-use judges::LoadAnswer;
-use judges::load_test;
 use positions::open_count;
 use shares::Fragments;
 use shares::Repeats;
@@ -152,43 +146,66 @@ fn nested(clash: &[u32; 32], cells: usize) -> bool
     cells <= first_split(clash, 4294967295, cells)
 }
 
-// What is left of a room where so much of it is used.
-fn left_of(room: u32, used: u32) -> u32
-    ensures { λ r. ⌜ (r ≡ room - used) × (r ≤ room) ⌝ }
+// What the loads leave of the room, cell by cell, up to the first cell that is over: its place, or the number of cells where none is. A demand is asked once.
+fn rooms_beside(
+    loads: &[u16; 32],
+    clash: &[u32; 32],
+    cells: usize,
+    room: u32,
+    rooms: &mut [u32; 32],
+) -> usize
+    requires { ⌜ (cells ≤ 32) × (length (now rooms) ≡ 32) ⌝ }
+    ensures over { λ r. ⌜ r ≡ first (pastRoom (now (loads .entry)) (now (clash .entry)) room) 0 cells ⌝ }
+    ensures rooms { λ r. ⌜ now (rooms .exit) ≡ sets (now (rooms .entry)) 0 (listOf (leftIn (now (loads .entry)) (now (clash .entry)) room) r) ⌝ }
 {
-    if room < used {
-        return 0;
-    }
-    room - used
-}
-
-// What the loads leave of the room, cell by cell.
-fn rooms_beside(loads: &[u16; 32], clash: &[u32; 32], room: u32) -> [u32; 32]
-    ensures { λ r. ⌜ r ≡ sets (replicate 32 0) 0 (listOf (leftIn (now (loads .entry)) (now (clash .entry)) room) 32) ⌝ }
-{
-    let mut rooms = [0u32; 32];
     let mut i = 0;
-    while i < 32 {
-        rooms[i] = left_of(room, demand(loads, clash[i], i));
+    while i < cells {
+        let d = demand(loads, clash[i], i);
+        if room < d {
+            return i;
+        }
+        rooms[i] = room - d;
         i += 1;
     }
-    rooms
+    i
 }
 
-// What each cell has of the room: what the loads leave, or all of it where they are set aside.
-fn rooms_of(loads: [u16; 32], clash: &[u32; 32], room: u32, beside: bool) -> [u32; 32]
-    ensures { λ r. ⌜ r ≡ roomsFor beside loads (now (clash .entry)) room ⌝ }
+// How many of the first n positions are open.
+fn open_room(blocked: &[u64; 32], n: usize) -> u32
+    requires { ⌜ n ≤ 2048 ⌝ }
+    ensures { λ r. ⌜ (r ≡ openIn (now (blocked .entry)) n) × (r ≤ 2048) ⌝ }
 {
-    if beside {
-        return rooms_beside(&loads, clash, room);
-    }
-    [room; 32]
+    open_count(blocked, n) as u32
 }
 
-// The answer for a list of so many flows, of which the first 16 are here: on top of the loads, which pass the load test, or with these set aside.
-fn decide_on(site: Site, l: FlowList, count: usize, beside: bool) -> AdmitAnswer
-    requires { ⌜ (beside ≡ true → faultOf site ≡ Fine → LoadTest (netOf site) (loaded (netOf site))) ⌝ }
-    ensures { λ r. ⌜ r ≡ answerFrom (startFor beside site) site (λ k. getD (l .list) k zeroFlow) count ⌝ }
+// What is answered once the site is in the class and each cell has its room: the first flow that is refused, or else the best set.
+fn chosen(
+    cells: u16,
+    slots: u16,
+    l: FlowList,
+    count: usize,
+    clash: &[u32; 32],
+    rooms: &[u32; 32],
+) -> AdmitAnswer
+    requires { ⌜ (count ≤ 16) × (1 ≤ cells) × (cells ≤ 32) ⌝ }
+    requires { ⌜ ((i : ℕ) → i < 32 → getD (now rooms) i 0 ≤ 65535) ⌝ }
+    ensures { λ r. ⌜ r ≡ chosenIn cells slots (λ k. getD (l .list) k zeroFlow) count (now (clash .entry)) (now (rooms .entry)) ⌝ }
+{
+    let mut own = [0u16; 16];
+    let mut shares = [0u16; 16];
+    let mut values = [0u16; 16];
+    let bad = ask_all(cells, slots, l, count, &mut own, &mut shares, &mut values);
+    if bad < count {
+        let list = l.list;
+        return refusal(cells, slots, list[bad], bad + 1);
+    }
+    let set = bestset::best_set(rooms, clash, &own, &shares, &values, count);
+    AdmitAnswer::Admitted(set)
+}
+
+// The answer with the site's loads set aside: for callers that have the flows by value.
+pub fn decide(site: Site, l: FlowList, count: usize) -> AdmitAnswer
+    ensures { λ r. ⌜ r ≡ answerIn site (λ k. getD (l .list) k zeroFlow) count ⌝ }
 {
     let f = site.fault_in();
     let Fault::Fine = f else {
@@ -198,61 +215,46 @@ fn decide_on(site: Site, l: FlowList, count: usize, beside: bool) -> AdmitAnswer
         return AdmitAnswer::TooMany;
     }
     let cells = site.cells;
-    let slots = site.slots;
     let clash = site.clash_rows();
     if !nested(&clash, cells as usize) {
         return AdmitAnswer::NotNested;
     }
-    let mut own = [0u16; 16];
-    let mut shares = [0u16; 16];
-    let mut values = [0u16; 16];
-    let bad = ask_all(cells, slots, l, count, &mut own, &mut shares, &mut values);
-    if bad < count {
-        let list = l.list;
-        return refusal(cells, slots, list[bad], bad + 1);
-    }
-    let n = site.slots as u32 * site.channels as u32;
+    let n = site.slots as usize * site.channels as usize;
     let blocked = site.blocked;
-    let room = open_count(&blocked, n as usize) as u32;
-    let loads = site.loads;
-    let rooms = rooms_of(loads, &clash, room, beside);
-    let set = bestset::best_set(&rooms, &clash, &own, &shares, &values, count);
-    AdmitAnswer::Admitted(set)
-}
-
-// The answer with the site's loads set aside: for callers that have the flows by value.
-pub fn decide(site: Site, l: FlowList, count: usize) -> AdmitAnswer
-    ensures { λ r. ⌜ r ≡ answerIn site (λ k. getD (l .list) k zeroFlow) count ⌝ }
-{
-    decide_on(site, l, count, false)
-}
-
-// What is answered where the loads alone are over: what comes before 5, or 5 itself.
-fn barred(site: Site, l: FlowList, count: usize, cell: usize, excess: usize) -> BesideAnswer
-    requires { ⌜ loadAnswer site ≡ load.Over cell excess ⌝ }
-    ensures { λ r. ⌜ r ≡ besideIn site (λ k. getD (l .list) k zeroFlow) count ⌝ }
-{
-    if 16 < count {
-        return BesideAnswer::Answered(AdmitAnswer::TooMany);
-    }
-    let cells = site.cells;
-    let clash = site.clash_rows();
-    if !nested(&clash, cells as usize) {
-        return BesideAnswer::Answered(AdmitAnswer::NotNested);
-    }
-    BesideAnswer::Over(cell, excess)
+    let room = open_room(&blocked, n);
+    let rooms = [room; 32];
+    chosen(cells, site.slots, l, count, &clash, &rooms)
 }
 
 // The answer on top of the site's loads: for callers that have the flows by value.
+// Cells without a load are asked too: in the class the lowest cell that is over has a load, and so it is the one that the load test names.
 pub fn decide_beside(site: Site, l: FlowList, count: usize) -> BesideAnswer
     ensures { λ r. ⌜ r ≡ besideIn site (λ k. getD (l .list) k zeroFlow) count ⌝ }
 {
-    let test = load_test(site);
-    let LoadAnswer::Over(cell, excess) = test else {
-        let a = decide_on(site, l, count, true);
-        return BesideAnswer::Answered(a);
+    let f = site.fault_in();
+    let Fault::Fine = f else {
+        return BesideAnswer::Answered(AdmitAnswer::Refused(f));
     };
-    barred(site, l, count, cell, excess)
+    if 16 < count {
+        return BesideAnswer::Answered(AdmitAnswer::TooMany);
+    }
+    let cells = site.cells as usize;
+    let clash = site.clash_rows();
+    if !nested(&clash, cells) {
+        return BesideAnswer::Answered(AdmitAnswer::NotNested);
+    }
+    let n = site.slots as usize * site.channels as usize;
+    let blocked = site.blocked;
+    let room = open_room(&blocked, n);
+    let loads = site.loads;
+    let mut rooms = [0u32; 32];
+    let i = rooms_beside(&loads, &clash, cells, room, &mut rooms);
+    if i < cells {
+        let d = demand(&loads, clash[i], i);
+        return BesideAnswer::Over(i + 1, (d - room) as usize);
+    }
+    let a = chosen(site.cells, site.slots, l, count, &clash, &rooms);
+    BesideAnswer::Answered(a)
 }
 
 // The set of greatest value that the site carries, its own loads set aside; of equals, the set with the smallest number.
