@@ -3,7 +3,7 @@
 #include <time.h>
 #include "bench.h"
 
-enum { REPEATS = 15 };
+enum { REPEATS = 15, PAGE = 4096 };
 
 static double now(void)
 {
@@ -20,7 +20,19 @@ double time_calls(column_call *call, int column, const void *job, long calls)
     return (now() - start) / calls;
 }
 
-/* The columns take turns, so that all meet the same weather. */
+/* The same with the stack so many bytes lower. */
+static double time_lower(column_call *call, int column, const void *job, long calls, int bytes)
+{
+    volatile char room[bytes];
+    room[0] = 0;
+    double t = time_calls(call, column, job, calls);
+    room[0] = 1;
+    return t;
+}
+
+/* The columns take turns, so that all meet the same weather. A processor that reads a table waits for what was just
+ * stored whole pages away, as a record's copy on the stack may be. So the stack lies elsewhere in its page from repeat
+ * to repeat, for every column alike. */
 void measure(column_call *call, const void *job, const bool there[MAKERS], double best[MAKERS])
 {
     long calls[MAKERS];
@@ -30,7 +42,7 @@ void measure(column_call *call, const void *job, const bool there[MAKERS], doubl
     }
     for (int repeat = 0; repeat < REPEATS; repeat++)
         for (int m = 0; m < MAKERS; m++) {
-            double t = calls[m] == 0 ? 0 : time_calls(call, m, job, calls[m]);
+            double t = calls[m] == 0 ? 0 : time_lower(call, m, job, calls[m], 16 + repeat * (PAGE / REPEATS));
             if (t < best[m])
                 best[m] = t;
         }
