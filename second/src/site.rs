@@ -102,7 +102,7 @@ impl Site {
     /// The lowest cell that both reach and that is neither of the two, loaded or not.
     pub fn third(&self, a: usize, b: usize) -> Option<usize> {
         let both = |c: usize| c != a && c != b && self.reaches(a, c) && self.reaches(b, c);
-        if self.has(a) && self.has(b) {
+        if self.has(a) && self.has(b) && self.reach[a - 1] & self.reach[b - 1] != 0 {
             (1..=self.count()).find(|&c| both(c))
         } else {
             None
@@ -121,7 +121,7 @@ impl Site {
                 return refuse(2, &[cell as u64]);
             }
         }
-        for from in 1..=MOST_CELLS {
+        for from in (1..=MOST_CELLS).filter(|&from| self.reach[from - 1] != 0) {
             for to in 1..=MOST_CELLS {
                 let allowed = self.has(from) && self.has(to) && from != to;
                 if self.reaches(from, to) && !allowed {

@@ -2,16 +2,20 @@
 what it gives to what the C call gave."""
 
 import struct
-import sys
+from ctypes import sizeof
 
 from duggfrask import Flow, Plan, Refused, Site, share, tidy
 from duggfrask._raw import Record
 from duggfrask import _raw, _site
 
-SITE = struct.Struct("<3H32H32I32QH")
-HEAD = struct.Struct("<4HQI5I")
-ANSWER = struct.Struct("<4Q")
-source = sys.stdin.buffer
+# A record as the cases have it, without the padding that C puts before the reach and after the rule.
+LOADS, REACH, END = Record.loads.offset + Record.loads.size, Record.reach.offset, Record.rule.offset + Record.rule.size
+BEFORE_REACH, AFTER_RULE = bytes(REACH - LOADS), bytes(sizeof(Record) - END)
+SITE = LOADS + END - REACH
+HEAD = struct.Struct("<I%ds4HQI8I" % SITE)
+ANSWER = struct.Struct("<4Q%ds128s" % SITE)
+FLOW = struct.Struct("<5H")
+source = open(0, "rb", buffering=1 << 20)
 
 
 def taken(n):
@@ -22,19 +26,15 @@ def taken(n):
 
 
 def record(part):
-    numbers = SITE.unpack(part)
-    made = Record(*numbers[:3], rule=numbers[-1])
-    made.loads[:] = numbers[3:35]
-    made.reach[:] = numbers[35:67]
-    made.blocked[:] = numbers[67:99]
-    return made
+    return Record.from_buffer_copy(part[:LOADS] + BEFORE_REACH + part[LOADS:] + AFTER_RULE)
 
 
 def packed(r):
-    return SITE.pack(r.cells, r.slots, r.channels, *r.loads, *r.reach, *r.blocked, r.rule)
+    whole = bytes(r)
+    return whole[:LOADS] + whole[REACH:END]
 
 
-ZERO = bytes(SITE.size)
+ZERO = bytes(SITE)
 NUMBERS = bytes(128)
 
 
@@ -217,17 +217,16 @@ def in_words(call, site, data, lent):
 def main():
     cases = 0
     while True:
-        head = source.read(4)
-        if not head:
+        if not source.peek(1):
             break
-        call = struct.unpack("<I", head)[0]
-        site_part = taken(SITE.size)
-        x, y, z, w, limit, cells, n_in, n_out, n_flows, n_words, n_list = HEAD.unpack(taken(HEAD.size))
+        call, site_part, x, y, z, w, limit, cells, n_in, n_out, n_flows, n_words, n_list, *changed = HEAD.unpack(taken(HEAD.size))
         data, output = taken(n_in), taken(n_out)
-        flows = [Flow(*struct.unpack("<5H", taken(10))) for _ in range(n_flows)]
-        lent = Lent(output, taken(4 * n_words), taken(2 * n_list))
-        answer = ANSWER.unpack(taken(ANSWER.size))
-        given = (answer, taken(SITE.size), taken(128), taken(n_out), taken(4 * n_words), taken(2 * n_list))
+        flows = [Flow(*FLOW.unpack(taken(FLOW.size))) for _ in range(n_flows)]
+        before = (output, taken(4 * n_words), taken(2 * n_list))
+        lent = Lent(*before)
+        *answer, site_given, numbers_given = ANSWER.unpack(taken(ANSWER.size))
+        after = [taken(len(part)) if new else part for part, new in zip(before, changed)]
+        given = (tuple(answer), site_given, numbers_given, *after)
         r = record(site_part)
         try:
             values = alone(call, r, (x, y, z, w), data, lent)

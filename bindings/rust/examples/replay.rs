@@ -34,14 +34,25 @@ impl<R: Read> Source<R> {
         self.0.read_exact(&mut bytes).expect("a whole case");
         bytes
     }
+    fn few<const N: usize>(&mut self) -> [u8; N] {
+        let mut bytes = [0; N];
+        self.0.read_exact(&mut bytes).expect("a whole case");
+        bytes
+    }
     fn u16(&mut self) -> u16 {
-        u16::from_le_bytes(self.bytes(2).try_into().unwrap())
+        u16::from_le_bytes(self.few())
     }
     fn u32(&mut self) -> u32 {
-        u32::from_le_bytes(self.bytes(4).try_into().unwrap())
+        u32::from_le_bytes(self.few())
     }
     fn u64(&mut self) -> u64 {
-        u64::from_le_bytes(self.bytes(8).try_into().unwrap())
+        u64::from_le_bytes(self.few())
+    }
+    fn words(&mut self, n: usize) -> Vec<u32> {
+        (0..n).map(|_| self.u32()).collect()
+    }
+    fn list(&mut self, n: usize) -> Vec<u16> {
+        (0..n).map(|_| self.u16()).collect()
     }
     fn record(&mut self) -> Record {
         let (cells, slots, channels) = (self.u16(), self.u16(), self.u16());
@@ -63,18 +74,19 @@ impl<R: Read> Source<R> {
         let numbers = [self.u16(), self.u16(), self.u16(), self.u16()];
         let (limit, cells) = (self.u64(), self.u32());
         let [input, output, flows, words, list]: [usize; 5] = core::array::from_fn(|_| self.u32() as usize);
+        let changed: [bool; 3] = core::array::from_fn(|_| self.u32() == 1);
         let (input, before) = (self.bytes(input), self.bytes(output));
         let flows = (0..flows)
             .map(|_| Flow { cell: self.u16(), burst: self.u16(), period: self.u16(), repeats: self.u16(), value: self.u16() })
             .collect();
-        let (old_words, old_list) = ((0..words).map(|_| self.u32()).collect(), (0..list).map(|_| self.u16()).collect());
+        let (old_words, old_list) = (self.words(words), self.list(list));
         let number = self.u64();
         let answer = Answer { number, value: [self.u64(), self.u64(), self.u64()] };
         let site = self.record();
         let lists = core::array::from_fn(|_| core::array::from_fn(|_| self.u16()));
-        let output = self.bytes(output);
-        let words = (0..words).map(|_| self.u32()).collect();
-        let list = (0..list).map(|_| self.u16()).collect();
+        let output = if changed[0] { self.bytes(output) } else { before.clone() };
+        let words = if changed[1] { self.words(words) } else { old_words.clone() };
+        let list = if changed[2] { self.list(list) } else { old_list.clone() };
         let given = Seen { answer, site, numbers: lists, output, words, list };
         let lent = Seen { answer: Answer::default(), site: Record::default(), numbers: [[0; 32]; 2], output: before, words: old_words, list: old_list };
         Some((Case { call: u32::from_le_bytes(first), record, numbers, limit, cells, input, flows }, lent, given))

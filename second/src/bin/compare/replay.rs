@@ -1,4 +1,5 @@
 //! The cases with what the library gave, written out for the bindings to be put through: numbers little end first, no padding.
+//! Of the three lent parts that may be written, those that a call left as they were are not written out a second time.
 //! `bindings/rust/examples/replay.rs` and `bindings/python/tests/replay.py` read it.
 
 use crate::case::{Call, Case, Seen};
@@ -64,6 +65,8 @@ pub fn write(to: &mut dyn Write, case: &Case, seen: &Seen) -> io::Result<()> {
     out.extend(case.cells.to_le_bytes());
     let counts = [case.input.len(), case.output.len(), case.flows.len(), case.words.len(), case.list.len()];
     counts.iter().for_each(|&count| out.extend((count as u32).to_le_bytes()));
+    let changed = [seen.output.part() != case.output.part(), seen.words.part() != case.words.part(), seen.list.part() != case.list.part()];
+    changed.iter().for_each(|&part| out.extend(u32::from(part).to_le_bytes()));
     out.extend(case.input.part());
     out.extend(case.output.part());
     for flow in case.flows.part() {
@@ -77,8 +80,14 @@ pub fn write(to: &mut dyn Write, case: &Case, seen: &Seen) -> io::Result<()> {
     seen.answer.value.iter().for_each(|value| out.extend(value.to_le_bytes()));
     site(&mut out, &seen.site);
     seen.numbers.iter().flatten().for_each(|number| out.extend(number.to_le_bytes()));
-    out.extend(seen.output.part());
-    seen.words.part().iter().for_each(|word| out.extend(word.to_le_bytes()));
-    seen.list.part().iter().for_each(|number| out.extend(number.to_le_bytes()));
+    if changed[0] {
+        out.extend(seen.output.part());
+    }
+    if changed[1] {
+        seen.words.part().iter().for_each(|word| out.extend(word.to_le_bytes()));
+    }
+    if changed[2] {
+        seen.list.part().iter().for_each(|number| out.extend(number.to_le_bytes()));
+    }
     to.write_all(&out)
 }
