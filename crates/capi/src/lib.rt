@@ -358,7 +358,7 @@ pub extern "C" fn dugg_words(given: Answer, call: u64, out: &mut [u8]) -> Answer
         (getD (given .value) 2 0)) (now (out .entry)) ⌝ }
 {
     let value = given.value;
-    toldfiles::written_answer(wordtext::words_text(
+    toldfiles::written_answer(calltext::call_text(
         call as usize,
         given.number as usize,
         value[0] as usize,

@@ -1,5 +1,6 @@
 -- Every call of the product has one answer: crate by crate. Made by tools/surface from the source. Assumes nothing.
 use Rattle.contracts.proofs.AdmissionOne.{admit-one, admitBeside-one, decide-one, decideBeside-one, shareIn-one}
+use Rattle.contracts.proofs.CalltextOne.{callText-one}
 use Rattle.contracts.proofs.CapiOne.{duggAdmit-one, duggAdmitBeside-one, duggCarry-one, duggChain-one, duggChangeLoad-one, duggCheck-one}
 use Rattle.contracts.proofs.CapiOne.{duggCheckWords-one, duggClash-one, duggClass-one, duggClearReach-one, duggFault-one, duggFind-one, duggHeaviest-one}
 use Rattle.contracts.proofs.CapiOne.{duggLeast-one, duggList-one, duggLoadTest-one, duggMend-one, duggOverFull-one, duggPlan-one, duggPlanWords-one}
@@ -28,7 +29,6 @@ use Rattle.contracts.proofs.SitefileOne.{readSite-one, writeSite-one}
 use Rattle.contracts.proofs.TidyingOne.{changesMade-one, tidy-one}
 use Rattle.contracts.proofs.WhytextOne.{whyText-one}
 use Rattle.contracts.proofs.WordtableOne.{checkWords-one, planWords-one, toBytes-one, toWords-one}
-use Rattle.contracts.proofs.WordtextOne.{wordsText-one}
 use Rattle.contracts.specs.Every.{EveryCall}
 
 pub every-call : EveryCall
@@ -85,7 +85,7 @@ every-call = record {
   writeSheet = writeSheet-one;
   tidy = tidy-one;
   changesMade = changesMade-one;
-  wordsText = wordsText-one;
+  callText = callText-one;
   whyText = whyText-one;
   listText = listText-one;
   duggFault = duggFault-one;

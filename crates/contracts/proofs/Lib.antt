@@ -103,7 +103,7 @@ pub mod SayAuditOne
 pub mod SayTallyOne
 pub mod QuotingOne
 pub mod SayCsvOne
-pub mod WordtextOne
+pub mod CalltextOne
 pub mod WhytextOne
 pub mod ListtextOne
 pub mod ToldOne

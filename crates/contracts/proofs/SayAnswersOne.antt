@@ -3,16 +3,16 @@
 use mathlib.Core.Path.{_≡_, refl}
 use mathlib.Core.List.{List}
 use Prim.Native.Nat.{_+_, ℕ}
-use Rattle.contracts.specs.SayAnswersSays.{SayAnswersPutAnswerWords}
+use Rattle.contracts.specs.SayAnswersSays.{SayAnswersPutCall}
 use Rattle.say_answers.specs.Said.{callSaid}
 use lib.ListN.{length}
 use lib.Seq.{sets}
 
--- say_answers::put_answer_words
-pub sayAnswersPutAnswerWords-one : (out : List ℕ) (at : ℕ) (call : ℕ) (number : ℕ) (a : ℕ) (b : ℕ) (c : ℕ)
-    → (r : ℕ) × (out′ : List ℕ) × (SayAnswersPutAnswerWords out at call number a b c r out′)
-    × ((q : ℕ) (out″ : List ℕ) → SayAnswersPutAnswerWords out at call number a b c q out″ → (q ≡ r) × (out″ ≡ out′))
-sayAnswersPutAnswerWords-one out at call number a b c = (
+-- say_answers::put_call
+pub sayAnswersPutCall-one : (out : List ℕ) (at : ℕ) (call : ℕ) (number : ℕ) (a : ℕ) (b : ℕ) (c : ℕ)
+    → (r : ℕ) × (out′ : List ℕ) × (SayAnswersPutCall out at call number a b c r out′)
+    × ((q : ℕ) (out″ : List ℕ) → SayAnswersPutCall out at call number a b c q out″ → (q ≡ r) × (out″ ≡ out′))
+sayAnswersPutCall-one out at call number a b c = (
   at + length (callSaid call number a b c),
   sets out at (callSaid call number a b c),
   record { answer = refl; out-after = refl },

@@ -9,6 +9,7 @@ use Rattle.admission.specs.declared.BesideAnswer.{BesideAnswer}
 use Rattle.checker.specs.declared.CheckAnswer.{CheckAnswer}
 use Rattle.cleaning.specs.declared.Tidied.{Tidied}
 use Rattle.contracts.specs.AdmissionSays.{Admit, AdmitBeside, Decide, DecideBeside, ShareIn}
+use Rattle.contracts.specs.CalltextSays.{CallText}
 use Rattle.contracts.specs.CapiSays.{DuggAdmit, DuggAdmitBeside, DuggCarry, DuggChain, DuggChangeLoad, DuggCheck, DuggCheckWords, DuggClash, DuggClass}
 use Rattle.contracts.specs.CapiSays.{DuggClearReach, DuggFault, DuggFind, DuggHeaviest, DuggLeast, DuggList, DuggLoadTest, DuggMend, DuggOverFull}
 use Rattle.contracts.specs.CapiSays.{DuggPlan, DuggPlanWords, DuggReadPlan, DuggReadSheet, DuggReadSite, DuggRenumber, DuggSearch, DuggSetLoad}
@@ -35,7 +36,6 @@ use Rattle.contracts.specs.SitefileSays.{ReadSite, WriteSite}
 use Rattle.contracts.specs.TidyingSays.{ChangesMade, Tidy}
 use Rattle.contracts.specs.WhytextSays.{WhyText}
 use Rattle.contracts.specs.WordtableSays.{CheckWords, PlanWords, ToBytes, ToWords}
-use Rattle.contracts.specs.WordtextSays.{WordsText}
 use Rattle.finder.specs.declared.FindAnswer.{FindAnswer}
 use Rattle.finder.specs.declared.OverFullAnswer.{OverFullAnswer}
 use Rattle.flowlist.specs.declared.Flow.{Flow}
@@ -283,10 +283,10 @@ pub record EveryCall : Type 0 where
   pub changesMade : (sheet : List ℕ) (kind : ℕ)
       → (r : Tidied) × (ChangesMade sheet kind r)
       × ((q : Tidied) → ChangesMade sheet kind q → (q ≡ r))
-  -- wordtext::words_text
-  pub wordsText : (call : ℕ) (number : ℕ) (a : ℕ) (b : ℕ) (c : ℕ) (out : List ℕ)
-      → (r : Written) × (out′ : List ℕ) × (WordsText call number a b c out r out′)
-      × ((q : Written) (out″ : List ℕ) → WordsText call number a b c out q out″ → (q ≡ r) × (out″ ≡ out′))
+  -- calltext::call_text
+  pub callText : (call : ℕ) (number : ℕ) (a : ℕ) (b : ℕ) (c : ℕ) (out : List ℕ)
+      → (r : Written) × (out′ : List ℕ) × (CallText call number a b c out r out′)
+      × ((q : Written) (out″ : List ℕ) → CallText call number a b c out q out″ → (q ≡ r) × (out″ ≡ out′))
   -- whytext::why_text
   pub whyText : (site : Site) (out : List ℕ)
       → (r : Written) × (out′ : List ℕ) × (WhyText site out r out′)

@@ -103,7 +103,7 @@ pub mod SayAuditSays
 pub mod SayTallySays
 pub mod QuotingSays
 pub mod SayCsvSays
-pub mod WordtextSays
+pub mod CalltextSays
 pub mod WhytextSays
 pub mod ListtextSays
 pub mod ToldSays

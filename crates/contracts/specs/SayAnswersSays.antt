@@ -7,7 +7,7 @@ use Rattle.say_answers.specs.Said.{callSaid}
 use lib.ListN.{length}
 use lib.Seq.{sets}
 
--- say_answers::put_answer_words
-pub record SayAnswersPutAnswerWords (out : List ℕ) (at : ℕ) (call : ℕ) (number : ℕ) (a : ℕ) (b : ℕ) (c : ℕ) (r : ℕ) (out′ : List ℕ) : Type 0 where
+-- say_answers::put_call
+pub record SayAnswersPutCall (out : List ℕ) (at : ℕ) (call : ℕ) (number : ℕ) (a : ℕ) (b : ℕ) (c : ℕ) (r : ℕ) (out′ : List ℕ) : Type 0 where
   pub answer : r ≡ at + length (callSaid call number a b c)
   pub out-after : out′ ≡ sets out at (callSaid call number a b c)

@@ -133,7 +133,7 @@ untouched = record {
   write-plan = λ site table out out′ r says z. says .out-after ∙ plan-write-leaves site table out .if-refused (rw (says .answer) at z);
   write-sheet = λ site out out′ r says z. says .out-after ∙ sheet-write-leaves site out .if-refused (rw (says .answer) at z);
   tidy = λ sheet out out′ r says z. says .out-after ∙ tidy-leaves sheet out .if-refused (rw (says .answer) at z);
-  words-text = λ call number a b c out out′ r says z. says .out-after ∙ text-leaves _ out .if-refused (rw (says .answer) at z);
+  call-text = λ call number a b c out out′ r says z. says .out-after ∙ text-leaves _ out .if-refused (rw (says .answer) at z);
   why-text = λ site out out′ r says z. says .out-after ∙ why-leaves site out .if-refused (rw (says .answer) at z);
   list-text = λ bytes out out′ r says z. says .out-after ∙ text-leaves _ out .if-refused (rw (says .answer) at z);
 }

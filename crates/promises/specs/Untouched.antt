@@ -41,7 +41,7 @@ use Rattle.contracts.specs.SitefileSays.{WriteSite}
 use Rattle.contracts.specs.PlanfileSays.{ReadPlan, WritePlan}
 use Rattle.contracts.specs.SheetSays.{WriteSheet}
 use Rattle.contracts.specs.TidyingSays.{Tidy}
-use Rattle.contracts.specs.WordtextSays.{WordsText}
+use Rattle.contracts.specs.CalltextSays.{CallText}
 use Rattle.contracts.specs.WhytextSays.{WhyText}
 use Rattle.contracts.specs.ListtextSays.{ListText}
 use Rattle.contracts.specs.CapiSays.{
@@ -117,7 +117,7 @@ pub record Untouched : Type 0 where
       → Refused (planWrittenGiven r .number) → out′ ≡ out
   pub write-sheet : (site : Site) (out out′ : List ℕ) (r : Written) → WriteSheet site out r out′ → Refused (writtenGiven r .number) → out′ ≡ out
   pub tidy : (sheet out out′ : List ℕ) (r : TidyAnswer) → Tidy sheet out r out′ → Refused (tidyGiven r .number) → out′ ≡ out
-  pub words-text : (call number a b c : ℕ) (out out′ : List ℕ) (r : Written) → WordsText call number a b c out r out′
+  pub call-text : (call number a b c : ℕ) (out out′ : List ℕ) (r : Written) → CallText call number a b c out r out′
       → Refused (writtenGiven r .number) → out′ ≡ out
   pub why-text : (site : Site) (out out′ : List ℕ) (r : Written) → WhyText site out r out′ → Refused (writtenGiven r .number) → out′ ≡ out
   pub list-text : (bytes out out′ : List ℕ) (r : Written) → ListText bytes out r out′ → Refused (writtenGiven r .number) → out′ ≡ out

@@ -292,7 +292,7 @@ fn sentence_of(call: usize, number: usize, a: usize, b: usize, c: usize) -> Sent
 }
 
 // An answer in words.
-pub fn put_answer_words(
+pub fn put_call(
     out: &mut [u8],
     at: usize,
     call: usize,

@@ -43,15 +43,15 @@ abbrev pub channelsNamed : (channels word : ℕ) → Bool
 channelsNamed channels word = not (eqb channels 1) && not (eqb word (2 ^ channels - 1))
 
 -- "all channels", "channel 1"; of a site with one channel nothing is said
-abbrev pub channelsWords : (channels word : ℕ) → Phrase
-channelsWords channels word =
+abbrev pub channelsHead : (channels word : ℕ) → Phrase
+channelsHead channels word =
     pick (eqb channels 1) Silent
     (pick (eqb word (2 ^ channels - 1)) (Row allChannelsRow 0 0 0 0)
     (Row (pick (eqb (2 ^ first (bitAt word) 0 16) word) oneChannelRow someChannelsRow) 0 0 0 0))
 
 unfoldable pub channelsSaid : (channels word : ℕ) → List ℕ
 channelsSaid channels word =
-    phrase runLines (channelsWords channels word) ++ pick (channelsNamed channels word) (spansSaid (channelBits word)) []
+    phrase runLines (channelsHead channels word) ++ pick (channelsNamed channels word) (spansSaid (channelBits word)) []
 
 -- ---- the slots of a row
 

@@ -15,7 +15,7 @@ ghost use Rattle.phrases.specs.Put.{Put};
 ghost use Rattle.phrases.specs.Phrases.{phrase};
 ghost use Rattle.say_runs.specs.Lines.{runLines};
 ghost use Rattle.say_runs.specs.Runs.{numberBefore, startsRun, runStop, runBefore};
-ghost use Rattle.say_runs.specs.Said.{spanPhrase, runPhrase, channelBits, spansSaid, channelsNamed, channelsWords, channelsSaid, runSaid, runsSaid};
+ghost use Rattle.say_runs.specs.Said.{spanPhrase, runPhrase, channelBits, spansSaid, channelsNamed, channelsHead, channelsSaid, runSaid, runsSaid};
 
 const NUMBERS: usize = 0;
 
@@ -202,7 +202,7 @@ fn has_one(word: u32) -> bool
 // How the channels are named.
 fn channels_phrase(channels: usize, word: u32) -> Phrase
     requires { ⌜ channels ≤ 16 ⌝ }
-    ensures { λ r. ⌜ r ≡ channelsWords channels word ⌝ }
+    ensures { λ r. ⌜ r ≡ channelsHead channels word ⌝ }
 {
     if channels == 1 {
         return Phrase::Silent;

@@ -1,4 +1,1 @@
-// The search where greedy gives up stands in specs/ and proofs/. This function only makes the folder a library.
-fn version() -> u32 {
-    1
-}
+// The search where greedy gives up stands in specs/ and proofs/.

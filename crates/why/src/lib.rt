@@ -1,4 +1,1 @@
-// What `duggfrask why` says of a site, and that it is true, stands in specs/ and proofs/. This function only makes the folder a library.
-fn version() -> u32 {
-    1
-}
+// What `duggfrask why` says of a site, and that it is true, stands in specs/ and proofs/.

@@ -4,7 +4,7 @@ use Rattle.capi.proofs.dugg_words.Statement.{statement}
 use Rattle.capi.proofs.dugg_words.Tie as tie
 
 returns : tie.Need-returns
-returns c = let e = c .before .before .before .words-text .ensures in (rw (e .0) at (c .written-answer .ensures), e .1)
+returns c = let e = c .before .before .before .call-text .ensures in (rw (e .0) at (c .written-answer .ensures), e .1)
 
 pub dugg-words-spec : {M : Type 1} → statement M
 dugg-words-spec =

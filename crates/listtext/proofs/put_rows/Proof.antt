@@ -10,7 +10,7 @@ use Rattle.laws.proofs.Stores.{sets-append}
 use Rattle.theory.specs.Greedy.{rowAt}
 use Rattle.say_listing.specs.Lines.{cellListed}
 use Rattle.listhead.specs.Listing.{cellLines}
-use Rattle.wordtext.proofs.Kept.{put-end, put-inside, put-kept, put-whole}
+use Rattle.calltext.proofs.Kept.{put-end, put-inside, put-kept, put-whole}
 use Rattle.listtext.proofs.Rows.{line-more, no-shorter}
 use Rattle.listtext.proofs.put_rows.Statement.{statement}
 use Rattle.listtext.proofs.put_rows.Tie as tie

@@ -8,7 +8,7 @@ use borrow.Author.Needs.{needs}
 use Rattle.theory.specs.Greedy.{rowAt}
 use Rattle.say_listing.specs.Lines.{cellListed}
 use Rattle.listhead.specs.Listing.{cellLines}
-use Rattle.wordtext.proofs.Kept.{put-end}
+use Rattle.calltext.proofs.Kept.{put-end}
 use Rattle.listtext.proofs.Rows.{line-more}
 use Rattle.listtext.proofs.rows_len.Statement.{statement}
 use Rattle.listtext.proofs.rows_len.Tie as tie

@@ -8,7 +8,7 @@ use lib.Seq.{sets, length-sets}
 use borrow.Author.Needs.{needs}
 use Rattle.laws.proofs.Stores.{sets-append}
 use Rattle.say_rule.specs.Said.{firstsSaid, thirdsSaid}
-use Rattle.wordtext.proofs.Kept.{put-end, put-inside, put-kept, put-whole}
+use Rattle.calltext.proofs.Kept.{put-end, put-inside, put-kept, put-whole}
 use Rattle.whytext.proofs.Firsts.{first-more, no-shorter}
 use Rattle.whytext.proofs.put_all_thirds.Statement.{statement}
 use Rattle.whytext.proofs.put_all_thirds.Tie as tie

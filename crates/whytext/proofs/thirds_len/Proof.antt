@@ -5,7 +5,7 @@ use native.Mathlib.Omega.{arith}
 use lib.ListN.{length, length-append}
 use borrow.Author.Needs.{needs}
 use Rattle.say_rule.specs.Said.{firstsSaid, thirdsSaid}
-use Rattle.wordtext.proofs.Kept.{put-end}
+use Rattle.calltext.proofs.Kept.{put-end}
 use Rattle.whytext.proofs.Firsts.{first-more}
 use Rattle.whytext.proofs.thirds_len.Statement.{statement}
 use Rattle.whytext.proofs.thirds_len.Tie as tie

@@ -4,7 +4,7 @@ use mathlib.Core.Path.{_∙_, ap}
 use native.Mathlib.Omega.{arith}
 use lib.ListN.{length, replicate, length-replicate}
 use Rattle.finds.specs.Find.{lastLine}
-use Rattle.wordtext.proofs.Kept.{put-end, put-kept, put-whole}
+use Rattle.calltext.proofs.Kept.{put-end, put-kept, put-whole}
 use Rattle.whytext.specs.Text.{lentTable, whyText}
 use Rattle.whytext.proofs.Firsts.{found-by-length}
 use borrow.Author.Needs.{needs}

@@ -1,11 +1,11 @@
--- `say_answers::put_answer_words` meets its contract: what is put is the sentence. Assumes nothing.
+-- `say_answers::put_call` meets its contract: what is put is the sentence. Assumes nothing.
 use mathlib.Core.Path.{refl}
 use native.Mathlib.Omega.{arith}
 use borrow.Author.Needs.{needs}
 use Rattle.say_refusals.proofs.Sentences.{sentence-room, sentence-put}
 use Rattle.say_answers.specs.Lines.{answerLines}
-use Rattle.say_answers.proofs.put_answer_words.Statement.{statement}
-use Rattle.say_answers.proofs.put_answer_words.Tie as tie
+use Rattle.say_answers.proofs.put_call.Statement.{statement}
+use Rattle.say_answers.proofs.put_call.Tie as tie
 
 put-sentence-requires : tie.Need-put-sentence-requires
 unfolding answerLines
@@ -18,5 +18,5 @@ returns c =
     let p = r .before .sentence-of in
     rw (p .ensures) at (sentence-put answerLines refl (p .result) (r .put-sentence .ensures))
 
-pub put-answer-words-spec : {M : Type 1} → statement M
-put-answer-words-spec = tie.close (tie.spec (λ c. search needs) (λ c κs. search needs) put-sentence-requires (λ c. search needs) returns)
+pub put-call-spec : {M : Type 1} → statement M
+put-call-spec = tie.close (tie.spec (λ c. search needs) (λ c κs. search needs) put-sentence-requires (λ c. search needs) returns)

@@ -1,6 +1,6 @@
 // An answer of any call in words, laid into a lent output: the text, or the bytes that it needs.
 use records::Written;
-use say_answers::put_answer_words;
+use say_answers::put_call;
 use text::put_text;
 ghost use mathlib.Core.Path.{_≡_};
 ghost use Rattle.records.specs.Write.{written, laidOver};
@@ -20,7 +20,7 @@ fn lay_text(text: &[u8], out: &mut [u8]) -> Written
 }
 
 // The answer of a call, by its number in the header: the number given back and its values.
-pub fn words_text(
+pub fn call_text(
     call: usize,
     number: usize,
     a: usize,
@@ -32,6 +32,6 @@ pub fn words_text(
     ensures out { λ _. ⌜ now (out .exit) ≡ laidOver (callSaid call number a b c) (now (out .entry)) ⌝ }
 {
     let mut text = [0u8; 2048];
-    let n = put_answer_words(&mut text, 0, call, number, a, b, c);
+    let n = put_call(&mut text, 0, call, number, a, b, c);
     lay_text(&text[..n], out)
 }

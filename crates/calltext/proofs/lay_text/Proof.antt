@@ -1,9 +1,9 @@
--- `wordtext::lay_text` meets its contract: room for all of it, or none is laid. Assumes nothing.
+-- `calltext::lay_text` meets its contract: room for all of it, or none is laid. Assumes nothing.
 use mathlib.Core.Path.{refl, _∙_}
 use borrow.Author.Needs.{needs}
 use Rattle.records.proofs.Write.{written-done, written-short, laid-done, laid-short}
-use Rattle.wordtext.proofs.lay_text.Statement.{statement}
-use Rattle.wordtext.proofs.lay_text.Tie as tie
+use Rattle.calltext.proofs.lay_text.Statement.{statement}
+use Rattle.calltext.proofs.lay_text.Tie as tie
 
 returns : tie.Need-returns
 returns c = (written-short _ _ _ refl (c .if1 .taken), laid-short _ _ (c .if1 .taken))

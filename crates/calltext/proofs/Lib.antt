@@ -1,0 +1,2 @@
+-- The laws of crate `calltext`, module by module.
+pub mod Kept

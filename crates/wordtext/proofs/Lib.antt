@@ -1,2 +1,0 @@
--- The laws of crate `wordtext`, module by module.
-pub mod Kept
