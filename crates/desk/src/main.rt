@@ -24,13 +24,13 @@ fn seen_asked(
 ) -> bool
     requires { ⌜ 65536 ≤ length (now text) ⌝ }
 {
-    if showdesk::show_commands(input, second, table, text) {
+    if showdesk::show::show_commands(input, second, table, text) {
         return true;
     }
-    if picturedesk::picture_commands(input, second, table, text) {
+    if showdesk::picture::picture_commands(input, second, table, text) {
         return true;
     }
-    listdesk::list_commands(input, second, third, old, table, text)
+    showdesk::list::list_commands(input, second, third, old, table, text)
 }
 
 // The commands that look at a plan; whether it is one of them.
@@ -48,10 +48,10 @@ fn plan_asked(
     if seen_asked(input, second, third, old, table, text) {
         return true;
     }
-    if plandesk::plan_commands(input, second, old, table, out, text) {
+    if plandesk::plan::plan_commands(input, second, old, table, out, text) {
         return true;
     }
-    numberdesk::number_commands(input, second, old, table, out, text)
+    plandesk::number::number_commands(input, second, old, table, out, text)
 }
 
 // The commands that look at a site or a sheet alone; whether it is one of them.
@@ -59,16 +59,16 @@ fn site_asked(input: &[u8], table: &mut [u8], out: &mut [u8], text: &mut [u8]) -
     requires { ⌜ 65536 ≤ length (now table) ⌝ }
     requires { ⌜ 65536 ≤ length (now text) ⌝ }
 {
-    if finddesk::find_commands(input, table, out, text) {
+    if plandesk::find::find_commands(input, table, out, text) {
         return true;
     }
-    if roomdesk::room_commands(input, table, text) {
+    if plandesk::room::room_commands(input, table, text) {
         return true;
     }
-    if sheetdesk::sheet_commands(input, out, text) {
+    if sitedesk::sheets::sheet_commands(input, out, text) {
         return true;
     }
-    setdesk::set_commands(input, out, text)
+    sitedesk::set::set_commands(input, out, text)
 }
 
 // The commands on flows, on all sites at once, and the parts of a report; whether it is one of them.
@@ -76,16 +76,16 @@ fn text_asked(input: &[u8], second: &[u8], text: &mut [u8]) -> bool
     requires { ⌜ 65536 ≤ length (now text) ⌝ }
     requires { ⌜ length (now input) ≤ 65536 ⌝ }
 {
-    if flowdesk::flow_commands(input, second, text) {
+    if sitedesk::flow::flow_commands(input, second, text) {
         return true;
     }
     if auditdesk::audit_commands(input, text) {
         return true;
     }
-    reportdesk::report_commands(input, text)
+    showdesk::report::report_commands(input, text)
 }
 
-// Does what the command says: each of the desk's crates knows its own commands.
+// Does what the command says: each module of the desk's crates knows its own commands.
 fn answer(
     input: &[u8],
     second: &[u8],

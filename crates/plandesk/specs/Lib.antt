@@ -1,0 +1,2 @@
+-- The definitions of crate `plandesk`, module by module.
+pub mod Met

@@ -1,2 +1,0 @@
--- The laws of crate `searching`, module by module.
-pub mod Rising

@@ -1,2 +1,0 @@
--- The definitions of crate `searching`, module by module.
-pub mod Met

@@ -1,0 +1,50 @@
+-- `showdesk::picture::put_bars` is safe and ends: the room for text keeps its length, and the cells are the site's. Assumes nothing.
+use Prim.Native.Nat.{_-_, _≤_}
+use mathlib.Core.Path.{_≡_, refl, _∙_}
+use native.Mathlib.Omega.{arith}
+use lib.ListN.{length}
+use borrow.Author.Needs.{needs}
+use Rattle.showdesk.proofs.picture.put_bars.Statement.{statement}
+use Rattle.showdesk.proofs.picture.put_bars.Tie as tie
+
+abbrev Inv-loop : tie.InvT-loop
+Inv-loop site clash free scale text₀ cells i₀ text i = (i ≤ cells) × (length text ≡ length text₀)
+
+abbrev μ-loop : tie.MeasureT-loop
+μ-loop site clash free scale text₀ cells i₀ text i = cells - i
+
+loop-holds : tie.Need-loop-holds Inv-loop μ-loop
+loop-holds c = (omega arith, refl)
+
+put-bar-requires : tie.Need-put-bar-requires Inv-loop μ-loop
+put-bar-requires c κs =
+    let l = c .before .before in
+    let s = l .before .before .before in
+    ((s .pre .0 .1, s .pre .0 .2, s .pre .1 .0, s .pre .1 .1, s .pre .1 .2), (omega arith, omega (arith, s .pre .0 .0, l .loop .inv .1)))
+
+same-length : tie.Need-same-length Inv-loop μ-loop
+same-length c = let r = c .before .before .before .before .before in r .put-bar .kept .0 ∙ r .before .before .before .loop .inv .1
+
+loop-again : tie.Need-loop-again Inv-loop μ-loop
+loop-again c = let r = c .before .before .before .before .before in (omega arith, r .put-bar .kept .0 ∙ r .before .before .before .loop .inv .1)
+
+same-length-2 : tie.Need-same-length-2 Inv-loop μ-loop
+same-length-2 c = c .before .loop .inv .1
+
+pub put-bars-spec : {M : Type 1} → statement M
+put-bars-spec =
+    tie.close
+    (tie.spec
+    Inv-loop
+    μ-loop
+    (λ c. search needs)
+    loop-holds
+    put-bar-requires
+    (λ c κs. search needs)
+    same-length
+    (λ c. search needs)
+    (λ c. search needs)
+    (λ c. search needs)
+    loop-again
+    same-length-2
+    (λ c. search needs))
