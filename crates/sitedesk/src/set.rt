@@ -78,7 +78,7 @@ fn bad_word(name: usize, word: usize, kind: Kind, text: &mut [u8])
 }
 
 // Whether two arguments are an edit; where they are not, the text is said.
-fn word_good(name: usize, word: usize, count: usize, text: &mut [u8]) -> bool
+fn edit_good(name: usize, word: usize, count: usize, text: &mut [u8]) -> bool
     requires { ⌜ 65536 ≤ length (now text) ⌝ }
 {
     let mut first = io::large_buffer();
@@ -103,13 +103,13 @@ fn word_good(name: usize, word: usize, count: usize, text: &mut [u8]) -> bool
 }
 
 // Whether the arguments up to the last are edits; where one is not, the text of the first that is wrong is said.
-fn words_good(count: usize, text: &mut [u8]) -> bool
+fn edits_good(count: usize, text: &mut [u8]) -> bool
     requires { ⌜ 65536 ≤ length (now text) ⌝ }
 {
     let mut name = NUMBERS;
     while name < count {
         let word = name + 1;
-        if !word_good(name, word, count, text) {
+        if !edit_good(name, word, count, text) {
             return false;
         }
         if count <= word {
@@ -217,7 +217,7 @@ fn set(input: &[u8], out: &mut [u8], text: &mut [u8])
         say_wrong(text, Part::NoneGiven);
         return;
     }
-    if !words_good(count, text) {
+    if !edits_good(count, text) {
         return;
     }
     let read = sitefile::read_site(input);
