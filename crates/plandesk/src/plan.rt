@@ -1,4 +1,4 @@
-// The commands of the desk on a plan: make one, search for one, check, mend, carry it back, change one load in it. What is said and written is made by proved
+// The commands of the desk on a plan: make one, search for one, check, mend, change one load in it. What is said and written is made by proved
 // functions over slices; here it is only written, by way of `reply`.
 use arguments::NUMBERS;
 use arguments::is;

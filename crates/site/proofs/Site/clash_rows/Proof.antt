@@ -47,7 +47,8 @@ returns-3 c =
     let site = c .before .before .before .before .before .before .before .args .self in
     let n = c .before .before .before .before .at-most in
     let rows : c .few-rows .result ≡ clashRows site = c .few-rows .ensures
-    ∙ rows-made site (clashIn 1 (site .reach)) (n .result) (rule-one (site .rule) (site .reach) (ne-eqb _ _ (c .before .before .before .if1 .left))) (n .ensures .0) in
+    ∙ rows-made site (clashIn 1 (site .reach)) (n .result)
+    (rule-one (site .rule) (site .reach) (ne-eqb _ _ (c .before .before .before .if1 .left))) (n .ensures .0) in
     (rows, λ fine. ap bitIn rows ∙ rows-clash site fine (search needs))
 
 pub clash-rows-spec : {M : Type 1} → statement M
