@@ -4,8 +4,10 @@
  * packing and the changes themselves go position by position. Nothing lent is written before the outcome is known. */
 #include "plain.h"
 #include "site.h"
-#ifdef __SSE2__
+#if defined __SSE2__
 #include <emmintrin.h>
+#elif defined __aarch64__
+#include <arm_neon.h>
 #endif
 
 typedef struct { uint64_t words[BLOCK_WORDS]; } set;
@@ -22,11 +24,18 @@ static inline unsigned ones(uint64_t x)
 static inline uint64_t pack_word(const uint8_t *bytes)
 {
     uint64_t word = 0;
-#ifdef __SSE2__
+#if defined __SSE2__
     for (unsigned q = 0; q < 4; q++) {
         __m128i line = _mm_loadu_si128((const __m128i *)(bytes + 16 * q));
         word |= (uint64_t)(uint32_t)_mm_movemask_epi8(_mm_cmpeq_epi8(line, _mm_set1_epi8(1))) << 16 * q;
     }
+#elif defined __aarch64__
+    const uint8x16_t bits = vreinterpretq_u8_u64(vdupq_n_u64(0x8040201008040201));
+    uint8x16_t line[4];
+    for (unsigned q = 0; q < 4; q++)
+        line[q] = vandq_u8(vceqq_u8(vld1q_u8(bytes + 16 * q), vdupq_n_u8(1)), bits);
+    uint8x16_t sum = vpaddq_u8(vpaddq_u8(line[0], line[1]), vpaddq_u8(line[2], line[3]));
+    word = vgetq_lane_u64(vreinterpretq_u64_u8(vpaddq_u8(sum, sum)), 0);
 #else
     for (unsigned q = 0; q < 8; q++) {
         uint64_t byte = 0;

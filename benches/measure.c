@@ -5,12 +5,32 @@
 
 enum { REPEATS = 15, PAGE = 4096 };
 
+/* Compiled with -DCOUNTED it is instructions executed, not nanoseconds: benches/count has them counted in the file at
+ * descriptor 3. Counts need few calls. */
+#ifdef COUNTED
+#include <stdlib.h>
+#include <unistd.h>
+#define UNIT "instructions"
+enum { ENOUGH = 50000 };
+
+static double now(void)
+{
+    uint64_t count;
+    if (pread(3, &count, sizeof count, 0) != sizeof count)
+        abort();
+    return count;
+}
+#else
+#define UNIT "ns"
+enum { ENOUGH = 2000000 };
+
 static double now(void)
 {
     struct timespec t;
     clock_gettime(CLOCK_MONOTONIC, &t);
     return t.tv_sec * 1e9 + t.tv_nsec;
 }
+#endif
 
 double time_calls(column_call *call, int column, const void *job, long calls)
 {
@@ -38,7 +58,7 @@ void measure(column_call *call, const void *job, const bool there[MAKERS], doubl
     long calls[MAKERS];
     for (int m = 0; m < MAKERS; m++) {
         best[m] = there[m] ? time_calls(call, m, job, 3) : 0;
-        calls[m] = best[m] == 0 ? 0 : best[m] > 2e6 ? 1 : 2e6 / best[m];
+        calls[m] = best[m] == 0 ? 0 : best[m] > ENOUGH ? 1 : ENOUGH / best[m];
     }
     for (int repeat = 0; repeat < REPEATS; repeat++)
         for (int m = 0; m < MAKERS; m++) {
@@ -52,7 +72,7 @@ void print_head(const char *first, const char *const names[MAKERS], int columns)
 {
     printf("| %s", first);
     for (int m = 0; m < columns; m++)
-        printf(" | %s ns", names[m]);
+        printf(" | %s " UNIT, names[m]);
     for (int m = LIBRARY + 1; m < columns; m++)
         printf(" | library / %s", names[m]);
     printf(" |\n|---|---");
