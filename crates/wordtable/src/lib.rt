@@ -161,11 +161,14 @@ fn judge_open(
     CheckAnswer::Valid
 }
 
-// Whether position p is blocked and its word has a cell.
+// Whether position p is blocked and its word has a cell. Where nobody sends, what is blocked is not asked.
 fn is_barred(blocked: &[u64; 32], word: u32, p: usize, cells: usize) -> bool
     requires { ⌜ (cells ≤ 32) × (p < mostPositions) ⌝ }
     ensures { λ r. ⌜ r ≡ (blockedAt (now (blocked .entry)) p && ltb (first (bitAt word) 0 cells) cells) ⌝ }
 {
+    if word == 0 {
+        return false;
+    }
     if is_blocked(blocked, p) {
         return lowest(word, 0, cells) < cells;
     }
