@@ -41,8 +41,8 @@ static void draw(offer *o, uint64_t *seed, unsigned most_share)
     }
 }
 
-/* Of 200 lists, the one that takes the library longest. A running site has a load in every cell, about a fifth of the room in a cell
- * and the three before it. */
+/* Of 200 lists, the one that takes the library longest, by the best of some repeats, so that what else the machine does does not choose it. A
+ * running site has a load in every cell, about a fifth of the room in a cell and the three before it. */
 static void draw_hardest(offer *o, unsigned width, unsigned most_share)
 {
     size(&o->site, 32, 128, 16);
@@ -55,6 +55,10 @@ static void draw_hardest(offer *o, unsigned width, unsigned most_share)
     for (int k = 0; k < LISTS; k++) {
         draw(&tried, &seed, most_share);
         double t = time_calls(call, LIBRARY, &tried, 3);
+        for (int again = 0; again < 8; again++) {
+            double other = time_calls(call, LIBRARY, &tried, 3);
+            t = other < t ? other : t;
+        }
         if (t > longest) {
             longest = t;
             *o = tried;
