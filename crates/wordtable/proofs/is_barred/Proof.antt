@@ -1,6 +1,6 @@
 -- `wordtable::is_barred` meets its contract: a case for each way out. Assumes nothing.
-use mathlib.Core.Path.{_≡_, refl, sym, ap, _∙_}
-use mathlib.Core.Bool.{Bool, true, false, _&&_}
+use mathlib.Core.Path.{_≡_, sym, ap, _∙_}
+use mathlib.Core.Bool.{false, _&&_, and-false}
 use native.Mathlib.Omega.{arith}
 use Prim.Native.Nat.{ℕ}
 use lib.Dec.{ltb}
@@ -20,14 +20,11 @@ no-cell : (word cells : ℕ) → word ≡ 0 → ltb (first (bitAt word) 0 cells)
 no-cell word cells e =
     le-ltb _ cells (omega (arith, first-none (bitAt word) 0 cells (omega arith) (λ j _ _. rw e (bit-above 0 j (pow-pos j)))))
 
-not-both : (t u : Bool) → u ≡ false → false ≡ (t && u)
-not-both true u e = sym e
-not-both false u e = refl
-
 returns : tie.Need-returns
 returns c =
     let a = c .before .args in
-    not-both (blockedAt (a .blocked .now) (a .p)) _ (no-cell (a .word) (a .cells) (c .if1 .taken))
+    let b = blockedAt (a .blocked .now) (a .p) in
+    sym (ap (λ t. b && t) (no-cell (a .word) (a .cells) (c .if1 .taken)) ∙ and-false b)
 
 is-blocked-requires : tie.Need-is-blocked-requires
 is-blocked-requires c κs = search needs
