@@ -11,6 +11,7 @@ use sets::put_set;
 use sets::take_away;
 use sets::take_first;
 use sets::unlike_count;
+use words::lowest;
 use wordturns::free_word;
 use wordturns::word_turn;
 ghost use mathlib.Core.Path.{_≡_};
@@ -53,19 +54,6 @@ fn open_set(vacant: &mut [u64], blocked: &[u64], w: usize, n: usize)
     take_away(vacant, blocked, 0, w);
 }
 
-// Takes the set that begins at word `at` away, where it counts.
-fn take_clashing(free: &mut [u64], stands: &[u64], at: usize, w: usize, counts: bool)
-    requires { ⌜ (w ≤ length (now free)) × (at + w ≤ length (now stands)) ⌝ }
-    ensures { λ _. ⌜ now (free .exit)
-        ≡ sets (now (free .entry)) 0 (setIn (λ k. inSet (now (free .entry)) k && not (counts && inSet (now (stands .entry)) (64 * at + k))) w) ⌝ }
-{
-    if counts {
-        take_away(free, stands, at, w);
-        return;
-    }
-    keep_all(free, w);
-}
-
 // The open positions where none of the i cells below that the clash row has stands. Cell a's set begins at word a * w.
 fn free_set(free: &mut [u64], vacant: &[u64], stands: &[u64], w: usize, i: usize, row: u32)
     requires { ⌜ (i < 32) × (w ≤ 32) × (w ≤ length (now free)) × (w ≤ length (now vacant)) × (i * w ≤ length (now stands)) ⌝ }
@@ -73,9 +61,10 @@ fn free_set(free: &mut [u64], vacant: &[u64], stands: &[u64], w: usize, i: usize
         (setIn (freeBy (inSet (now (vacant .entry))) w row (now (stands .entry)) i) w) ⌝ }
 {
     meet_of(free, vacant, vacant, w);
-    for a in 0..i {
-        let clashes = (row >> a) % 2 == 1;
-        take_clashing(free, stands, a * w, w, clashes);
+    let mut a = lowest(row, 0, i);
+    while a < i {
+        take_away(free, stands, a * w, w);
+        a = lowest(row, a + 1, i);
     }
 }
 
