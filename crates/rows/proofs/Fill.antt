@@ -1,24 +1,26 @@
 -- A position of a row that is filled: its byte is raised by 1 where it is idle and by 0 where it is not, and so is what is taken from the load. What the row
 -- will be, and what will be left over, does not change (`fill-turn`, `unmet-turn`). A stretch in which every idle position is reserved goes the same way,
--- a byte at a time (`done-more`). Where all of the load is left after a part of the row, and where none is, the row stays as it was up to there (`still-front`)
--- and from there on (`front-past`). Assumes nothing.
-use mathlib.Core.Path.{_≡_, refl, sym, ap, _∙_}
+-- a byte at a time (`done-more`) or as a whole (`stretch-fills`, `stretch-leaves`). Where all of the load is left after a part of the row, and where none is,
+-- the row stays as it was up to there (`still-front`) and from there on (`front-past`). Assumes nothing.
+use mathlib.Core.Path.{_≡_, refl, sym, ap, ap₂, _∙_}
 use mathlib.Core.Bool.{Bool, true, false, _&&_}
-use mathlib.Core.List.{List, [], _∷_, _++_}
+use mathlib.Core.List.{List, [], _∷_, _++_, append-assoc}
 use Prim.Native.Nat.{ℕ, zero, suc, _+_, _-_, _≤_, _<_}
 use native.Mathlib.Omega.{arith}
 use native.Mathlib.Numerals.{add-one}
 use native.Mathlib.Nat.{add-zero}
-use lib.Dec.{eqb}
-use lib.ListN.{length, getD, set, take, drop, take-append-drop, List·getD-append}
-use lib.Seq.{set-getD, set-at, getD-at, take-suc, drop-cons, drop-at, append-snoc, length-take-le, getD-take, getD-drop}
-use borrow.Author.Tests.{eqb-true}
+use lib.Dec.{eqb, ltb}
+use lib.ListN.{length, getD, set, take, drop, take-append-drop, length-append, List·getD-append}
+use lib.Seq.{set-getD, set-at, getD-at, take-suc, drop-cons, drop-at, take-at, drop-drop, append-snoc, length-take-le, getD-take, getD-drop}
+use borrow.Author.Tests.{eqb-true, lt-ltb, le-ltb}
 use Rattle.laws.specs.Choice.{pick}
+use Rattle.laws.specs.Part.{part, put}
 use Rattle.laws.specs.Sum.{bit, count}
+use Rattle.laws.proofs.Part.{length-part}
 use Rattle.theory.specs.Net.{unblocked}
 use Rattle.theory.specs.Greedy.{fill, unmet}
 use Rattle.theory.proofs.Row.{fill-length, unmet-count}
-use Rattle.theory.proofs.Stretch.{front, after, all-at, fill-append}
+use Rattle.theory.proofs.Stretch.{front, after, all-at, fill-append, unmet-append, fill-sure}
 use Rattle.theory.proofs.Loops.{filling, fill-zero, fill-take, fill-skip, unmet-take, unmet-skip}
 
 bit-small : (t : Bool) → bit t ≤ 1
@@ -140,3 +142,52 @@ pub begins-at : (u : ℕ → Bool) (load : ℕ) (r : List ℕ) (left at from : �
     → left ≡ after u at load r → from ≤ at → after u from load r ≡ load → (b ≤ at) × (after u b load r ≡ load)
 begins-at u load r left at from true e is left-is h g = rw is (omega arith, sym left-is ∙ eqb-true left load e)
 begins-at u load r left at from false e is left-is h g = rw is (h, g)
+
+-- a stretch as `take_idle` leaves it: with its idle positions reserved, where there is a fragment for each, and else as it was
+pub taken : (x : List ℕ) {y : List ℕ} (r left : ℕ) → r ≤ left → y ≡ pick (ltb left r) x (fill unblocked 0 (length x) x) → y ≡ fill unblocked 0 (length x) x
+taken x r left h e = e ∙ ap (λ t. pick t x (fill unblocked 0 (length x) x)) (le-ltb left r h)
+
+pub as-it-was : (x : List ℕ) {y : List ℕ} (r left : ℕ) → left < r → y ≡ pick (ltb left r) x (fill unblocked 0 (length x) x) → y ≡ x
+as-it-was x r left h e = e ∙ ap (λ t. pick t x (fill unblocked 0 (length x) x)) (lt-ltb left r h)
+
+-- a stretch of n positions from m on, with its c idle ones reserved: what the row will be, and what will be left over, does not change
+module _ (m n left : ℕ) {c : ℕ} (s : List ℕ) (more : m + n ≤ length s)
+    (counted : c ≡ count (λ q. unblocked q && eqb (getD (part m n s) q 0) 0) (length (part m n s))) (enough : c ≤ left) where
+  abbrev y : List ℕ
+  y = fill unblocked m left (part m n s)
+
+  abbrev z : List ℕ
+  z = drop (m + n) s
+
+  rest : drop m s ≡ part m n s ++ z
+  unfolding part
+  rest = sym (take-append-drop n (drop m s)) ∙ ap (λ (w : List ℕ). take n (drop m s) ++ w) (drop-drop n m s)
+
+  over : unmet unblocked m left (part m n s) ≡ left - c
+  over = unmet-count unblocked m left (part m n s) unblocked (λ p. refl) ∙ ap (λ (k : ℕ). left - k) (sym counted)
+
+  long : length (take m s ++ y) ≡ m + n
+  long = rw (length-append, fill-length, length-part m n s more, length-take-le m s (omega arith))
+
+  stored : put m n (fill unblocked 0 (length (part m n s)) (part m n s)) s ≡ (take m s ++ y) ++ z
+  unfolding put
+  stored =
+      ap (λ (w : List ℕ). take m s ++ (w ++ z)) (fill-sure unblocked m left (part m n s) unblocked (λ p. refl) (omega arith))
+      ∙ sym (append-assoc (take m s) y z)
+
+  to-come : fill unblocked m left (drop m s) ≡ y ++ fill unblocked (m + n) (left - c) z
+  to-come =
+      ap (fill unblocked m left) rest ∙ fill-append unblocked m left (part m n s) z
+      ∙ ap₂ (λ (k l : ℕ). y ++ fill unblocked (m + k) l z) (length-part m n s more) over
+
+  pub stretch-fills : filling unblocked (m + n) (left - c) (put m n (fill unblocked 0 (length (part m n s)) (part m n s)) s) ≡ filling unblocked m left s
+  stretch-fills =
+      rw (stored, take-at (take m s ++ y) z (m + n) long, drop-at (take m s ++ y) z (m + n) long)
+      (append-assoc (take m s) y (fill unblocked (m + n) (left - c) z) ∙ ap (λ (w : List ℕ). take m s ++ w) (sym to-come))
+
+  pub stretch-leaves : unmet unblocked (m + n) (left - c) (drop (m + n) (put m n (fill unblocked 0 (length (part m n s)) (part m n s)) s))
+      ≡ unmet unblocked m left (drop m s)
+  stretch-leaves =
+      rw (stored, drop-at (take m s ++ y) z (m + n) long)
+      (sym (ap (unmet unblocked m left) rest ∙ unmet-append unblocked m left (part m n s) z
+      ∙ ap₂ (λ (k l : ℕ). unmet unblocked (m + k) l z) (length-part m n s more) over))

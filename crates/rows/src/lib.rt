@@ -11,7 +11,7 @@ ghost use Rattle.laws.specs.Part.{part, put, listOf};
 ghost use Rattle.theory.specs.Net.{unblocked};
 ghost use Rattle.theory.specs.Greedy.{sends, forbid, fill, unmet};
 ghost use Rattle.rows.specs.Bars.{lifted};
-ghost use Rattle.rows.specs.Stretch.{SameBut, SendsIn, coverAt, wholePieces, fillStart, filledBy};
+ghost use Rattle.rows.specs.Stretch.{SameBut, SendsIn, coverAt, wholePieces, fillStart, filledFrom, leftFrom, filledBy};
 
 // 1 for an idle byte, and 0 for any other: whether a fragment may be placed there.
 fn idle(byte: u8) -> u8
@@ -137,9 +137,37 @@ fn ends(left: usize, done: usize, slots: usize, channels: usize) -> usize
     slots * channels
 }
 
+// What is done of a row and what is left after the half of a piece: four slots.
+struct Half {
+    slots: usize,
+    left: usize,
+}
+
+// Fills four slots more of a row whose first `done` slots are filled, where there is a fragment for each idle position of them; else the row stays.
+fn fill_half(row: &mut [u8], slots: usize, channels: usize, done: usize, left: usize) -> Half
+    requires { ⌜ (channels ≤ 16) × (done ≤ slots) × (length (now row) ≡ slots * channels) ⌝ }
+    ensures within { λ r. ⌜ r .slots ≤ slots ⌝ }
+    ensures filled { λ r. ⌜ filledFrom (r .slots * channels) (r .left) (now (row .exit)) ≡ filledFrom (done * channels) left (now (row .entry)) ⌝ }
+    ensures left { λ r. ⌜ leftFrom (r .slots * channels) (r .left) (now (row .exit)) ≡ leftFrom (done * channels) left (now (row .entry)) ⌝ }
+{
+    if slots - done < 4 {
+        return Half { slots: done, left };
+    }
+    let at = done * channels;
+    let to = at + 4 * channels;
+    let count = take_idle(&mut row[at..to], left);
+    if left < count {
+        return Half { slots: done, left };
+    }
+    Half {
+        slots: done + 4,
+        left: left - count,
+    }
+}
+
 // Reserves the first `load` idle positions of a row.
-// The first slots go eight at a time, so that at most eight are looked at here. Each byte is raised by what it takes, 1 or 0,
-// and so is stored without a branch: in a row of mixed bytes a branch would often be guessed wrong.
+// The first slots go eight at a time, and then perhaps four, so that at most eight are looked at here, and mostly four. Each byte is raised by what it takes,
+// 1 or 0, and so is stored without a branch: in a row of mixed bytes a branch would often be guessed wrong.
 pub fn fill_row(row: &mut [u8], slots: usize, channels: usize, load: usize) -> Filled
     requires { ⌜ (channels ≤ 16) × (length (now row) ≡ slots * channels) ⌝ }
     ensures filled { λ _. ⌜ now (row .exit) ≡ fill unblocked 0 load (now (row .entry)) ⌝ }
@@ -148,9 +176,10 @@ pub fn fill_row(row: &mut [u8], slots: usize, channels: usize, load: usize) -> F
 {
     let front = fill_front(row, slots, channels, load);
     let from = front.from;
-    let mut left = front.left;
-    let mut slot = front.slots;
-    let to = ends(left, slot, slots, channels);
+    let to = ends(front.left, front.slots, slots, channels);
+    let half = fill_half(row, slots, channels, front.slots, front.left);
+    let mut left = half.left;
+    let mut slot = half.slots;
     let mut at = slot * channels;
     'slots: while slot < slots {
         let mut channel: usize = 0;

@@ -6,17 +6,15 @@ use Prim.Native.Nat.{ℕ, suc, _+_, _-_, _*_, _/_, _≤_, _<_}
 use native.Mathlib.Omega.{arith}
 use native.Mathlib.Nat.{zero-mul, mul-le-mul-right}
 use lib.ListN.{length, getD, take}
-use borrow.Author.Tests.{lt-ltb, le-ltb}
 use borrow.Rule.Slice.PartMut.{midOf, putMid}
-use lib.Dec.{ltb, eqb}
+use lib.Dec.{eqb}
 use Rattle.laws.specs.Choice.{pick}
 use Rattle.laws.specs.Part.{part, put}
 use Rattle.laws.proofs.Part.{lent, back, length-part, put-part}
 use Rattle.theory.specs.Net.{unblocked}
-use Rattle.theory.specs.Greedy.{fill}
 use Rattle.theory.proofs.Stretch.{front, after, front-none, after-none, length-front, front-part, stretch-filled, stretch-left}
 use borrow.Author.Needs.{needs}
-use Rattle.rows.proofs.Fill.{begins-at, unmet-most}
+use Rattle.rows.proofs.Fill.{begins-at, unmet-most, taken, as-it-was}
 use Rattle.rows.proofs.Pieces.{begun, none-begun, piece-at, start-none, start-more, stop-zero, stop-short, go-on}
 use Rattle.rows.specs.Stretch.{leftAfter, stopsAt, wholePieces, fillStart}
 use Rattle.laws.specs.Search.{first}
@@ -147,13 +145,6 @@ begins-requires c κs = tt
 
 loop-less : tie.Need-loop-less Inv-loop μ-loop
 loop-less c = omega (arith, c .before .before .before .before .before .before .before .loop-test .taken)
-
--- the eight slots as `take_idle` leaves them: with their idle positions reserved, where there is a fragment for each, and else as they were
-taken : (x : List ℕ) {y : List ℕ} (r left : ℕ) → r ≤ left → y ≡ pick (ltb left r) x (fill unblocked 0 (length x) x) → y ≡ fill unblocked 0 (length x) x
-taken x r left h e = e ∙ ap (λ t. pick t x (fill unblocked 0 (length x) x)) (le-ltb left r h)
-
-as-it-was : (x : List ℕ) {y : List ℕ} (r left : ℕ) → left < r → y ≡ pick (ltb left r) x (fill unblocked 0 (length x) x) → y ≡ x
-as-it-was x r left h e = e ∙ ap (λ t. pick t x (fill unblocked 0 (length x) x)) (lt-ltb left r h)
 
 -- the eight slots that are lent
 abbrev eight : tie.At-loop Inv-loop μ-loop → List ℕ

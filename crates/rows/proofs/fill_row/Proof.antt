@@ -1,5 +1,5 @@
 -- `rows::fill_row` meets its contract. Both loops keep `filling`: what the row will be once the rest of it is filled. Where they begin, that is
--- the filled row (`begun`). What is outside the stretch that is given is as it was (`kept`). Assumes nothing.
+-- the filled row (`begun`, `half-begun`). What is outside the stretch that is given is as it was (`kept`). Assumes nothing.
 use mathlib.Core.Path.{_≡_, refl, sym, ap, ap₂, _∙_}
 use Rattle.theory.specs.Net.{unblocked}
 use mathlib.Core.List.{List}
@@ -22,22 +22,22 @@ use Rattle.rows.proofs.fill_row.Statement.{statement}
 use Rattle.rows.proofs.fill_row.Tie as tie
 
 abbrev Inv-loop : tie.InvT-loop
-Inv-loop row₀ slots channels load from left₀ slot to at₀ channel₀ row left at channel =
+Inv-loop row₀ slots channels load from to left₀ slot at₀ channel₀ row left at channel =
     (length row ≡ slots * channels) × (at ≡ slot * channels + channel) × (channel ≤ channels)
     × (filling unblocked at left row ≡ filling unblocked at₀ left₀ row₀)
     × (unmet unblocked at left (drop at row) ≡ unmet unblocked at₀ left₀ (drop at₀ row₀))
 
 abbrev μ-loop : tie.MeasureT-loop
-μ-loop row₀ slots channels load from left₀ slot to at₀ channel₀ row left at channel = channels - channel
+μ-loop row₀ slots channels load from to left₀ slot at₀ channel₀ row left at channel = channels - channel
 
 abbrev Inv-slots : tie.InvT-slots
-Inv-slots row₀ slots channels load from left₀ slot₀ to at₀ row left slot at =
+Inv-slots row₀ slots channels load from to left₀ slot₀ at₀ row left slot at =
     (length row ≡ slots * channels) × (at ≡ slot * channels) × (slot ≤ slots)
     × (filling unblocked at left row ≡ filling unblocked at₀ left₀ row₀)
     × (unmet unblocked at left (drop at row) ≡ unmet unblocked at₀ left₀ (drop at₀ row₀))
 
 abbrev μ-slots : tie.MeasureT-slots
-μ-slots row₀ slots channels load from left₀ slot₀ to at₀ row left slot at = slots - slot
+μ-slots row₀ slots channels load from to left₀ slot₀ at₀ row left slot at = slots - slot
 
 -- where the loops begin: the first slots are filled
 module _ (c : tie.After-ends Inv-loop μ-loop Inv-slots μ-slots) where
@@ -109,6 +109,31 @@ module _ (c : tie.After-ends Inv-loop μ-loop Inv-slots μ-slots) where
             ∙ end-past (start .args .slots) (start .args .channels) (start .args .load) r (start .pre .1) p (omega (arith, h, to-is)) l,
       )
 
+-- and with four slots more, or as they are
+module _ (d : tie.After-slice-known3 Inv-loop μ-loop Inv-slots μ-slots) where
+  abbrev ended : tie.After-ends Inv-loop μ-loop Inv-slots μ-slots
+  ended = d .before .before .before .before
+
+  abbrev begin : tie.Start Inv-loop μ-loop Inv-slots μ-slots
+  begin = start ended
+
+  abbrev half-at : ℕ
+  half-at = d .before .before .fill-half .result .slots * begin .args .channels
+
+  half-within : half-at ≤ length (r ended)
+  half-within = omega (arith, mul-le-mul-right (begin .args .channels) (d .before .before .fill-half .ensures .0), begin .pre .1)
+
+  half-long : length (d .before .before .fill-half .last .0) ≡ length (r ended)
+  half-long = omega (arith, d .before .before .fill-half .kept .0, long ended)
+
+  half-begun : filling unblocked half-at (d .before .before .fill-half .result .left) (d .before .before .fill-half .last .0)
+      ≡ fill unblocked 0 (begin .args .load) (r ended)
+  half-begun = d .before .before .fill-half .ensures .1 .0 ∙ begun ended
+
+  half-unmet : unmet unblocked half-at (d .before .before .fill-half .result .left) (drop half-at (d .before .before .fill-half .last .0))
+      ≡ unmet unblocked 0 (begin .args .load) (r ended)
+  half-unmet = d .before .before .fill-half .ensures .1 .1 ∙ begun-unmet ended
+
 fill-front-requires : tie.Need-fill-front-requires Inv-loop μ-loop Inv-slots μ-slots
 fill-front-requires c κs = c .before .before .pre
 
@@ -117,17 +142,22 @@ ends-requires c κs =
     let s = c .before .before .before .before .before in
     (s .pre .0, c .before .before .fill-front .ensures .0, omega (arith, s .pre .1, s .good))
 
+fill-half-requires : tie.Need-fill-half-requires Inv-loop μ-loop Inv-slots μ-slots
+fill-half-requires c κs =
+    let e = c .before in
+    (start e .pre .0, e .before .before .before .fill-front .ensures .0, long e ∙ start e .pre .1)
+
 mul-at : tie.Need-mul-at Inv-loop μ-loop Inv-slots μ-slots
-mul-at c = omega (arith, within-row c, start c .good)
+mul-at c = omega (arith, half-within c, begin c .good)
 
 slots-holds : tie.Need-slots-holds Inv-loop μ-loop Inv-slots μ-slots
-slots-holds c = (long c ∙ start c .pre .1, refl, c .before .before .before .fill-front .ensures .0, refl, refl)
+slots-holds c = (half-long c ∙ begin c .pre .1, refl, c .before .before .fill-half .ensures .0, refl, refl)
 
 loop-holds : tie.Need-loop-holds Inv-loop μ-loop Inv-slots μ-slots
 loop-holds c = (c .before .slots .inv .0, omega arith, omega arith, refl, refl)
 
 -- where the row is looked at
-within : (c : tie.After-slice-known3 Inv-loop μ-loop Inv-slots μ-slots) → c .before .before .before .loop .at < length (c .before .before .before .loop .row)
+within : (c : tie.After-slice-known4 Inv-loop μ-loop Inv-slots μ-slots) → c .before .before .before .loop .at < length (c .before .before .before .loop .row)
 within c =
     let p = c .before .before .before in
     omega (arith, inside _ _ _ _ (p .before .slots-test .taken) (c .before .before .loop-test .taken), p .loop .inv .0, p .loop .inv .1)
@@ -147,7 +177,7 @@ idle-requires c κs = tt
 add-row : tie.Need-add-row Inv-loop μ-loop Inv-slots μ-slots
 add-row c =
     let p = c .before .before .before .before .loop in
-    let below : getD (p .row) (p .at) 0 < 256 = omega (arith, c .before .slice-known3 .given (p .at)) in
+    let below : getD (p .row) (p .at) 0 < 256 = omega (arith, c .before .slice-known4 .given (p .at)) in
     omega (arith, raised-fits (getD (p .row) (p .at) 0) (c .idle .ensures) below)
 
 slice-write-row : tie.Need-slice-write-row Inv-loop μ-loop Inv-slots μ-slots
@@ -162,7 +192,7 @@ sub-left c = omega (arith, little c)
 add-at : tie.Need-add-at Inv-loop μ-loop Inv-slots μ-slots
 add-at c =
     let p = c .before .before .before .before in
-    omega (arith, within (c .before), p .loop .inv .0, start (p .before .before .before) .pre .1, start (p .before .before .before) .good)
+    omega (arith, within (c .before), p .loop .inv .0, begin (p .before .before .before) .pre .1, begin (p .before .before .before) .good)
 
 add-channel : tie.Need-add-channel Inv-loop μ-loop Inv-slots μ-slots
 add-channel c = search needs
@@ -195,20 +225,20 @@ slots-again c =
     (p .inv .0, omega arith, omega arith, p .inv .3 ∙ q .inv .3, p .inv .4 ∙ q .inv .4)
 
 same-length : tie.Need-same-length Inv-loop μ-loop Inv-slots μ-slots
-same-length c = c .before .slots .inv .0 ∙ sym (start (c .before .before) .pre .1)
+same-length c = c .before .slots .inv .0 ∙ sym (begin (c .before .before) .pre .1)
 
 returns : tie.Need-returns Inv-loop μ-loop Inv-slots μ-slots
 returns c =
     let p = c .before .slots in
     let at′ = c .before .before in
-    let a = start at′ .args in
+    let a = begin at′ .args in
     let q : p .slot ≡ a .slots = omega arith in
     let e : p .at ≡ length (p .row) = p .inv .1 ∙ ap (λ x. x * a .channels) q ∙ sym (p .inv .0) in
-    let filled = sym (fill-end unblocked (p .left) (p .row)) ∙ (rw e at (p .inv .3)) ∙ begun at′ in
-    (filled, (given at′ (sym (unmet-end unblocked (p .left) (p .row)) ∙ (rw e at (p .inv .4)) ∙ begun-unmet at′), kept at′ filled))
+    let filled = sym (fill-end unblocked (p .left) (p .row)) ∙ (rw e at (p .inv .3)) ∙ half-begun at′ in
+    (filled, (given (ended at′) (sym (unmet-end unblocked (p .left) (p .row)) ∙ (rw e at (p .inv .4)) ∙ half-unmet at′), kept (ended at′) filled))
 
 same-length-2 : tie.Need-same-length-2 Inv-loop μ-loop Inv-slots μ-slots
-same-length-2 c = c .before .before .loop .inv .0 ∙ sym (start (c .before .before .before .before .before) .pre .1)
+same-length-2 c = c .before .before .loop .inv .0 ∙ sym (begin (c .before .before .before .before .before) .pre .1)
 
 returns-2 : tie.Need-returns-2 Inv-loop μ-loop Inv-slots μ-slots
 returns-2 c =
@@ -216,9 +246,9 @@ returns-2 c =
     let none : p .left ≡ 0 = omega (arith, c .if1 .taken) in
     let q = c .before .before .before .before in
     let at′ = q .before in
-    let filled = sym (fill-stop unblocked (p .at) (p .row)) ∙ (rw none at (p .inv .3)) ∙ q .slots .inv .3 ∙ begun at′ in
-    let over = none ∙ sym (unmet-stop unblocked (p .at) (drop (p .at) (p .row))) ∙ (rw none at (p .inv .4)) ∙ q .slots .inv .4 ∙ begun-unmet at′ in
-    (filled, (given at′ over, kept at′ filled))
+    let filled = sym (fill-stop unblocked (p .at) (p .row)) ∙ (rw none at (p .inv .3)) ∙ q .slots .inv .3 ∙ half-begun at′ in
+    let over = none ∙ sym (unmet-stop unblocked (p .at) (drop (p .at) (p .row))) ∙ (rw none at (p .inv .4)) ∙ q .slots .inv .4 ∙ half-unmet at′ in
+    (filled, (given (ended at′) over, kept (ended at′) filled))
 
 pub fill-row-spec : {M : Type 1} → statement M
 fill-row-spec =
@@ -230,6 +260,7 @@ fill-row-spec =
     μ-slots
     fill-front-requires
     ends-requires
+    fill-half-requires
     mul-at
     slots-holds
     loop-holds
