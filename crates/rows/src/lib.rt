@@ -150,6 +150,9 @@ fn fill_half(row: &mut [u8], slots: usize, channels: usize, done: usize, left: u
     ensures filled { λ r. ⌜ filledFrom (r .slots * channels) (r .left) (now (row .exit)) ≡ filledFrom (done * channels) left (now (row .entry)) ⌝ }
     ensures left { λ r. ⌜ leftFrom (r .slots * channels) (r .left) (now (row .exit)) ≡ leftFrom (done * channels) left (now (row .entry)) ⌝ }
 {
+    if left == 0 {
+        return Half { slots: done, left };
+    }
     if slots - done < 4 {
         return Half { slots: done, left };
     }

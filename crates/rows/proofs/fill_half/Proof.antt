@@ -21,9 +21,9 @@ use Rattle.rows.proofs.fill_half.Statement.{statement}
 use Rattle.rows.proofs.fill_half.Tie as tie
 
 -- the four slots lie in the row
-module _ (c : tie.Else1) where
+module _ (c : tie.Else2) where
   abbrev start : tie.Start
-  start = c .before .before
+  start = c .before .before .before
 
   abbrev at : ℕ
   at = start .args .done * start .args .channels
@@ -33,7 +33,7 @@ module _ (c : tie.Else1) where
 
   within : at + n ≤ length (start .args .row .now)
   within =
-      let h : start .args .done + 4 ≤ start .args .slots = omega (arith, c .if1 .left, start .pre .1) in
+      let h : start .args .done + 4 ≤ start .args .slots = omega (arith, c .if2 .left, start .pre .1) in
       omega (arith, mul-le-mul-right (start .args .channels) h, start .pre .2)
 
   abbrev four : List ℕ
@@ -42,17 +42,20 @@ module _ (c : tie.Else1) where
   long : length four ≡ n
   long = ap length (lent at n (start .args .row .now)) ∙ length-part at n (start .args .row .now) within
 
-sub-if1 : tie.Need-sub-if1
-sub-if1 c = c .before .pre .1
+sub-if2 : tie.Need-sub-if2
+sub-if2 c = c .before .before .pre .1
 
 returns : tie.Need-returns
 returns c = (c .before .before .pre .1, (refl, refl))
+
+returns-2 : tie.Need-returns-2
+returns-2 c = (c .before .before .before .pre .1, (refl, refl))
 
 mul-at : tie.Need-mul-at
 mul-at c = omega (arith, within c)
 
 mul-to : tie.Need-mul-to
-mul-to c = omega (arith, c .before .before .pre .0)
+mul-to c = omega (arith, c .before .before .before .pre .0)
 
 add-to : tie.Need-add-to
 add-to c = omega (arith, within c)
@@ -68,10 +71,10 @@ part-take-idle-end c = omega (arith, within c)
 
 take-idle-requires : tie.Need-take-idle-requires
 take-idle-requires c κs =
-    omega (arith, long (c .before), c .before .before .before .pre .0)
+    omega (arith, long (c .before), c .before .before .before .before .pre .0)
 
 -- where the row is left as it was
-unchanged : (c : tie.Then2) →
+unchanged : (c : tie.Then3) →
     let q = c .before .before .before .before .before in
     putMid (at q) (at q + n q - at q) (start q .args .row .now) (c .before .before .before .take-idle .last .0) ≡ start q .args .row .now
 unchanged c =
@@ -80,23 +83,23 @@ unchanged c =
     let r = start q .args .row .now in
     back (at q) (n q) r (many .last .0)
     ∙ ap (λ (z : List ℕ). put (at q) (n q) z r)
-    (as-it-was (four q) (many .result) (start q .args .left) (omega (arith, c .if2 .taken)) (many .ensures .1) ∙ lent (at q) (n q) r)
+    (as-it-was (four q) (many .result) (start q .args .left) (omega (arith, c .if3 .taken)) (many .ensures .1) ∙ lent (at q) (n q) r)
     ∙ put-part (at q) (n q) r (within q)
 
 same-length : tie.Need-same-length
 same-length c = ap length (unchanged c)
 
-returns-2 : tie.Need-returns-2
-returns-2 c =
+returns-3 : tie.Need-returns-3
+returns-3 c =
     let q = c .before .before .before .before .before in
     (start q .pre .1, (ap (filledFrom (at q) (start q .args .left)) (unchanged c), ap (leftFrom (at q) (start q .args .left)) (unchanged c)))
 
-add-t9 : tie.Need-add-t9
-add-t9 c = let q = c .before .before .before .before .before in omega (arith, q .if1 .left, start q .good)
+add-t10 : tie.Need-add-t10
+add-t10 c = let q = c .before .before .before .before .before in omega (arith, q .if2 .left, start q .good)
 
 -- where four slots more are filled
-module _ (c : tie.Else2) where
-  abbrev q : tie.Else1
+module _ (c : tie.Else3) where
+  abbrev q : tie.Else2
   q = c .before .before .before .before .before
 
   abbrev row : List ℕ
@@ -110,7 +113,7 @@ module _ (c : tie.Else2) where
   after =
       back (at q) (n q) row (c .before .before .before .take-idle .last .0)
       ∙ ap (λ (z : List ℕ). put (at q) (n q) z row)
-      (taken (four q) many (start q .args .left) (omega (arith, c .if2 .left)) (c .before .before .before .take-idle .ensures .1)
+      (taken (four q) many (start q .args .left) (omega (arith, c .if3 .left)) (c .before .before .before .take-idle .ensures .1)
       ∙ ap (λ (x : List ℕ). fill unblocked 0 (length x) x) (lent (at q) (n q) row))
 
   counted : many ≡ count (λ p. unblocked p && eqb (getD (part (at q) (n q) row) p 0) 0) (length (part (at q) (n q) row))
@@ -127,10 +130,10 @@ same-length-2 c =
     let part-long = length-part (at (q c)) (n (q c)) (row c) fits in
     ap length (after c) ∙ length-put (at (q c)) (n (q c)) _ (row c) (fill-length unblocked 0 _ (part (at (q c)) (n (q c)) (row c)) ∙ part-long) fits
 
-returns-3 : tie.Need-returns-3
-returns-3 c =
-    let enough : many c ≤ start (q c) .args .left = omega (arith, c .if2 .left) in (
-      omega (arith, q c .if1 .left),
+returns-4 : tie.Need-returns-4
+returns-4 c =
+    let enough : many c ≤ start (q c) .args .left = omega (arith, c .if3 .left) in (
+      omega (arith, q c .if2 .left),
       (
         rw (there c, after c) (stretch-fills (at (q c)) (n (q c)) (start (q c) .args .left) (row c) (within (q c)) (counted c) enough),
         rw (there c, after c) (stretch-leaves (at (q c)) (n (q c)) (start (q c) .args .left) (row c) (within (q c)) (counted c) enough),
@@ -141,8 +144,9 @@ pub fill-half-spec : {M : Type 1} → statement M
 fill-half-spec =
     tie.close
     (tie.spec
-    sub-if1
     returns
+    sub-if2
+    returns-2
     mul-at
     mul-to
     add-to
@@ -151,7 +155,7 @@ fill-half-spec =
     part-take-idle-end
     take-idle-requires
     same-length
-    returns-2
-    add-t9
+    returns-3
+    add-t10
     same-length-2
-    returns-3)
+    returns-4)
