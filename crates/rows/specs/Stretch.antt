@@ -1,16 +1,16 @@
 -- The stretch of a row in which positions are reserved, and a row that takes the marks of an earlier one over.
 use mathlib.Core.Bool.{Bool, true, _&&_, _||_, not}
-use mathlib.Core.List.{List, _++_}
+use mathlib.Core.List.{List}
 use mathlib.Core.Path.{_≡_}
 use Prim.Native.Nat.{ℕ, suc, _+_, _*_, _/_, _≤_, _<_, min}
 use lib.Dec.{eqb, ltb}
-use lib.ListN.{length, getD, take, drop}
+use lib.ListN.{length, getD, take}
 use Rattle.laws.specs.Choice.{pick}
 use Rattle.laws.specs.Part.{part}
 use Rattle.laws.specs.Search.{first}
 use Rattle.laws.specs.Sum.{count}
 use Rattle.theory.specs.Net.{unblocked}
-use Rattle.theory.specs.Greedy.{reserved, fill, unmet}
+use Rattle.theory.specs.Greedy.{reserved, unmet}
 use Rattle.rows.specs.declared.Filled.{Filled}
 
 -- the row r is the row before, but for the positions from a to b
@@ -45,13 +45,6 @@ wholePieces slots size load row = first (stopsAt size load row) 0 (slots / 8)
 -- where the first of k pieces begins after which not all of the load is left
 abbrev pub fillStart : ℕ → ℕ → List ℕ → ℕ → ℕ
 fillStart size load row k = first (λ j. not (eqb (leftAfter size load row (suc j)) load)) 0 k * size
-
--- what a row will be, and what will be left of l fragments, once it is filled from position p on
-abbrev pub filledFrom : ℕ → ℕ → List ℕ → List ℕ
-filledFrom p l row = take p row ++ fill unblocked p l (drop p row)
-
-abbrev pub leftFrom : ℕ → ℕ → List ℕ → ℕ
-leftFrom p l row = unmet unblocked p l (drop p row)
 
 -- where the filling ends: after k pieces, or within eight slots more
 abbrev pub fillEnd : ℕ → ℕ → ℕ → ℕ → ℕ

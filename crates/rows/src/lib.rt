@@ -11,7 +11,7 @@ ghost use Rattle.laws.specs.Part.{part, put, listOf};
 ghost use Rattle.theory.specs.Net.{unblocked};
 ghost use Rattle.theory.specs.Greedy.{sends, forbid, fill, unmet};
 ghost use Rattle.rows.specs.Bars.{lifted};
-ghost use Rattle.rows.specs.Stretch.{SameBut, SendsIn, coverAt, wholePieces, fillStart, filledFrom, leftFrom, filledBy};
+ghost use Rattle.rows.specs.Stretch.{SameBut, SendsIn, coverAt, wholePieces, fillStart, filledBy};
 
 // 1 for an idle byte, and 0 for any other: whether a fragment may be placed there.
 fn idle(byte: u8) -> u8
@@ -147,8 +147,11 @@ struct Half {
 fn fill_half(row: &mut [u8], slots: usize, channels: usize, done: usize, left: usize) -> Half
     requires { ⌜ (channels ≤ 16) × (done ≤ slots) × (length (now row) ≡ slots * channels) ⌝ }
     ensures within { λ r. ⌜ r .slots ≤ slots ⌝ }
-    ensures filled { λ r. ⌜ filledFrom (r .slots * channels) (r .left) (now (row .exit)) ≡ filledFrom (done * channels) left (now (row .entry)) ⌝ }
-    ensures left { λ r. ⌜ leftFrom (r .slots * channels) (r .left) (now (row .exit)) ≡ leftFrom (done * channels) left (now (row .entry)) ⌝ }
+    ensures filled { λ r. ⌜
+        take (r .slots * channels) (now (row .exit)) ++ fill unblocked (r .slots * channels) (r .left) (drop (r .slots * channels) (now (row .exit)))
+        ≡ take (done * channels) (now (row .entry)) ++ fill unblocked (done * channels) left (drop (done * channels) (now (row .entry))) ⌝ }
+    ensures left { λ r. ⌜ unmet unblocked (r .slots * channels) (r .left) (drop (r .slots * channels) (now (row .exit)))
+        ≡ unmet unblocked (done * channels) left (drop (done * channels) (now (row .entry))) ⌝ }
 {
     if left == 0 {
         return Half { slots: done, left };

@@ -12,7 +12,7 @@ use Rattle.laws.specs.Choice.{pick}
 use Rattle.laws.specs.Most.{greater}
 use Rattle.laws.proofs.Words.{word-bit}
 use Rattle.laws.proofs.Most.{greater-most}
-use Rattle.heaviest.specs.Code.{Counts}
+use Rattle.heaviest.specs.Code.{Keeps}
 use Rattle.heaviest.proofs.Classes.{closed, joined}
 use Rattle.heaviest.proofs.class_of.Statement.{statement}
 use Rattle.heaviest.proofs.class_of.Tie as tie
@@ -26,13 +26,13 @@ greater-within a b x p q = at (ltb a b)
 
 abbrev Inv-loop : tie.InvT-loop
 Inv-loop word loads clash left₀ apart₀ heavy₀ left apart heavy =
-    ((w total : ℕ) → Counts clash loads w word word 0 total → Counts clash loads w left apart heavy total) × (heavy ≤ 65535)
+    ((total : ℕ) → Keeps clash loads word word 0 total left apart heavy total) × (heavy ≤ 65535)
 
 abbrev μ-loop : tie.MeasureT-loop
 μ-loop word loads clash left₀ apart₀ heavy₀ left apart heavy = apart
 
 loop-holds : tie.Need-loop-holds Inv-loop μ-loop
-loop-holds c = (λ w total h. h, omega arith)
+loop-holds c = (λ total w h. h, omega arith)
 
 highest-requires : tie.Need-highest-requires Inv-loop μ-loop
 highest-requires c κs = search needs
@@ -71,9 +71,9 @@ loop-again c =
     let rest = c .before .before .less in
     let at = c .before .before .before .before .before .before .before .before in
     let rows = at .before .args .clash .now in (
-      λ w total h.
+      λ total w h.
           rw (gone .ensures)
-          (joined (at .loop .inv .0 w total h) (at .before .pre) (top .result) (top .ensures .0) (top .ensures .1) (top .ensures .2) (c .apart .result)
+          (joined (at .loop .inv .0 total w h) (at .before .pre) (top .result) (top .ensures .0) (top .ensures .1) (top .ensures .2) (c .apart .result)
           (λ i l.
           ap (λ (n : ℕ). bitAt n i) (c .apart .ensures .0) ∙ word-bit _ 32 i l
           ∙ ap (λ (n : ℕ). bitAt n i && not (bitIn rows (top .result) i)) (rest .ensures)) (own .result) _ (own .ensures .0)
@@ -83,7 +83,7 @@ loop-again c =
     )
 
 returns : tie.Need-returns Inv-loop μ-loop
-returns c = (λ w total h. closed (c .before .loop .inv .0 w total h), c .before .loop .inv .1)
+returns c = (λ total w h. closed (c .before .loop .inv .0 total w h), c .before .loop .inv .1)
 
 pub class-of-spec : {M : Type 1} → statement M
 class-of-spec =

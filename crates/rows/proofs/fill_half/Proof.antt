@@ -5,7 +5,7 @@ use Prim.Native.Nat.{ℕ, _+_, _-_, _*_, _≤_}
 use native.Mathlib.Omega.{arith}
 use native.Mathlib.Nat.{mul-le-mul-right}
 use lib.Dec.{eqb}
-use lib.ListN.{length, getD}
+use lib.ListN.{length, getD, drop}
 use mathlib.Core.Bool.{_&&_}
 use borrow.Author.Needs.{needs}
 use borrow.Rule.Slice.PartMut.{midOf, putMid}
@@ -13,9 +13,9 @@ use Rattle.laws.specs.Part.{part, put}
 use Rattle.laws.specs.Sum.{count}
 use Rattle.laws.proofs.Part.{lent, back, length-part, put-part, length-put}
 use Rattle.theory.specs.Net.{unblocked}
-use Rattle.theory.specs.Greedy.{fill}
+use Rattle.theory.specs.Greedy.{fill, unmet}
 use Rattle.theory.proofs.Row.{fill-length}
-use Rattle.rows.specs.Stretch.{filledFrom, leftFrom}
+use Rattle.theory.proofs.Loops.{filling}
 use Rattle.rows.proofs.Fill.{taken, as-it-was, stretch-fills, stretch-leaves}
 use Rattle.rows.proofs.fill_half.Statement.{statement}
 use Rattle.rows.proofs.fill_half.Tie as tie
@@ -92,7 +92,7 @@ same-length c = ap length (unchanged c)
 returns-3 : tie.Need-returns-3
 returns-3 c =
     let q = c .before .before .before .before .before in
-    (start q .pre .1, (ap (filledFrom (at q) (start q .args .left)) (unchanged c), ap (leftFrom (at q) (start q .args .left)) (unchanged c)))
+    (start q .pre .1, (ap (filling unblocked (at q) (start q .args .left)) (unchanged c), ap (λ (x : List ℕ). unmet unblocked (at q) (start q .args .left) (drop (at q) x)) (unchanged c)))
 
 add-t10 : tie.Need-add-t10
 add-t10 c = let q = c .before .before .before .before .before in omega (arith, q .if2 .left, start q .good)
