@@ -60,7 +60,8 @@ apart-requires c κs = search needs
 
 loop-less : tie.Need-loop-less Inv-loop μ-loop
 loop-less c =
-    let top = c .before .before .before .before .before .before .highest in omega (arith, pow-pos (top .result), top .ensures .1, c .before .before .less .ensures, c .apart .ensures .1)
+    let top = c .before .before .before .before .before .before .highest in
+    omega (arith, pow-pos (top .result), top .ensures .1, c .before .before .less .ensures, c .apart .ensures .1)
 
 loop-again : tie.Need-loop-again Inv-loop μ-loop
 loop-again c =

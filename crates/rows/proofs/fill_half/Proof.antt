@@ -92,7 +92,10 @@ same-length c = ap length (unchanged c)
 returns-3 : tie.Need-returns-3
 returns-3 c =
     let q = c .before .before .before .before .before in
-    (start q .pre .1, (ap (filling unblocked (at q) (start q .args .left)) (unchanged c), ap (λ (x : List ℕ). unmet unblocked (at q) (start q .args .left) (drop (at q) x)) (unchanged c)))
+    let left = start q .args .left in (
+      start q .pre .1,
+      (ap (filling unblocked (at q) left) (unchanged c), ap (λ (x : List ℕ). unmet unblocked (at q) left (drop (at q) x)) (unchanged c)),
+    )
 
 add-t10 : tie.Need-add-t10
 add-t10 c = let q = c .before .before .before .before .before in omega (arith, q .if2 .left, start q .good)

@@ -52,7 +52,8 @@ take-away-requires : tie.Need-take-away-requires Inv-loop μ-loop
 take-away-requires c κs =
     let l = c .before .before .loop in
     let a = c .before .before .before .before .before .before .before .before .before .before .before .args in
-    (omega (arith, l .inv .2, c .before .before .before .before .before .before .meet-of .kept .0), omega (arith, row-before (a .w) {j = l .a} {i = a .i} (omega arith)))
+    let copied = c .before .before .before .before .before .before .meet-of .kept .0 in
+    (omega (arith, l .inv .2, copied), omega (arith, row-before (a .w) {j = l .a} {i = a .i} (omega arith)))
 
 add-lowest : tie.Need-add-lowest Inv-loop μ-loop
 add-lowest c = omega arith
