@@ -1,7 +1,7 @@
 // Whether a table is the greedy plan, tested in place: each row is made anew from the rows before it, and compared.
 //
 // What it costs: for each row what it costs to plan it, and one pass to compare it. The local room is a byte for each position, and one more for each where a
-// position is blocked: 4 kilobytes, and for up to 64 positions 128 bytes. There is no second table.
+// position is blocked: 4 kilobytes, and for up to 128 positions 256 bytes. There is no second table.
 use rowapart::load_of;
 use rowapart::make_row;
 use rowapart::mask_size;
@@ -108,7 +108,7 @@ fn test_in(
     )
 }
 
-// Whether a table of at most 64 positions is the greedy plan: the room is cleared for so many alone.
+// Whether a table of at most 128 positions is the greedy plan: the room is cleared for so many alone.
 fn is_small_plan(
     table: &[u8],
     cells: usize,
@@ -118,15 +118,15 @@ fn is_small_plan(
     clash: &[u32; 32],
     blocked: &[u64; 32],
 ) -> bool
-    requires { ⌜ (0 < cells) × (cells ≤ 32) × (channels ≤ 16) × (slots * channels ≤ 64) × (cells * (slots * channels) ≤ length (now table)) ⌝ }
+    requires { ⌜ (0 < cells) × (cells ≤ 32) × (channels ≤ 16) × (slots * channels ≤ 128) × (cells * (slots * channels) ≤ length (now table)) ⌝ }
     requires { ⌜ EitherWay (now clash) ⌝ }
     ensures { λ r. ⌜ r ≡ isPlan (netBy cells (slots * channels) (now (loads .entry)) (now (clash .entry)) (isOpen (now (blocked .entry))))
         (now (table .entry)) ⌝ }
 {
     let n = slots * channels;
     let m = mask_size(blocked, n);
-    let mut mask = [0u8; 64];
-    let mut row = [0u8; 64];
+    let mut mask = [0u8; 128];
+    let mut row = [0u8; 128];
     test_in(
         table,
         &mut mask[..m],
@@ -156,7 +156,7 @@ pub fn is_plan(
         (now (table .entry)) ⌝ }
 {
     let n = slots * channels;
-    if n <= 64 {
+    if n <= 128 {
         return is_small_plan(table, cells, slots, channels, loads, clash, blocked);
     }
     let m = mask_size(blocked, n);

@@ -1,7 +1,7 @@
 // The greedy plan from a cell on, where the rows before it stand. Each row is made apart from the table, and what is lent to be written is that one row.
 //
 // What it costs: for each row what it costs to plan it, and one pass to store it. The local room is a byte for each position, and one more for each where a
-// position is blocked: no second table. Of at most 64 positions only so many are cleared.
+// position is blocked: no second table. Of at most 128 positions only so many are cleared.
 use planner::PlanAnswer;
 use rowapart::load_of;
 use rowapart::make_row;
@@ -114,7 +114,7 @@ fn plan_in(
     )
 }
 
-// The same for at most 64 positions: the room is cleared for so many alone.
+// The same for at most 128 positions: the room is cleared for so many alone.
 fn plan_small_from(
     table: &mut [u8],
     first: usize,
@@ -125,7 +125,7 @@ fn plan_small_from(
     clash: &[u32; 32],
     blocked: &[u64; 32],
 ) -> PlanAnswer
-    requires { ⌜ (first ≤ cells) × (cells ≤ 32) × (channels ≤ 16) × (slots * channels ≤ 64) × (cells * (slots * channels) ≤ length (now table)) ⌝ }
+    requires { ⌜ (first ≤ cells) × (cells ≤ 32) × (channels ≤ 16) × (slots * channels ≤ 128) × (cells * (slots * channels) ≤ length (now table)) ⌝ }
     requires { ⌜ PlannedTo (netBy cells (slots * channels) (now loads) (now clash) (isOpen (now blocked))) first (now table) × EitherWay (now clash) ⌝ }
     ensures answer { λ r. ⌜ r ≡ answerOf (greedy (netBy cells (slots * channels) (now (loads .entry)) (now (clash .entry))
         (isOpen (now (blocked .entry))))) ⌝ }
@@ -134,8 +134,8 @@ fn plan_small_from(
 {
     let n = slots * channels;
     let m = mask_size(blocked, n);
-    let mut mask = [0u8; 64];
-    let mut row = [0u8; 64];
+    let mut mask = [0u8; 128];
+    let mut row = [0u8; 128];
     plan_in(
         table,
         &mut mask[..m],
@@ -169,7 +169,7 @@ pub fn plan_from(
         (isOpen (now (blocked .entry)))) (now (table .entry)) ⌝ }
 {
     let n = slots * channels;
-    if n <= 64 {
+    if n <= 128 {
         return plan_small_from(table, first, cells, slots, channels, loads, clash, blocked);
     }
     let m = mask_size(blocked, n);
