@@ -1,8 +1,7 @@
-/* How a proved program starts on Arm, and what the kit's library os has in C: the kit's own (lib/libos_c.a) is compiled for x86-64 alone. The contracts stand
-   in the kit's libs/os/src/c.rt, and nothing proves them, here or there. tools/try-processors compares the two. tools/arm-module calls a program's main
+/* How a proved program starts on Arm, and what the kit's library os has in C: the kit's own (c/libos_c.a) is compiled for x86-64 alone. The contracts stand
+   in the kit's rattle/os/src/c.rt, and nothing proves them, here or there. tools/try-processors compares the two. tools/arm-module calls a program's main
    rattle_program. */
 #include <errno.h>
-#include <fcntl.h>
 #include <stdint.h>
 
 int32_t rattle_program(void);
@@ -31,29 +30,6 @@ int32_t rattle_errno(void) {
 
 void rattle_set_errno(int32_t error) {
     errno = error;
-}
-
-/* Each opens the file, and answers a descriptor or -1. It is closed where the program starts another, and is never the process's terminal. */
-int32_t rattle_open_to_read(const char *path) {
-    return open(path, O_RDONLY | O_NOCTTY | O_CLOEXEC);
-}
-
-/* The name must be free. */
-int32_t rattle_open_new(const char *path, uint32_t mode) {
-    return open(path, O_WRONLY | O_CREAT | O_EXCL | O_NOCTTY | O_CLOEXEC, mode);
-}
-
-/* The file is emptied, or made where it is missing. */
-int32_t rattle_open_to_overwrite(const char *path, uint32_t mode) {
-    return open(path, O_WRONLY | O_CREAT | O_TRUNC | O_NOCTTY | O_CLOEXEC, mode);
-}
-
-int32_t rattle_open_to_append(const char *path) {
-    return open(path, O_WRONLY | O_APPEND | O_NOCTTY | O_CLOEXEC);
-}
-
-int32_t rattle_open_to_update(const char *path) {
-    return open(path, O_RDWR | O_NOCTTY | O_CLOEXEC);
 }
 
 int main(int argc, char **argv) {

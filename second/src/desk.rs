@@ -309,7 +309,7 @@ mod tests {
             );
         }
         let start = "refused 5, cell 1: ";
-        let kept = "keeping these reservations leaves no room for 1 of its fragments; duggfrask why says whether a fresh plan does\n";
+        let kept = "keeping these reservations leaves no room for 1 of its fragments; a fresh plan may do\n";
         assert_eq!(mend(file(&one(3)), file(&empty)), Err(format!("{start}{kept}")));
         let short = "no room for 1 of its fragments; duggfrask why says what that means\n";
         assert_eq!(plan(file(&one(3))), Err(format!("{start}{short}")));

@@ -1,5 +1,6 @@
 /* Stands in the place of tools/run: hands its words, its folder and its inputs to tools/replay/serve.mjs, over the socket that DUGG_SERVER names, and writes what comes back. So that node
  * is started once, and not for each use. */
+#include <fcntl.h>
 #include <stdint.h>
 #include <stdio.h>
 #include <stdlib.h>
@@ -26,6 +27,16 @@ static void put_part(const void *bytes, uint32_t n)
 {
     put(&n, 4);
     put(bytes, n);
+}
+
+/* The descriptor of the next input: its own where that is open, and otherwise standard input, once. */
+static int next_input(int own)
+{
+    static int standard = 0;
+    int fd = fcntl(own, F_GETFD) < 0 ? standard : own;
+    if (fd == standard)
+        standard = -1;
+    return fd;
 }
 
 /* All of an input, up to what the program looks at; one that is not open is empty. */
@@ -81,9 +92,9 @@ int main(int argc, char **argv)
     if (connect(server, (struct sockaddr *)&at, sizeof at) != 0)
         return 1;
     put_part(folder, (uint32_t)strlen(folder));
-    put_input(0);
-    put_input(4);
-    put_input(6);
+    put_input(next_input(8));
+    put_input(next_input(4));
+    put_input(next_input(6));
     uint32_t words = argc < 2 ? 0 : (uint32_t)argc - 2;
     put(&words, 4);
     for (int k = 2; k < argc; k++)

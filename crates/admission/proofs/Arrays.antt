@@ -53,7 +53,8 @@ module _ (cells slots : ℕ) (f : ℕ → Flow) (n : ℕ) (few : n ≤ 16) (all 
       (λ h. omega (arith, past (λ k. (f k).cell - 1) n k (ltb-false k n h) l)) (cases (ltb k n))
 
   pub same-best : (start : Net)
-      → best_beside start (arrays.flows_in (laid_first (λ k. (f k).cell - 1) n) (laid_first (λ k. amount (share_in slots (f k))) n) (laid_first (λ k. (f k).value) n) n)
+      → best_beside start (arrays.flows_in (laid_first (λ k. (f k).cell - 1) n) (laid_first (λ k. amount (share_in slots (f k))) n)
+      (laid_first (λ k. (f k).value) n) n)
       ≡ best_beside start (flows_asked slots f n)
   same-best start =
       best-flows start n _ (λ k. (f k).cell - 1) _ (λ k. amount (share_in slots (f k))) _ (λ k. (f k).value)

@@ -86,7 +86,8 @@ module _ (s : Site) (f : ℕ → Flow) (n : ℕ) where
   pub outside-beside : fault_of s ≡ Fine → n ≤ 16 → is_nested (class_verdict (net_of s) everyone) ≡ false → beside_in s f n ≡ Answered NotNested
   outside-beside e h q = before (rw (e, le-ltb 16 n h, q) refl) ∙ ap Answered (outside-answer (net_of s) s f n e h q)
 
-  pub over-beside : fault_of s ≡ Fine → n ≤ 16 → is_nested (class_verdict (net_of s) everyone) ≡ true → (cell excess : ℕ) → load_answer s ≡ load.Over cell excess
+  pub over-beside : fault_of s ≡ Fine → n ≤ 16 → is_nested (class_verdict (net_of s) everyone) ≡ true → (cell excess : ℕ) → load_answer s
+      ≡ load.Over cell excess
       → beside_in s f n ≡ Over cell excess
   unfolding beside_in
   over-beside e h q cell excess o =

@@ -35,7 +35,8 @@ module _ (cells slots : ℕ) (f : ℕ → Flow) (n : ℕ) (rows rooms : List ℕ
   unfolding chosen_in
   chosen-set l = rw (le-ltb (first_bad_in cells slots f n) n l)
 
-module _ (start : Net) (s : Site) (f : ℕ → Flow) (n : ℕ) (fine : fault_of s ≡ Fine) (few : n ≤ 16) (class : is_nested (class_verdict (net_of s) everyone) ≡ true)
+module _ (start : Net) (s : Site) (f : ℕ → Flow) (n : ℕ) (fine : fault_of s ≡ Fine) (few : n ≤ 16)
+    (class : is_nested (class_verdict (net_of s) everyone) ≡ true)
     (rows rooms : List ℕ) (stand : (own : List ℕ) → ((k : ℕ) → k < 16 → get_or own k 0 < s.cells) → Stands start rooms rows own) where
   abbrev bad : ℕ
   bad = first_bad_in s.cells s.slots f n

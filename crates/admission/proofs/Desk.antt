@@ -37,7 +37,8 @@ three = flow 1 1 2 1 1 ∷ flow 2 2 2 1 1 ∷ flow 1 2 2 1 5 ∷ []
 
 -- the set {2,3} worth 6
 pub desk : admit_answer bare three ≡ Admitted 6
-unfolding answer_from fault_of size_ok rule_ok up_to extra_load bad_row extra_blocked row_bad first_of class_verdict first_split split_of splits second clash_in reaches
+unfolding answer_from fault_of size_ok rule_ok up_to extra_load bad_row extra_blocked row_bad first_of class_verdict first_split split_of splits second clash_in
+    reaches
     first_bad_in
     bad_in refused_in share_of rounded_up best_beside best_of allowed_beside sum overloaded lowest_over load_verdict
 desk = refl
@@ -47,7 +48,8 @@ abbrev narrow : Site
 narrow = site_of 2 2 1 (rows (2 ∷ 2 ∷ 0 ∷ 0 ∷ 0 ∷ [])) (rows (0 ∷ 0 ∷ 0 ∷ 0 ∷ 0 ∷ [])) (1 ∷ replicate 31 0) 1
 
 pub one-open : admit_answer narrow three ≡ Admitted 1
-unfolding answer_from fault_of size_ok rule_ok up_to extra_load bad_row extra_blocked row_bad first_of class_verdict first_split split_of splits second clash_in reaches
+unfolding answer_from fault_of size_ok rule_ok up_to extra_load bad_row extra_blocked row_bad first_of class_verdict first_split split_of splits second clash_in
+    reaches
     first_bad_in
     bad_in refused_in share_of rounded_up best_beside best_of allowed_beside sum overloaded lowest_over load_verdict
 one-open = refl
@@ -58,7 +60,8 @@ abbrev twice : List Flow
 twice = flow 1 1 2 2 3 ∷ flow 1 1 2 1 2 ∷ []
 
 pub repeats-decide : (admit_answer bare twice ≡ Admitted 1) × (admit_answer bare (flow 1 1 2 1 3 ∷ flow 1 1 2 1 2 ∷ []) ≡ Admitted 3)
-unfolding answer_from fault_of size_ok rule_ok up_to extra_load bad_row extra_blocked row_bad first_of class_verdict first_split split_of splits second clash_in reaches
+unfolding answer_from fault_of size_ok rule_ok up_to extra_load bad_row extra_blocked row_bad first_of class_verdict first_split split_of splits second clash_in
+    reaches
     first_bad_in bad_in refused_in share_of rounded_up best_beside best_of allowed_beside sum overloaded lowest_over load_verdict
 repeats-decide = (refl, refl)
 
@@ -74,7 +77,8 @@ nine =
 
 -- the set {2,3,4,8,9}, worth 177
 pub table-two : admit_answer row nine ≡ Admitted 398
-unfolding answer_from fault_of size_ok rule_ok up_to extra_load bad_row extra_blocked row_bad first_of class_verdict first_split split_of splits second clash_in reaches
+unfolding answer_from fault_of size_ok rule_ok up_to extra_load bad_row extra_blocked row_bad first_of class_verdict first_split split_of splits second clash_in
+    reaches
     first_bad_in
     bad_in refused_in share_of rounded_up best_beside best_of allowed_beside sum overloaded lowest_over load_verdict
 table-two = refl
@@ -88,7 +92,8 @@ pub bad-input :
     × (admit_answer row (flow 1 1 1 1 9 ∷ flow 4 1 1 1 9 ∷ []) ≡ BadCell 2)
     × (admit_answer row (flow 1 1 1 5 9 ∷ []) ≡ BadFlow 1) × (admit_answer row (flow 1 1 1 1 9 ∷ flow 1 1 1 1 9 ∷ flow 2 65535 1 1 9 ∷ []) ≡ BigShare 3)
     × (admit_answer spare (flow 1 1 1 1 9 ∷ []) ≡ NotNested) × (admit_answer spare (replicate 17 (flow 1 1 1 1 9)) ≡ TooMany)
-unfolding answer_from fault_of size_ok rule_ok up_to extra_load bad_row extra_blocked row_bad first_of class_verdict first_split split_of splits second clash_in reaches
+unfolding answer_from fault_of size_ok rule_ok up_to extra_load bad_row extra_blocked row_bad first_of class_verdict first_split split_of splits second clash_in
+    reaches
     first_bad_in
     bad_in refused_in share_of rounded_up best_beside best_of allowed_beside sum overloaded lowest_over load_verdict
 bad-input = (refl, refl, refl, refl, refl, refl, refl)
@@ -99,7 +104,8 @@ abbrev drift : Site
 drift = site_of 4 3 2 (rows (0 ∷ 0 ∷ 0 ∷ 0 ∷ 0 ∷ [])) (rows (10 ∷ 4 ∷ 0 ∷ 0 ∷ 0 ∷ [])) empty_set 1
 
 pub drift-admitted : admit_answer drift (flow 1 1 1 1 9 ∷ flow 2 1 1 1 9 ∷ flow 4 1 1 1 9 ∷ []) ≡ Admitted 7
-unfolding answer_from fault_of size_ok rule_ok up_to extra_load bad_row extra_blocked row_bad first_of class_verdict first_split split_of splits second clash_in reaches
+unfolding answer_from fault_of size_ok rule_ok up_to extra_load bad_row extra_blocked row_bad first_of class_verdict first_split split_of splits second clash_in
+    reaches
     first_bad_in
     bad_in refused_in share_of rounded_up best_beside best_of allowed_beside sum overloaded lowest_over load_verdict
 drift-admitted = refl
@@ -119,7 +125,8 @@ pub on-top :
     × (beside_answer (running 5) (replicate 17 (flow 1 1 1 1 9)) ≡ Answered TooMany)
     × (beside_answer (running 1) (flow 1 1 2 1 5 ∷ flow 3 1 1 1 1 ∷ []) ≡ Answered (BadCell 2))
     × (beside_answer spare (flow 1 1 1 1 9 ∷ []) ≡ Answered NotNested)
-unfolding answer_from beside_in fault_of size_ok rule_ok up_to extra_load bad_row extra_blocked row_bad first_of class_verdict first_split split_of splits second clash_in
+unfolding answer_from beside_in fault_of size_ok rule_ok up_to extra_load bad_row extra_blocked row_bad first_of class_verdict first_split split_of splits
+    second clash_in
     reaches
     first_bad_in
     bad_in refused_in share_of rounded_up best_beside best_of allowed_beside sum overloaded lowest_over load_verdict
@@ -128,7 +135,8 @@ on-top = (refl, refl, refl, refl, refl, refl, refl)
 -- a cell without flows counts where it has a load: cell 2 of two that clash has load 3 of 4, and one flow of share 2 in cell 1 would put it over
 pub loaded-cell : beside_answer (site_of 2 4 1 (rows (0 ∷ 3 ∷ 0 ∷ 0 ∷ 0 ∷ [])) (rows (0 ∷ 1 ∷ 0 ∷ 0 ∷ 0 ∷ [])) empty_set 1) (flow 1 1 2 1 5 ∷ [])
     ≡ Answered (Admitted 0)
-unfolding answer_from beside_in fault_of size_ok rule_ok up_to extra_load bad_row extra_blocked row_bad first_of class_verdict first_split split_of splits second clash_in
+unfolding answer_from beside_in fault_of size_ok rule_ok up_to extra_load bad_row extra_blocked row_bad first_of class_verdict first_split split_of splits
+    second clash_in
     reaches
     first_bad_in
     bad_in refused_in share_of rounded_up best_beside best_of allowed_beside sum overloaded lowest_over load_verdict

@@ -14,4 +14,3 @@ pub mod Over
 pub mod BesideMeans
 pub mod Laden
 pub mod Desk
-pub mod Lent

@@ -70,7 +70,8 @@ module _ (s : Net) (class : Class s everyone) (i : ℕ) (below : (j : ℕ) → j
 
 -- ---- of a site, by its clash rows; r is the room
 
-module _ (s : Site) (fine : fault_of s ≡ Fine) (class : is_nested (class_verdict (net_of s) everyone) ≡ true) (rows : List ℕ) (relation : bit_in rows ≡ clash_of s)
+module _ (s : Site) (fine : fault_of s ≡ Fine) (class : is_nested (class_verdict (net_of s) everyone) ≡ true) (rows : List ℕ)
+    (relation : bit_in rows ≡ clash_of s)
     (r : ℕ) (all : r ≡ room (net_of s)) (i : ℕ) (e : i ≡ first (past_room s.loads rows r) 0 s.cells) where
   abbrev test : ℕ → Bool
   test = past_room s.loads rows r

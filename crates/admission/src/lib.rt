@@ -1,5 +1,7 @@
 // Which of at most 16 flows a site admits: the best set of them whose shares, summed by cell, pass the load test.
 // The lent list is taken apart by `flowlist`; all else works on numbers and small arrays.
+#![tactic(auto)]
+
 ghost use Rattle.std.specs.Prelude.{◌≡◌, ℕ, ◌-◌, ◌≤◌, ◌<◌, length, get_or};
 ghost use Rattle.std.proofs.lemmas.List.Edits.{sets};
 ghost use Rattle.laws.specs.Bits.{bit_in};
@@ -22,7 +24,7 @@ use shares::{Fragments, Repeats, ShareAnswer, Slots, share_of};
 use site::{Fault, Site, within};
 
 // The set's number; or why there is none. A flow is named by its number, from 1.
-#[derive(Drop)]
+#[derive(Clone, Copy)]
 pub enum AdmitAnswer {
     Admitted(u32),
     TooMany,
@@ -34,14 +36,14 @@ pub enum AdmitAnswer {
 }
 
 // On top of the loads that the site has: what an admission answers; or the loads alone are over, in which cell and by how much.
-#[derive(Drop)]
+#[derive(Clone, Copy)]
 pub enum BesideAnswer {
     Answered(AdmitAnswer),
     Over(usize, usize),
 }
 
 // What the search takes of a flow: the place of its cell, and its share. Or the flow is refused.
-#[derive(Drop)]
+#[derive(Clone, Copy)]
 struct Asked {
     bad: bool,
     cell: u16,

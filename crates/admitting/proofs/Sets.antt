@@ -3,17 +3,18 @@
 --     total-step      one flow added
 --     total-few       a number below 2 ^ n has only the first n flows
 -- Assumes nothing.
-use mathlib.Core.Path.{◌≡◌, refl, sym, ap, ◌∙◌}
-use Prim.Native.Nat.{ℕ, suc, ◌+◌, ◌-◌, ◌*◌, ◌/◌, ◌%◌, ◌^◌, ◌≤◌, ◌<◌}
+use mathlib.Core.Path.{◌≡◌, refl, sym, ap, ap₂, ◌∙◌}
+use Prim.Native.Nat.{ℕ, suc, ◌+◌, ◌-◌, ◌*◌, ◌/◌, ◌%◌, ◌^◌, ◌≤◌, ◌<◌, zero-le}
+use mathlib.Core.Bool.{Bool, true, false}
 use native.Mathlib.Omega.{arith}
-use native.Mathlib.Nat.{zero-mod, mul-add-div_right, mul_assoc, add-mod_right}
+use native.Mathlib.Nat.{zero-mod, mul-add-div_right, mul_assoc, add-mod_right, le_refl}
 use lib.Bits.{block_odd}
 use lib.Pow.{pow_pos, pow-add, shr-shr, split, high, mod-mod-pow, pow-lt}
 use lib.Dec.{eqb}
 use Rattle.laws.specs.Bits.{bit_at}
 use Rattle.laws.specs.Choice.{pick}
 use Rattle.laws.specs.Sum.{sum}
-use Rattle.laws.proofs.Sums.{sum-eq, sum-none, sum-split}
+use Rattle.laws.proofs.Sums.{sum-le, sum-eq, sum-none, sum-split}
 use Rattle.laws.proofs.Bits.{none_in}
 use Rattle.laws.proofs.Choice.{pick_same}
 use Rattle.admitting.specs.Best.{total}
@@ -88,7 +89,8 @@ one-flow f k =
     let e : k + 1 ≡ suc k = omega arith in
     let q : 1 * 2 ^ k + 0 ≡ 2 ^ k = omega arith in
     let z : k + 0 ≡ k = omega arith in
-    let t : total f (suc k) (2 ^ k) ≡ total f k 0 + total (λ j. f (k + j)) 1 1 = rw (e, q) at (total-split f k 1 1 0 (pow_pos k)) in
+    let t : total f (suc k) (2 ^ k) ≡ total f k 0 + total (λ j. f (k + j)) 1 1 =
+    sym (ap₂ (total f) e q) ∙ total-split f k 1 1 0 (pow_pos k) in
     omega (arith, total-none f k, ap f z)
 
 pub total-step : (f : ℕ → ℕ) (n k x : ℕ) → k < n → x % 2 ^ suc k ≡ 0 → total f n (x + 2 ^ k) ≡ total f n x + f k
@@ -106,3 +108,10 @@ total-few f n m x l h =
     let q : 0 * 2 ^ n + x ≡ x = omega arith in
     let t : total f m x ≡ total f n x + total (λ j. f (n + j)) (m - n) 0 = rw (e, q) at (total-split f n (m - n) 0 x h) in
     omega (arith, total-none (λ j. f (n + j)) (m - n))
+
+gate-le : (b : Bool) (v : ℕ) → pick b v 0 ≤ v
+gate-le true v = le_refl v
+gate-le false v = zero-le
+
+pub total-most : (f : ℕ → ℕ) (n x : ℕ) → total f n x ≤ sum f n
+total-most f n x = sum-le (λ k. pick (bit_at x k) (f k) 0) f n (λ k _. gate-le (bit_at x k) (f k))

@@ -1,6 +1,6 @@
 -- The recurrence of 000, (18) to (21), which is not best in general: of the sets with one reward it keeps a single one, and a later flow may go with another.
 -- Nothing but the desk's example asks for it. A set is a number, and the empty set, whose size is infinite there, is 0.
-use Rattle.std.specs.Prelude.{ℕ, zero, suc, ◌+◌, ◌-◌, ◌^◌, Bool, not, ◌&&◌, ◌||◌, ltb, leb, eqb}
+use Rattle.std.specs.Prelude.{ℕ, zero, suc, ◌+◌, ◌-◌, ◌^◌, not, ◌&&◌, ◌||◌, ltb, leb, eqb}
 use Rattle.laws.specs.Choice.{pick}
 use Rattle.laws.specs.Sum.{sum}
 use Rattle.theory.specs.Net.{Net, demand, room}

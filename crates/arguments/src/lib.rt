@@ -1,5 +1,9 @@
 // The arguments that the script `duggfrask` gives a program: 1 is the command, 2 and 3 are the names of its inputs, and its numbers follow, and a list.
-ghost use Rattle.std.specs.Prelude.{◌≤◌};
+#![tactic(auto)]
+
+ghost use Rattle.std.specs.Prelude.{◌≤◌, length};
+
+use std::env::{Env, FillError};
 
 // The arguments that are the names of the inputs, and the first that is a number.
 pub const FIRST_NAME: usize = 2;
@@ -14,10 +18,31 @@ pub const THIRD_NAME: usize = 4;
 // The most bytes of an argument that is a command or a number.
 const WORD: usize = 64;
 
+// Puts argument i at the start of a buffer and says how many bytes it has: 0 where there is none, or where it does not fit.
+pub fn put(rt: &impl Env, i: usize, buffer: &mut [u8]) -> usize
+    ensures { result ≤ length buffer.new }
+{
+    match rt.arg(i, buffer) {
+        Ok(n) => n,
+        Err(_) => 0,
+    }
+}
+
+// How many arguments there are, with the program's own name, which is argument 0.
+pub fn count(rt: &impl Env) -> usize {
+    let mut letter = [0u8; 1];
+    for i in 0..usize::MAX {
+        if let Err(FillError::NotPresent) = rt.arg(i, &mut letter) {
+            return i;
+        }
+    }
+    usize::MAX
+}
+
 // Whether argument 1 is this name, all of it.
-pub fn is(name: &[u8]) -> bool {
+pub fn is(rt: &impl Env, name: &[u8]) -> bool {
     let mut word = [0u8; WORD];
-    let n = os::arg(1, &mut word);
+    let n = put(rt, 1, &mut word);
     if n != name.len() {
         return false;
     }
@@ -25,9 +50,9 @@ pub fn is(name: &[u8]) -> bool {
 }
 
 // Argument i as a number; 0 where it is none up to 65,535. No call takes 0 for slots, channels, a rule, a burst, a period or repeats.
-pub fn number(i: usize) -> u16 {
+pub fn number(rt: &impl Env, i: usize) -> u16 {
     let mut word = [0u8; WORD];
-    let n = os::arg(i, &mut word);
+    let n = put(rt, i, &mut word);
     let read = lines::read_number(&word, 0, 65535);
     let value = read.value;
     if read.next != n {
@@ -67,9 +92,9 @@ fn digit(byte: u8) -> u64
 }
 
 // The tries of a search, argument 4. The script gives digits alone, and after them the word has zeros, which are none.
-pub fn tries() -> u64 {
+pub fn tries(rt: &impl Env) -> u64 {
     let mut word = [0u8; WORD];
-    os::arg(NUMBERS, &mut word);
+    put(rt, NUMBERS, &mut word);
     let mut value: u64 = 0;
     for i in 0..WORD {
         let next = digit(word[i]);

@@ -1,7 +1,8 @@
 // The desk's audit: a line for each site file that is named among the arguments, with what is said of the plan file beside it; the same as a line of a sheet,
 // where one is asked for; and the lines that count. What is said is made by proved functions over slices; here files are read, and it is written.
+#![tactic(auto)]
+
 ghost use Rattle.std.specs.Prelude.{◌≤◌, length};
-ghost use Rattle.io.specs.Counts.{IsPrefixLen};
 
 use arguments::{is, number, tries};
 use auditing::{Extent, Form};
@@ -12,20 +13,24 @@ use reply::no;
 use say_csv::PlanTold;
 use say_tally::PlanSaid;
 use site::Site;
+use std::fs::File;
+use std::io::ErrorKind;
 
 // After the tries, 1 where a sheet is asked for; and then the first name.
 const ASKED: usize = 5;
 
 const NAMES: usize = 6;
 
-// The descriptor of the sheet's lines.
-const SHEET_RESULT: i32 = 7;
+// A path is text. What a file is called whose name is none, and the plan beside it: the script gives it alone, and a folder with links to the two.
+const SITE_LINK: &str = "/dev/fd/9/site";
+
+const PLAN_LINK: &str = "/dev/fd/9/plan";
 
 // Where the sheet's line begins in the buffer; the line for people is before it. Where nothing is after this place, no sheet is asked for.
 const SHEET: usize = 32768;
 
 // The bytes of a file that was read; or that it could not be, and whether there is none.
-#[derive(Drop)]
+#[derive(Clone, Copy)]
 struct Bytes {
     size: usize,
     read: bool,
@@ -33,28 +38,20 @@ struct Bytes {
 }
 
 // Where the next byte of the line goes, and that of the sheet's line.
-#[derive(Drop)]
+#[derive(Clone, Copy)]
 struct Places {
     next: usize,
     to: usize,
 }
 
-// A number of bytes, of which a buffer has at most 65,536.
-fn few(n: usize) -> usize
-    ensures { result ≤ 65536 }
-{
-    if 65536 < n {
-        return 65536;
-    }
-    n
-}
-
 // As much of a buffer as there is.
 fn as_many(n: usize, buffer: &[u8]) -> usize
-    ensures { IsPrefixLen result buffer.now }
+    ensures { result ≤ length buffer.now }
 {
-    let most = few(n);
-    io::count(most as isize, buffer)
+    if buffer.len() < n {
+        return buffer.len();
+    }
+    n
 }
 
 // Where the next part of a line goes: a name has at most 4,096 bytes, and what is said of a site 3,900.
@@ -77,22 +74,27 @@ fn sheet_place(to: usize) -> usize
     to
 }
 
-// Reads a file, by its name.
-fn read_file(name: &[u8], buffer: &mut [u8]) -> Bytes {
-    let fd = os::open_read(name);
-    if fd < 0 {
-        return Bytes {
+// Reads a file, by its path.
+fn read_path(rt: &HostRuntime, path: &str, buffer: &mut [u8]) -> Bytes {
+    match File::open(rt, path) {
+        Ok(mut file) => Bytes {
+            size: reply::take(&mut file, buffer).size,
+            read: true,
+            absent: false,
+        },
+        Err(e) => Bytes {
             size: 0,
             read: false,
-            absent: os::errno() == libc::ENOENT,
-        };
+            absent: e.kind() == ErrorKind::NotFound,
+        },
     }
-    let size = io::read_full(fd, buffer);
-    libc::close(fd);
-    Bytes {
-        size,
-        read: true,
-        absent: false,
+}
+
+// Reads a file, by its name, or by a link where that is no text.
+fn read_file(rt: &HostRuntime, name: &[u8], link: &str, buffer: &mut [u8]) -> Bytes {
+    match str::from_utf8(name) {
+        Ok(path) => read_path(rt, path, buffer),
+        Err(_) => read_path(rt, link, buffer),
     }
 }
 
@@ -124,40 +126,48 @@ fn make_plan_name(name: &mut [u8], n: usize) {
 }
 
 // The sheet's line, where there is one; whether it was written.
-fn put_sheet(text: &[u8], to: usize) -> bool {
+fn put_sheet(rt: &HostRuntime, text: &[u8], to: usize) -> bool {
     if to <= SHEET {
         return true;
     }
     if text.len() < to {
         return false;
     }
-    io::write_all(SHEET_RESULT, &text[SHEET..to])
+    reply::third_result(rt, &text[SHEET..to], to - SHEET)
 }
 
 // A line, that of the sheet, and the mark in the tally; whether all were written.
-fn put_line(text: &[u8], end: usize, to: usize, mark: u8) -> bool {
-    if !reply::result(text, end) {
+fn put_line(rt: &HostRuntime, text: &[u8], end: usize, to: usize, mark: u8) -> bool {
+    if !reply::result(rt, text, end) {
         return false;
     }
-    if !put_sheet(text, to) {
+    if !put_sheet(rt, text, to) {
         return false;
     }
-    reply::second_result(&[mark], 1)
+    reply::second_result(rt, &[mark], 1)
 }
 
 // A line that ends with what is said of a plan: the sheet's line ends so too.
-fn put_planned(text: &mut [u8], end: usize, to: usize, plan: PlanTold, mark: u8) -> bool
+fn put_planned(
+    rt: &HostRuntime,
+    text: &mut [u8],
+    end: usize,
+    to: usize,
+    plan: PlanTold,
+    mark: u8,
+) -> bool
     requires { 65536 ≤ length text.old }
 {
     if to <= SHEET {
-        return put_line(text, end, to, mark);
+        return put_line(rt, text, end, to, mark);
     }
     let last = say_csv::put_plan_fields(text, sheet_place(to), plan);
-    put_line(text, end, last, mark)
+    put_line(rt, text, end, last, mark)
 }
 
 // The plan file beside a site.
 fn audit_plan(
+    rt: &HostRuntime,
     site: Site,
     found: FindAnswer,
     second: &[u8],
@@ -174,7 +184,7 @@ fn audit_plan(
     let ReadAnswer::Done = answer else {
         let end = say_audit::put_plan_refused(text, at, answer);
         let mark = say_tally::mark_of(found, PlanSaid::Refused);
-        return put_planned(text, end, to, PlanTold::Refused(answer), mark);
+        return put_planned(rt, text, end, to, PlanTold::Refused(answer), mark);
     };
     if !same_size(site, plan) {
         let end = say_audit::put_other_size(
@@ -185,7 +195,7 @@ fn audit_plan(
             plan.channels as usize,
         );
         let mark = say_tally::mark_of(found, PlanSaid::Refused);
-        return put_planned(text, end, to, PlanTold::OtherSize, mark);
+        return put_planned(rt, text, end, to, PlanTold::OtherSize, mark);
     }
     let verdict = checker::check(site, old);
     let unseen = oneway::unseen(site, old);
@@ -194,6 +204,7 @@ fn audit_plan(
     let said = say_tally::verdict_said(verdict, unseen);
     let mark = say_tally::mark_of(found, said);
     put_planned(
+        rt,
         text,
         end,
         to,
@@ -204,6 +215,7 @@ fn audit_plan(
 
 // The plan file beside a site, as much of it as was read.
 fn audit_read(
+    rt: &HostRuntime,
     site: Site,
     found: FindAnswer,
     size: usize,
@@ -216,21 +228,28 @@ fn audit_read(
     requires { 65536 ≤ length text.old }
 {
     let m = as_many(size, second);
-    audit_plan(site, found, &second[..m], place(at), to, old, text)
+    audit_plan(rt, site, found, &second[..m], place(at), to, old, text)
 }
 
 // A site with no plan file beside it, or with one that can't be read.
-fn audit_alone(found: FindAnswer, absent: bool, at: usize, to: usize, text: &mut [u8]) -> bool
+fn audit_alone(
+    rt: &HostRuntime,
+    found: FindAnswer,
+    absent: bool,
+    at: usize,
+    to: usize,
+    text: &mut [u8],
+) -> bool
     requires { 65536 ≤ length text.old }
 {
     if absent {
         let end = say_audit::put_line_end(text, place(at));
         let mark = say_tally::mark_of(found, PlanSaid::Absent);
-        return put_planned(text, end, to, PlanTold::Absent, mark);
+        return put_planned(rt, text, end, to, PlanTold::Absent, mark);
     }
     let end = say_audit::put_unread_plan(text, place(at));
     let mark = say_tally::mark_of(found, PlanSaid::Refused);
-    put_planned(text, end, to, PlanTold::Unread, mark)
+    put_planned(rt, text, end, to, PlanTold::Unread, mark)
 }
 
 // What the sheet says of a site before its plan, where it is asked for; the place after it.
@@ -265,6 +284,7 @@ fn put_site(site: Site, found: FindAnswer, at: usize, to: usize, text: &mut [u8]
 
 // A site that was read: its line, and the plan, where there is one.
 fn audit_site(
+    rt: &HostRuntime,
     site: Site,
     found: FindAnswer,
     name: &[u8],
@@ -279,17 +299,20 @@ fn audit_site(
     let next = places.next;
     let to = places.to;
     let n = as_many(n, name);
-    let mut second = io::large_buffer();
-    let file = read_file(&name[..n], &mut second);
+    let mut second = [0u8; 65536];
+    let file = read_file(rt, &name[..n], PLAN_LINK, &mut second);
     if !file.read {
-        return audit_alone(found, file.absent, next, to, text);
+        return audit_alone(rt, found, file.absent, next, to, text);
     }
-    let mut old = io::large_buffer();
-    audit_read(site, found, file.size, &second, next, to, &mut old, text)
+    let mut old = [0u8; 65536];
+    audit_read(
+        rt, site, found, file.size, &second, next, to, &mut old, text,
+    )
 }
 
 // A site, by the name of its file: what is found for it, and its line.
 fn audit_found(
+    rt: &HostRuntime,
     site: Site,
     tries: u64,
     name: &mut [u8],
@@ -300,41 +323,42 @@ fn audit_found(
 ) -> bool
     requires { 65536 ≤ length text.old }
 {
-    let mut table = io::large_buffer();
+    let mut table = [0u8; 65536];
     let found = finder::find(site, tries, &mut table);
     if !has_plan_name(name, n) {
         let places = put_site(site, found, at, to, text);
-        return audit_alone(found, true, places.next, places.to, text);
+        return audit_alone(rt, found, true, places.next, places.to, text);
     }
     make_plan_name(name, n);
-    audit_site(site, found, name, n, at, to, text)
+    audit_site(rt, site, found, name, n, at, to, text)
 }
 
 // The line of a site file that is refused: the sheet's line ends so too.
-fn put_refusal(text: &mut [u8], end: usize, to: usize, answer: ReadAnswer) -> bool
+fn put_refusal(rt: &HostRuntime, text: &mut [u8], end: usize, to: usize, answer: ReadAnswer) -> bool
     requires { 65536 ≤ length text.old }
 {
     if to <= SHEET {
-        return put_line(text, end, to, say_tally::refused_mark());
+        return put_line(rt, text, end, to, say_tally::refused_mark());
     }
     let last = say_csv::put_refused_fields(text, sheet_place(to), answer);
-    put_line(text, end, last, say_tally::refused_mark())
+    put_line(rt, text, end, last, say_tally::refused_mark())
 }
 
 // The line of a site file that can't be read.
-fn put_unread(text: &mut [u8], at: usize, to: usize) -> bool
+fn put_unread(rt: &HostRuntime, text: &mut [u8], at: usize, to: usize) -> bool
     requires { 65536 ≤ length text.old }
 {
     let end = say_audit::put_unread(text, place(at));
     if to <= SHEET {
-        return put_line(text, end, to, say_tally::refused_mark());
+        return put_line(rt, text, end, to, say_tally::refused_mark());
     }
     let last = say_csv::put_unread_fields(text, sheet_place(to));
-    put_line(text, end, last, say_tally::refused_mark())
+    put_line(rt, text, end, last, say_tally::refused_mark())
 }
 
 // A site file as it was read: refused, or its line.
 fn audit_bytes(
+    rt: &HostRuntime,
     bytes: &[u8],
     size: usize,
     tries: u64,
@@ -352,103 +376,111 @@ fn audit_bytes(
     let site = read.site;
     let ReadAnswer::Done = answer else {
         let end = say_audit::put_site_refused(text, place(at), answer);
-        return put_refusal(text, end, to, answer);
+        return put_refusal(rt, text, end, to, answer);
     };
-    audit_found(site, tries, name, n, at, to, text)
+    audit_found(rt, site, tries, name, n, at, to, text)
 }
 
 // A file by its name: its line, to the end. Whether it was written.
-fn audit_named(name: &mut [u8], n: usize, tries: u64, at: usize, to: usize, text: &mut [u8]) -> bool
+fn audit_named(
+    rt: &HostRuntime,
+    name: &mut [u8],
+    n: usize,
+    tries: u64,
+    at: usize,
+    to: usize,
+    text: &mut [u8],
+) -> bool
     requires { 65536 ≤ length text.old }
 {
     let m = as_many(n, name);
-    let mut input = io::large_buffer();
-    let file = read_file(&name[..m], &mut input);
+    let mut input = [0u8; 65536];
+    let file = read_file(rt, &name[..m], SITE_LINK, &mut input);
     if !file.read {
-        return put_unread(text, at, to);
+        return put_unread(rt, text, at, to);
     }
-    audit_bytes(&input, file.size, tries, name, n, at, to, text)
+    audit_bytes(rt, &input, file.size, tries, name, n, at, to, text)
 }
 
 // The file that argument i names, without a sheet.
-fn audit_file(i: usize, tries: u64) -> bool {
-    let mut name = io::buffer();
-    let n = os::arg(i, &mut name);
-    let mut text = io::large_buffer();
+fn audit_file(rt: &HostRuntime, i: usize, tries: u64) -> bool {
+    let mut name = [0u8; 4096];
+    let n = arguments::put(rt, i, &mut name);
+    let mut text = [0u8; 65536];
     let at = say_audit::put_shown(&mut text, 0, &name[..n]);
-    audit_named(&mut name, n, tries, at, SHEET, &mut text)
+    audit_named(rt, &mut name, n, tries, at, SHEET, &mut text)
 }
 
 // The file that argument i names, with a line of the sheet.
-fn audit_listed(i: usize, tries: u64) -> bool {
-    let mut name = io::buffer();
-    let n = os::arg(i, &mut name);
-    let mut text = io::large_buffer();
+fn audit_listed(rt: &HostRuntime, i: usize, tries: u64) -> bool {
+    let mut name = [0u8; 4096];
+    let n = arguments::put(rt, i, &mut name);
+    let mut text = [0u8; 65536];
     let at = say_audit::put_shown(&mut text, 0, &name[..n]);
     let to = quoting::put_name(&mut text, SHEET, &name[..n]);
-    audit_named(&mut name, n, tries, at, to, &mut text)
+    audit_named(rt, &mut name, n, tries, at, to, &mut text)
 }
 
 // The file that argument i names; with a line of the sheet where it is asked for.
-fn audit_one(i: usize, tries: u64, asked: u16) -> bool {
+fn audit_one(rt: &HostRuntime, i: usize, tries: u64, asked: u16) -> bool {
     if asked == 1 {
-        return audit_listed(i, tries);
+        return audit_listed(rt, i, tries);
     }
-    audit_file(i, tries)
+    audit_file(rt, i, tries)
 }
 
 // Every file that is named. Where a line can't be written it stops: the tally is short then, and the script says so.
-fn audit(tries: u64, asked: u16) {
-    let end = os::arg_count();
+fn audit(rt: &HostRuntime, tries: u64, asked: u16) {
+    let end = arguments::count(rt);
     for i in NAMES..end {
-        if !audit_one(i, tries, asked) {
+        if !audit_one(rt, i, tries, asked) {
             return;
         }
     }
 }
 
 // The last lines, by the tally of all files.
-fn put_counts(tally: &[u8], text: &mut [u8])
+fn put_counts(rt: &HostRuntime, tally: &[u8], text: &mut [u8])
     requires in_bounds { 65536 ≤ length text.old }
     requires tally_len_bound { length tally.now ≤ 65536 }
 {
     let end = say_tally::put_totals(text, 0, tally);
-    if !reply::result(text, end) {
-        reply::unwritten();
+    if !reply::result(rt, text, end) {
+        reply::unwritten(rt);
         return;
     }
     if say_tally::all_well(tally) {
-        reply::fine();
+        reply::fine(rt);
         return;
     }
-    no(text, 0);
+    no(rt, text, 0);
 }
 
 // The first line of the sheet.
-fn put_heading(text: &mut [u8])
+fn put_heading(rt: &HostRuntime, text: &mut [u8])
     requires { 65536 ≤ length text.old }
 {
     let end = say_csv::put_first(text, 0);
-    reply::yes(text, end);
+    reply::yes(rt, text, end);
 }
 
 // Does what the command says, if it is one of an audit; whether it is.
-pub fn audit_commands(input: &[u8], text: &mut [u8]) -> bool
+pub fn audit_commands(rt: &HostRuntime, input: &[u8], text: &mut [u8]) -> bool
     requires in_bounds { 65536 ≤ length text.old }
     requires input_len_bound { length input.now ≤ 65536 }
 {
-    if is(b"audit") {
-        let limit = tries();
-        let asked = number(ASKED);
-        audit(limit, asked);
+    if is(rt, b"audit") {
+        let limit = tries(rt);
+        let asked = number(rt, ASKED);
+        audit(rt, limit, asked);
         return true;
     }
-    if is(b"heading") {
-        put_heading(text);
+    if is(rt, b"heading") {
+        put_heading(rt, text);
         return true;
     }
-    if is(b"counts") {
-        put_counts(input, text);
+    if is(rt, b"counts") {
+        put_counts(rt, input, text);
         return true;
     }
     false

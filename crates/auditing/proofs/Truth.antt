@@ -72,7 +72,8 @@ is-numbered s renumber.Done e fine out =
 is-numbered s renumber.NoNumbering e fine out = λ f. (out, (none_exactly s fine).0 e)
 is-numbered s (renumber.Refused f) e fine out = absurd (never-refused s f fine e)
 
-is-classed : (s : Site) (a : ClassAnswer) → class_answer s ≡ a → (Chained (net_of s) (counted s) → ⊥) → FormIs s (by_class (by_numbering (renumber_of s).answer) a)
+is-classed : (s : Site) (a : ClassAnswer) → class_answer s ≡ a → (Chained (net_of s) (counted s) → ⊥) → FormIs s
+    (by_class (by_numbering (renumber_of s).answer) a)
 is-classed s class.InClass e un = let c = (class-means s).0 e in (c.0, un, c.1)
 is-classed s (class.Outside a b i) e un =
     let fine = (outside-means s a b i e).0 in

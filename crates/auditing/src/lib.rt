@@ -1,4 +1,6 @@
 // What an audit says of a site in a word or a number: chained, nested, renumbered or neither; and how many channel-slots it takes.
+#![tactic(auto)]
+
 ghost use Rattle.std.specs.Prelude.{◌≡◌};
 ghost use Rattle.auditing.specs.Form.{by_numbering, by_class, by_chain, form_of};
 ghost use Rattle.auditing.specs.Takes.{open_here, load_of_clash, slots_of_least, has_plan, enough_by, by_form, takes_of};
@@ -11,7 +13,7 @@ use positions::open_count;
 use site::{Fault, Site};
 
 // The first that holds: chained; nested; a numbering of all cells makes it nested; none of these.
-#[derive(Drop)]
+#[derive(Clone, Copy)]
 pub enum Form {
     Chained,
     Nested,
@@ -20,7 +22,7 @@ pub enum Form {
 }
 
 // The channel-slots that a site takes: with fewer than it needs no plan exists, and with enough one does.
-#[derive(Drop)]
+#[derive(Clone, Copy)]
 pub struct Extent {
     pub needs: usize,
     pub enough: usize,

@@ -1,4 +1,6 @@
 // Kind 6 of a site file: the blocked positions, a bit for each position, read and written.
+#![tactic(auto)]
+
 ghost use Rattle.std.specs.Prelude.{◌≡◌, ◌+◌, ◌*◌, ◌≤◌, ◌<◌, length, get_or};
 ghost use Rattle.std.proofs.lemmas.List.Edits.{sets};
 ghost use Rattle.laws.specs.Part.{list_of};
@@ -10,7 +12,7 @@ use positions::none_blocked;
 use records::{Length, Opened, ReadAnswer, left_over, open, opened_answer, put_start};
 
 // The blocked positions of a kind 6 record; or none beside the refusal.
-#[derive(Drop)]
+#[derive(Clone, Copy)]
 pub struct BlocksRead {
     pub blocked: [u64; 32],
     pub answer: ReadAnswer,

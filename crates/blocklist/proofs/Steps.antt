@@ -123,6 +123,7 @@ pub read-unfit : (s : List ℕ) (slots channels : ℕ) → sizes_fit slots chann
 unfolding read_list
 read-unfit s slots channels h = rw h
 
-pub read-fit : (s : List ℕ) (slots channels : ℕ) → sizes_fit slots channels ≡ true → list_from (length s) s slots channels empty_set 0 ≡ read_list s slots channels
+pub read-fit : (s : List ℕ) (slots channels : ℕ) → sizes_fit slots channels ≡ true → list_from (length s) s slots channels empty_set 0
+    ≡ read_list s slots channels
 unfolding read_list
 read-fit s slots channels h = rw h

@@ -1,5 +1,7 @@
 // The list of blocked positions as it is typed: `*.11-14,3.1`. Items with commas between, each a slot, a dot and a channel;
 // each of the two a number, a range or `*`.
+#![tactic(auto)]
+
 ghost use Rattle.std.specs.Prelude.{◌≡◌, ◌||◌, ◌+◌, ◌*◌, ◌≤◌, ◌<◌, length};
 ghost use Rattle.laws.specs.Bits.{bit_at, word_of};
 ghost use Rattle.positions.specs.Blocked.{empty_set};
@@ -19,21 +21,21 @@ const DASH: u8 = 45;
 const DOT: u8 = 46;
 
 // What the reader answers: the list is read, or the place of the first item that is not one.
-#[derive(Drop)]
+#[derive(Clone, Copy)]
 pub enum ListAnswer {
     Fine,
     Bad(usize),
 }
 
 // The blocked positions; none beside a refusal.
-#[derive(Drop)]
+#[derive(Clone, Copy)]
 pub struct ListRead {
     pub blocked: [u64; 32],
     pub answer: ListAnswer,
 }
 
 // The numbers of one side of an item, and the place after it; NOWHERE where it is not of the format.
-#[derive(Drop)]
+#[derive(Clone, Copy)]
 struct Span {
     pub from: usize,
     pub to: usize,
@@ -41,7 +43,7 @@ struct Span {
 }
 
 // The two sides of an item.
-#[derive(Drop)]
+#[derive(Clone, Copy)]
 struct Block {
     pub slots: Span,
     pub channels: Span,

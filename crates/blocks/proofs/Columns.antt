@@ -22,7 +22,8 @@ use Rattle.blocks.specs.Order.{low_order, high_order, bit_of_two, column_at, wor
 -- ---- a column
 
 pub column-is : (l : List ℕ) (at : ℕ)
-    → pick (sends (get_or l at 0)) 1 0 + pick (sends (get_or l (at + 16) 0)) 2 0 + pick (sends (get_or l (at + 32) 0)) 4 0 + pick (sends (get_or l (at + 48) 0)) 8 0
+    → pick (sends (get_or l at 0)) 1 0 + pick (sends (get_or l (at + 16) 0)) 2 0 + pick (sends (get_or l (at + 32) 0)) 4 0 + pick
+    (sends (get_or l (at + 48) 0)) 8 0
     + pick (sends (get_or l (at + 64) 0)) 16 0 + pick (sends (get_or l (at + 80) 0)) 32 0 + pick (sends (get_or l (at + 96) 0)) 64 0
     + pick (sends (get_or l (at + 112) 0)) 128 0 ≡ column_at l at
 unfolding word_of sum
@@ -48,7 +49,8 @@ run-both p a c (suc d) =
     ∙ ap (λ (x : ℕ). 2 ^ c * x) (sym (word-suc (λ k. p (a + c + k)) d)))
 
 -- eight bytes that are eight parts of a word, one after the other
-pub bytes_word : (p : ℕ → Bool) (l : List ℕ) (k : ℕ) → ((j : ℕ) → j < 8 → get_or l (k + j) 0 ≡ word_of (λ b. p (8 * j + b)) 8) → word_from_bytes l k ≡ word_of p 64
+pub bytes_word : (p : ℕ → Bool) (l : List ℕ) (k : ℕ) → ((j : ℕ) → j < 8 → get_or l (k + j) 0 ≡ word_of (λ b. p (8 * j + b)) 8) → word_from_bytes l k
+    ≡ word_of p 64
 bytes_word p l k at =
     whole (rw (add-zero k) at (at 0 (omega arith))) (at 1 (omega arith)) (at 2 (omega arith)) (at 3 (omega arith))
     (at 4 (omega arith)) (at 5 (omega arith)) (at 6 (omega arith)) (at 7 (omega arith))

@@ -1,5 +1,7 @@
 // A block of a table: 128 neighbouring bytes as two words of 64 bits, a bit for each. Position 16 k + b of a block, for k below 8 and b below 16, is bit
 // 8 (b % 8) + k of word b / 8. In this order 16 neighbouring bytes are one bit of 16 neighbouring bytes, so the compiler makes vector code with no shuffle.
+#![tactic(auto)]
+
 ghost use Rattle.std.specs.Prelude.{◌≡◌, ◌+◌, ◌*◌, ◌≤◌, ◌<◌, length};
 ghost use Rattle.std.proofs.lemmas.List.Edits.{sets};
 ghost use Rattle.laws.specs.Bits.{bit_at, word_of};
@@ -10,7 +12,7 @@ ghost use Rattle.theory.specs.Greedy.{sends};
 ghost use Rattle.blocks.specs.Order.{low_order, high_order, low_sends, high_sends, bit_of_two, column_at, word_from_bytes, placed, meeting};
 
 // A block's two words.
-#[derive(Drop)]
+#[derive(Clone, Copy)]
 pub struct Block {
     pub low: u64,
     pub high: u64,

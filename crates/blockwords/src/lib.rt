@@ -1,5 +1,7 @@
 // The two words of a block of 128 positions, put in the order of the positions. In a block's order, position 16 k + b is bit 8 (b % 8) + k of word b / 8.
 // Each word is turned over as a square of 8 rows of 8 bits; then the bytes of both are laid by turns, by halves first.
+#![tactic(auto)]
+
 ghost use Rattle.std.specs.Prelude.{◌≡◌, ◌+◌, ◌-◌, ◌*◌, ◌/◌, ◌%◌, ◌<◌, ltb};
 ghost use Rattle.laws.specs.Bits.{bit_at, word_of};
 ghost use Rattle.laws.specs.Choice.{pick};

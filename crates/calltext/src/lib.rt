@@ -1,4 +1,6 @@
 // An answer of any call in words, laid into a lent output: the text, or the bytes that it needs.
+#![tactic(auto)]
+
 ghost use Rattle.std.specs.Prelude.{◌≡◌};
 ghost use Rattle.records.specs.Write.{written, laid_over};
 ghost use Rattle.say_answers.specs.Said.{call_said};

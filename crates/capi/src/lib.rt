@@ -1,4 +1,7 @@
-// The C interface: each call of the product, with its answer as document 01's number and values. The header is include/duggfrask.h.
+// The C interface: each call of the product, with its answer as document 01's number and values. The header is include/duggfrask.h; `capi_c` gives the calls
+// out.
+#![tactic(auto)]
+
 ghost use Rattle.std.specs.Prelude.{◌≡◌, get_or};
 ghost use Rattle.site.specs.Record.{fault_of};
 ghost use Rattle.site.specs.Reach.{clash_answer};
@@ -58,7 +61,7 @@ use toldfiles::{Blocked, EditedSite, PlanReadC};
 // The version of the header, include/duggfrask.h: tools/version holds it to that.
 const VERSION: usize = 4;
 
-// The exports. Each makes its call and converts the answer; a cell is named by a number of two bytes.
+// The calls. Each makes its call and converts the answer; a cell is named by a number of two bytes.
 #[unsafe(no_mangle)]
 pub extern "C" fn dugg_fault(site: Site) -> Answer
     ensures { result ≡ told (fault_given (fault_of site)) }

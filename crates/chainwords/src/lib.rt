@@ -1,5 +1,7 @@
 // The chain rule and the class over words: the clash rows, and the word of the cells that count.
 // Each search goes from one cell of a word to the next without a look at those between.
+#![tactic(auto)]
+
 ghost use Rattle.std.specs.Prelude.{◌≡◌, ◌≤◌, ◌<◌};
 ghost use Rattle.laws.specs.Bits.{bit_at, bit_in};
 ghost use Rattle.theory.specs.Verdict.{first_break};

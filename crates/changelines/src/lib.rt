@@ -1,4 +1,6 @@
 // Each change between two tables in English, a slot at a time, written as words or as the result.
+#![tactic(auto)]
+
 ghost use Rattle.std.specs.Prelude.{◌≡◌, true, ◌+◌, ◌≤◌, length};
 
 use site::Site;
@@ -14,15 +16,15 @@ fn holds(table: &[u8], at: usize, many: usize) -> bool
 }
 
 // A part of the result, or words; whether it was written.
-fn put_text(text: &[u8], end: usize, res: bool) -> bool {
+fn put_text(rt: &HostRuntime, text: &[u8], end: usize, res: bool) -> bool {
     if res {
-        return reply::result(text, end);
+        return reply::result(rt, text, end);
     }
-    reply::message(text, end)
+    reply::message(rt, text, end)
 }
 
 // Where the bytes of the next cell begin, and whether the text so far was written.
-#[derive(Drop)]
+#[derive(Clone, Copy)]
 struct Row {
     next: usize,
     written: bool,
@@ -31,6 +33,7 @@ struct Row {
 // The changes of a cell in English, a slot at a time, where its bytes begin at `from` in both tables. Where a table ended before, or the text can't be
 // written, it stops there.
 fn put_row(
+    rt: &HostRuntime,
     old: &[u8],
     new: &[u8],
     text: &mut [u8],
@@ -57,7 +60,7 @@ fn put_row(
             };
         }
         let end = say_changes::put_changes(text, 0, old, new, at, channels, cell, slot + 1);
-        if !put_text(text, end, res) {
+        if !put_text(rt, text, end, res) {
             return Row {
                 next: at,
                 written: false,
@@ -73,7 +76,14 @@ fn put_row(
 
 // Each change in English, cell by cell, as a part of the result or as words; whether all of them were written. A site that was read has at most 16 channels,
 // and both tables have its size.
-pub fn put_all_changes(old: &[u8], new: &[u8], text: &mut [u8], site: Site, res: bool) -> bool
+pub fn put_all_changes(
+    rt: &HostRuntime,
+    old: &[u8],
+    new: &[u8],
+    text: &mut [u8],
+    site: Site,
+    res: bool,
+) -> bool
     requires { 65536 ≤ length text.old }
 {
     let cells = site.cells as usize;
@@ -84,7 +94,7 @@ pub fn put_all_changes(old: &[u8], new: &[u8], text: &mut [u8], site: Site, res:
     }
     let mut at: usize = 0;
     for i in 0..cells {
-        let row = put_row(old, new, text, at, slots, channels, i + 1, res);
+        let row = put_row(rt, old, new, text, at, slots, channels, i + 1, res);
         if !row.written {
             return false;
         }

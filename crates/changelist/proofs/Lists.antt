@@ -139,7 +139,8 @@ module _ (w i j : ℕ) (stands old : List ℕ) where
       )
 
   -- a change is one of the n positions
-  pub change-inside : (n : ℕ) → j < w → RowWithin w i n stands old → WordInside (bit_at (get_or stands (i * w + j) 0)) (bit_at (get_or old (i * w + j) 0)) (64 * j) n
+  pub change-inside : (n : ℕ) → j < w → RowWithin w i n stands old → WordInside (bit_at (get_or stands (i * w + j) 0)) (bit_at (get_or old (i * w + j) 0))
+      (64 * j) n
   change-inside n l none b h e =
       ⊎_elim (λ (t : ltb (64 * j + b) n ≡ true). ltb-true (64 * j + b) n t)
       (λ (t : ltb (64 * j + b) n ≡ false).

@@ -131,8 +131,10 @@ module _ (is was n i from at : ℕ) (u l t x : List ℕ) (rest next : ℕ) (st :
         )
 
     pub word-goes : {t' x' : List ℕ}
-        → t' ≡ follow n (change_entry (bit_at is (count_trailing_zeros 64 rest)) (not (bit_at is (count_trailing_zeros 64 rest))) i (from + count_trailing_zeros 64 rest)) t
-        → x' ≡ sets x next (change_entry (bit_at is (count_trailing_zeros 64 rest)) (not (bit_at is (count_trailing_zeros 64 rest))) i (from + count_trailing_zeros 64 rest))
+        → t' ≡ follow n (change_entry (bit_at is (count_trailing_zeros 64 rest)) (not (bit_at is (count_trailing_zeros 64 rest))) i
+        (from + count_trailing_zeros 64 rest)) t
+        → x' ≡ sets x next (change_entry (bit_at is (count_trailing_zeros 64 rest)) (not (bit_at is (count_trailing_zeros 64 rest))) i
+        (from + count_trailing_zeros 64 rest))
         → Worded is was n i from at u l t' x' (bit_and rest (rest - 1)) (next + 4)
     word-goes {t'} {x'} et ex =
         let e = ap (λ s. change_entry (so b) s i (from + b)) (other (so b) (stood b) bit-differs) in

@@ -1,6 +1,8 @@
 // The changes of a mended table, by the sets that say who stands where and who stood: stored in the table, and listed, four numbers each.
 //
 // What it costs: a look at each word of 64 positions, and some steps for each change, which is the lowest bit that is left of those in which the words differ.
+#![tactic(auto)]
+
 ghost use Rattle.std.specs.Prelude.{◌≡◌, not, [], ◌∷◌, ◌+◌, ◌*◌, ◌≤◌, ◌<◌, length};
 ghost use Rattle.std.proofs.lemmas.List.Edits.{sets};
 ghost use Rattle.laws.specs.Bits.{bit_at};

@@ -88,7 +88,8 @@ module _ (cells n : ℕ) (t blocked : List ℕ) where
       ap (λ b. b && held_in cells n t (from + k)) (sym (ap (blocked_at blocked) e ∙ blocked-at blocked (from / 64) k (omega arith))) ∙ bar-test (from + k))
 
   -- two words have the bits of 128 positions
-  two-words : (from k : ℕ) → from % 64 ≡ 0 → k < 128 → bit_of_two (get_or blocked (from / 64) 0) (get_or blocked (from / 64 + 1) 0) k ≡ blocked_at blocked (from + k)
+  two-words : (from k : ℕ) → from % 64 ≡ 0 → k < 128 → bit_of_two (get_or blocked (from / 64) 0) (get_or blocked (from / 64 + 1) 0) k ≡ blocked_at blocked
+      (from + k)
   two-words from k z h =
       ⊎_elim
       (λ (c : ltb k 64 ≡ true).

@@ -6,6 +6,8 @@
 // every cell is joined to. Pairs of cells are looked at at one position, the one that the answer names. Nothing of the table is copied; the local room is two
 // words for each cell, or for each of 64 positions.
 // Where some of 128 positions are blocked, each row is read there once more; where none is, only their two words are looked at.
+#![tactic(auto)]
+
 ghost use Rattle.std.specs.Prelude.{◌≡◌, ◌&&◌, not, ◌+◌, ◌-◌, ◌*◌, ◌≤◌, ◌<◌, eqb, length};
 ghost use Rattle.laws.specs.Bits.{bit_at, bit_in, word_of};
 ghost use Rattle.laws.specs.Choice.{pick};
@@ -26,7 +28,7 @@ use site::{Fault, Site};
 
 // The answer to a check. Cells are numbered from 1, positions from 0.
 // Blocked: position, cell. Clash: position, first cell, second cell. Count: cell, its count.
-#[derive(Drop)]
+#[derive(Clone, Copy)]
 pub enum CheckAnswer {
     Valid,
     TableShort,

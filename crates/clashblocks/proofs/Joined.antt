@@ -122,7 +122,8 @@ module _ (cells n : ℕ) (rows t : List ℕ) (from : ℕ) where
             ∙ search-more (clashes_at problem (reserved n t) (from + k)) i cells in_cells;
       }
         where
-          either : (c k : ℕ) → cell_placed (set lows i x) (set highs i y) k c ≡ true → (i < c) ⊎ ((i ≡ c) ⊎ (c < i)) → (placed low high k || placed x y k) ≡ true
+          either : (c k : ℕ) → cell_placed (set lows i x) (set highs i y) k c ≡ true → (i < c) ⊎ ((i ≡ c) ⊎ (c < i)) → (placed low high k || placed x y k)
+              ≡ true
           either c k e (inl b) = ap (λ t. t || placed x y k) (done.has c k (sym (at_other c k (λ d. omega arith)) ∙ e))
           either c k e (inr (inl d)) =
               either_is (placed low high k) (placed x y k) (inr (sym (at_own k) ∙ ap (cell_placed (set lows i x) (set highs i y) k) d ∙ e))

@@ -1,5 +1,7 @@
 // The positions of a block at which cells clash, all 128 at once. Cells are joined from the highest down, a block of two words for each, and each is held
 // against the cells above it in its clash row; where it meets none of the cells joined before it, no row is looked at.
+#![tactic(auto)]
+
 ghost use Rattle.std.specs.Prelude.{◌≡◌, true, ◌&&◌, ℕ, ◌+◌, ◌*◌, ◌≤◌, ◌<◌, leb, length};
 ghost use Rattle.laws.specs.Bits.{bit_at, word_of};
 ghost use Rattle.laws.specs.Sum.{any};

@@ -1,5 +1,5 @@
 -- Clashes of small sites, counted. Assumes nothing.
-use mathlib.Core.List.{List, [], ◌∷◌}
+use mathlib.Core.List.{[], ◌∷◌}
 use mathlib.Core.Path.{◌≡◌, refl}
 use Prim.Native.Nat.{ℕ}
 use Rattle.laws.specs.Sum.{sum, any}

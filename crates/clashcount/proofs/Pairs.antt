@@ -1,7 +1,7 @@
 -- Every pair is counted once: the clash rows have each pair twice, once at either of its cells. And the rows' bits below their own cells are the
 -- pairs, since a clash goes both ways. Assumes nothing.
-use Prim.Native.Nat.{ℕ, zero, suc, ◌+◌, ◌*◌, ◌<◌}
-use mathlib.Core.Path.{◌≡◌, refl, sym, ap, ap₂, ◌∙◌}
+use Prim.Native.Nat.{ℕ, zero, suc, ◌*◌, ◌<◌}
+use mathlib.Core.Path.{◌≡◌, refl, ap, ◌∙◌}
 use mathlib.Core.Bool.{Bool, true, false, ◌&&◌}
 use native.Mathlib.Omega.{arith}
 use lib.Dec.{ltb}
@@ -11,7 +11,7 @@ use Rattle.laws.proofs.Sums.{sum-eq, sum-add}
 use Rattle.laws.proofs.Words.{word-bit}
 use Rattle.laws.proofs.Stores.{list_at}
 use Rattle.site.specs.declared.Site.{Site}
-use Rattle.site.specs.Reach.{clash_of, clash_within, clash_rows}
+use Rattle.site.specs.Reach.{clash_within, clash_rows}
 use Rattle.site.proofs.Reach.{clash-sym, clash-self}
 use Rattle.clashcount.specs.Count.{clash_count}
 

@@ -1,4 +1,6 @@
 // How many clashes a site has: pairs of its cells that clash, spare cells too.
+#![tactic(auto)]
+
 ghost use Rattle.std.specs.Prelude.{◌≡◌, ◌≤◌, ◌<◌};
 ghost use Rattle.laws.specs.Bits.{bit_at, bit_in};
 ghost use Rattle.laws.specs.Sum.{sum, count};

@@ -6,12 +6,13 @@ use mathlib.Core.Bool.{Bool, true, false, ◌&&◌, ◌||◌}
 use mathlib.Core.List.{List, [], ◌∷◌, ◌++◌, append_assoc}
 use native.Mathlib.Omega.{arith}
 use lib.Dec.{eqb}
-use borrow.Author.Tests.{eqb-true, eqb-false, ne_eqb}
+use borrow.Author.Tests.{eqb-true, eqb-false}
 use Rattle.laws.specs.Choice.{pick}
 use Rattle.laws.specs.Sum.{bit}
 use Rattle.cleaning.specs.declared.Standing.{Standing}
 use Rattle.cleaning.specs.declared.Step.{Step}
-use Rattle.cleaning.specs.Clean.{is_separator, separator_in, spoiled, on_blank, quoted, on_quote, is_reach, is_late, on_content, mend_of, on_separator, on_cr, fed}
+use Rattle.cleaning.specs.Clean.{is_separator, separator_in, spoiled, on_blank, quoted, on_quote, is_reach, is_late, on_content, mend_of, on_separator, on_cr}
+use Rattle.cleaning.specs.Clean.{fed}
 use Rattle.cleaning.specs.Clean.{on_lf, after_cr, on_field, step_of, byte_out, out_of, clean_from}
 use Rattle.cleaning.specs.Means.{line_ends}
 

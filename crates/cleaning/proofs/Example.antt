@@ -1,11 +1,10 @@
 -- Sheets cleaned, computed byte by byte. Assumes nothing.
 use Prim.Native.Nat.{ℕ}
-use mathlib.Core.List.{List, [], ◌∷◌, ◌++◌}
+use mathlib.Core.List.{List, [], ◌∷◌}
 use mathlib.Core.Path.{◌≡◌, refl}
-use lib.ListN.{drop}
 use Rattle.lines.specs.Match.{starts}
-use Rattle.cleaning.specs.declared.Tidied.{Tidied}
-use Rattle.cleaning.specs.Clean.{is_separator, separator_in, next_column, on_blank, on_quote, is_reach, is_late, on_content, mend_of, comma_change, on_separator}
+use Rattle.cleaning.specs.Clean.{is_separator, separator_in, next_column, on_blank, on_quote, is_reach, is_late, on_content, mend_of, comma_change}
+use Rattle.cleaning.specs.Clean.{on_separator}
 use Rattle.cleaning.specs.Clean.{on_cr, on_lf, after_cr, on_field, step_of, is_fresh, end_of, byte_out, out_of, clean_from, begins, cleaned}
 use Rattle.cleaning.specs.Clean.{makes, noted, line_after, changes_from, mark_change, changes_of}
 
@@ -24,7 +23,8 @@ good =
     50 ∷ 44 ∷ 55 ∷ 44 ∷ 49 ∷ 44 ∷ 48 ∷ 13 ∷ 10 ∷ []
 
 pub export-cleaned : cleaned exported ≡ good
-unfolding cleaned clean_from begins starts separator_in is_separator next_column on_blank on_quote is_reach is_late on_content mend_of comma_change on_separator on_cr on_lf
+unfolding cleaned clean_from begins starts separator_in is_separator next_column on_blank on_quote is_reach is_late on_content mend_of comma_change on_separator
+    on_cr on_lf
     after_cr on_field step_of is_fresh end_of byte_out out_of
 export-cleaned = refl
 
@@ -34,7 +34,8 @@ pub export-changes :
     ∷ changes_of exported 7 ∷ changes_of exported 8 ∷ []
     ≡ record { times = 1; line = 1 } ∷ record { times = 9; line = 1 } ∷ record { times = 2; line = 1 } ∷ record { times = 6; line = 1 }
     ∷ record { times = 1; line = 2 } ∷ record { times = 1; line = 2 } ∷ record { times = 2; line = 2 } ∷ record { times = 1; line = 3 } ∷ []
-unfolding cleaned clean_from begins starts separator_in is_separator next_column on_blank on_quote is_reach is_late on_content mend_of comma_change on_separator on_cr on_lf
+unfolding cleaned clean_from begins starts separator_in is_separator next_column on_blank on_quote is_reach is_late on_content mend_of comma_change on_separator
+    on_cr on_lf
     after_cr on_field step_of is_fresh end_of byte_out out_of makes noted line_after changes_from mark_change changes_of
 export-changes = refl
 
@@ -42,6 +43,7 @@ export-changes = refl
 pub spoiled-lines :
     cleaned (34 ∷ 49 ∷ 44 ∷ 50 ∷ 34 ∷ []) ∷ cleaned (49 ∷ 32 ∷ 50 ∷ []) ∷ cleaned (49 ∷ 59 ∷ 53 ∷ 44 ∷ 48 ∷ []) ∷ []
     ≡ (49 ∷ 34 ∷ 44 ∷ 50 ∷ 34 ∷ 34 ∷ 13 ∷ 10 ∷ []) ∷ (49 ∷ 34 ∷ 50 ∷ 13 ∷ 10 ∷ []) ∷ (49 ∷ 44 ∷ 53 ∷ 34 ∷ 44 ∷ 48 ∷ 13 ∷ 10 ∷ []) ∷ []
-unfolding cleaned clean_from begins starts separator_in is_separator next_column on_blank on_quote is_reach is_late on_content mend_of comma_change on_separator on_cr on_lf
+unfolding cleaned clean_from begins starts separator_in is_separator next_column on_blank on_quote is_reach is_late on_content mend_of comma_change on_separator
+    on_cr on_lf
     after_cr on_field step_of is_fresh end_of byte_out out_of
 spoiled-lines = refl

@@ -15,7 +15,8 @@ use Rattle.laws.proofs.Choice.{both}
 use Rattle.lines.specs.Format.{comma_byte}
 use Rattle.cleaning.specs.Clean.{is_separator, separator_in, next_column, on_quote, is_reach, is_late, on_content, mend_of, comma_change, on_separator}
 use Rattle.cleaning.specs.Clean.{on_field, step_of, byte_out, out_of, clean_from}
-use Rattle.cleaning.specs.Fields.{is_plain, content_of, empty_of, no_field, empty_field, quoted_field, bare_field, field_at, field_spot, begins_field, field_step}
+use Rattle.cleaning.specs.Fields.{is_plain, content_of, empty_of, no_field, empty_field, quoted_field, bare_field, field_at, field_spot, begins_field}
+use Rattle.cleaning.specs.Fields.{field_step}
 use Rattle.cleaning.specs.Fields.{next_field, Stepped}
 use Rattle.cleaning.specs.declared.Standing.{Standing}
 use Rattle.cleaning.specs.declared.Step.{Step}

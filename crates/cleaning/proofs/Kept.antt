@@ -160,7 +160,8 @@ module _ (sep : ℕ) (p : Standing) (s : List ℕ) (i : ℕ) where
   module _ (kind line : ℕ) (c : Tidied) where
     pub changes-next : i < length s
         → changes_from kind sep p line c (drop i s)
-        ≡ changes_from kind sep (step_of sep p (get_or s i 0)).spot (line_after line (get_or s i 0)) (noted kind (step_of sep p (get_or s i 0)) line c) (drop (i + 1) s)
+        ≡ changes_from kind sep (step_of sep p (get_or s i 0)).spot (line_after line (get_or s i 0)) (noted kind (step_of sep p (get_or s i 0)) line c)
+        (drop (i + 1) s)
     unfolding changes_from
     changes-next h = rw (drop-cons s i 0 h, add-one i)
 

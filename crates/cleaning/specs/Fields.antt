@@ -1,8 +1,8 @@
 -- Fields that are one byte or none, with their quotes and their separator, taken at once: what is written for them is what is written for their bytes.
-use Rattle.std.specs.Prelude.{ℕ, ◌+◌, ◌≤◌, ◌<◌, Bool, ◌&&◌, ◌||◌, not, List, [], ◌∷◌, ◌++◌, ◌≡◌, eqb, leb, length, drop, get_or}
+use Rattle.std.specs.Prelude.{ℕ, ◌+◌, ◌≤◌, ◌<◌, Bool, ◌&&◌, ◌||◌, not, List, ◌++◌, ◌≡◌, eqb, leb, length, drop, get_or}
 use Rattle.laws.specs.Choice.{pick}
 use Rattle.lines.specs.Format.{comma_byte}
-use Rattle.cleaning.specs.Clean.{quote_byte, next_column, step_of, out_of, clean_from}
+use Rattle.cleaning.specs.Clean.{quote_byte, next_column, out_of, clean_from}
 use Rattle.cleaning.specs.declared.Standing.{Standing}
 use Rattle.cleaning.specs.declared.Step.{Step}
 use Rattle.cleaning.specs.declared.Field.{Field}

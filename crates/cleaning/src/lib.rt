@@ -1,4 +1,6 @@
 // A range sheet as spreadsheets write it, made into the form of the format byte by byte, and what was changed.
+#![tactic(auto)]
+
 ghost use Rattle.std.specs.Prelude.{◌≡◌, true, ◌+◌, ◌≤◌, ◌<◌, length, take};
 ghost use Rattle.std.proofs.lemmas.List.Edits.{sets};
 ghost use Rattle.cleaning.specs.Clean.{is_separator, separator_in, next_column, spoiled, on_blank, quoted, on_quote, is_reach, is_late, on_content, mend_of};
@@ -38,7 +40,7 @@ pub const END_ADDED: u8 = 8;
 
 // Where a byte stands: the column (3 in the first line; then 2, 1, 0: number, load, mark), the quotes of its field (0 none, 1 open, 2 closed), its content
 // (0 none, 1 some, 2 some and then a blank), and 1 where a CR has ended the line.
-#[derive(Drop)]
+#[derive(Clone, Copy)]
 pub struct Standing {
     pub column: u8,
     pub quotes: u8,
@@ -47,7 +49,7 @@ pub struct Standing {
 }
 
 // The spot after a byte, the bytes that are written for it (0 is none), and what was changed.
-#[derive(Drop)]
+#[derive(Clone, Copy)]
 pub struct Step {
     pub spot: Standing,
     pub mend: u8,
@@ -57,7 +59,7 @@ pub struct Step {
 }
 
 // How often a change was made, and in which line first.
-#[derive(Drop)]
+#[derive(Clone, Copy)]
 pub struct Tidied {
     pub times: usize,
     pub line: usize,
@@ -458,14 +460,14 @@ fn put_step(out: &mut [u8], at: usize, s: Step) -> usize
 }
 
 // Some bytes of the sheet taken at once: the step that they make together, and how many they are.
-#[derive(Drop)]
+#[derive(Clone, Copy)]
 struct Taken {
     pub step: Step,
     pub count: usize,
 }
 
 // A field that is one byte or none, with its quotes and its separator: its bytes, none where it is another field, and what is written for its content.
-#[derive(Drop)]
+#[derive(Clone, Copy)]
 struct Field {
     pub count: usize,
     pub content: u8,

@@ -1,8 +1,6 @@
 -- For any arguments one answer and one content of what is lent meet the contract, and no other, in crate `admission`: by its equalities alone.
 -- Made by tools/surface from the source. Assumes nothing.
-use mathlib.Core.Path.{◌≡◌, refl}
-use mathlib.Core.List.{List}
-use Prim.Native.Nat.{ℕ}
+use Rattle.std.specs.Prelude.{List, get_or, refl, ℕ, ◌≡◌}
 use Rattle.admission.specs.Admit.{admit_answer, answer_in, share_in}
 use Rattle.admission.specs.Beside.{beside_answer, beside_in}
 use Rattle.admission.specs.declared.AdmitAnswer.{AdmitAnswer}
@@ -13,7 +11,6 @@ use Rattle.flowlist.specs.declared.Flow.{Flow}
 use Rattle.flowlist.specs.declared.FlowList.{FlowList}
 use Rattle.shares.specs.declared.ShareAnswer.{ShareAnswer}
 use Rattle.site.specs.declared.Site.{Site}
-use lib.ListN.{get_or}
 
 -- admission::share_in
 pub share_in-one : (slots : ℕ) (f : Flow)

@@ -1,7 +1,6 @@
 -- For any arguments one answer and one content of what is lent meet the contract, and no other, in crate `auditing`: by its equalities alone.
 -- Made by tools/surface from the source. Assumes nothing.
-use mathlib.Core.Path.{◌≡◌, refl}
-use Prim.Native.Nat.{ℕ}
+use Rattle.std.specs.Prelude.{refl, ℕ, ◌≡◌}
 use Rattle.auditing.specs.Form.{form_of}
 use Rattle.auditing.specs.Takes.{open_here, takes_of}
 use Rattle.auditing.specs.declared.Extent.{Extent}

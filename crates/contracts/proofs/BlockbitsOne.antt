@@ -1,14 +1,11 @@
 -- For any arguments one answer and one content of what is lent meet the contract, and no other, in crate `blockbits`: by its equalities alone.
 -- Made by tools/surface from the source. Assumes nothing.
-use mathlib.Core.Path.{◌≡◌, refl}
-use mathlib.Core.List.{List}
-use Prim.Native.Nat.{ℕ}
+use Rattle.std.specs.Prelude.{List, length, refl, ℕ, ◌≡◌}
 use Rattle.blockbits.specs.Blocks.{block_record}
 use Rattle.blockbits.specs.Loop.{blocks_read}
 use Rattle.blockbits.specs.declared.BlocksRead.{BlocksRead}
 use Rattle.contracts.specs.BlockbitsSays.{BlockbitsBlocksLen, BlockbitsPutBlocks, BlockbitsReadBlocks}
-use lib.ListN.{length}
-use lib.Seq.{sets}
+use Rattle.std.proofs.lemmas.List.Edits.{sets}
 
 -- blockbits::read_blocks
 pub blockbits_read_blocks-one : (s : List ℕ) (at : ℕ) (n : ℕ)

@@ -1,9 +1,6 @@
 -- For any arguments one answer and one content of what is lent meet the contract, and no other, in crate `blocks`: by its equalities alone.
 -- Made by tools/surface from the source. Assumes nothing.
-use mathlib.Core.Path.{◌≡◌, refl}
-use mathlib.Core.Bool.{Bool}
-use mathlib.Core.List.{List}
-use Prim.Native.Nat.{ℕ}
+use Rattle.std.specs.Prelude.{Bool, List, refl, ℕ, ◌≡◌}
 use Rattle.blocks.specs.Order.{bit_of_two, high_order, high_sends, low_order, low_sends, meeting, placed}
 use Rattle.blocks.specs.declared.Block.{Block}
 use Rattle.contracts.specs.BlocksSays.{BlocksBlockOf, BlocksBlockOfBits, BlocksBlocksMeet, BlocksLowestPlace}

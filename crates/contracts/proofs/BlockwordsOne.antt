@@ -1,7 +1,6 @@
 -- For any arguments one answer and one content of what is lent meet the contract, and no other, in crate `blockwords`: by its equalities alone.
 -- Made by tools/surface from the source. Assumes nothing.
-use mathlib.Core.Path.{◌≡◌, refl}
-use Prim.Native.Nat.{ℕ}
+use Rattle.std.specs.Prelude.{refl, ℕ, ◌≡◌}
 use Rattle.blockwords.specs.Plain.{plain_bit}
 use Rattle.contracts.specs.BlockwordsSays.{BlockwordsFirstPlain, BlockwordsSecondPlain}
 use Rattle.laws.specs.Bits.{word_of}

@@ -1,18 +1,16 @@
 -- For any arguments one answer and one content of what is lent meet the contract, and no other, in crate `capi`: by its equalities alone.
 -- Made by tools/surface from the source. Assumes nothing.
-use mathlib.Core.Path.{◌≡◌, refl}
-use mathlib.Core.List.{List}
-use Prim.Native.Nat.{ℕ}
+use Rattle.std.specs.Prelude.{List, get_or, refl, ℕ, ◌≡◌}
 use Rattle.admission.specs.Admit.{admit_answer}
 use Rattle.admission.specs.Beside.{beside_answer}
 use Rattle.admission.specs.Given.{admit_given, beside_given}
 use Rattle.checker.specs.Check.{check_answer}
 use Rattle.checker.specs.Given.{check_given}
 use Rattle.contracts.specs.CapiSays.{DuggAdmit, DuggAdmitBeside, DuggCarry, DuggChain, DuggChangeLoad, DuggCheck, DuggCheckWords, DuggClash, DuggClass}
-use Rattle.contracts.specs.CapiSays.{DuggClearReach, DuggFault, DuggFind, DuggHeaviest, DuggLeast, DuggList, DuggLoadTest, DuggMend, DuggOverFull}
-use Rattle.contracts.specs.CapiSays.{DuggPlan, DuggPlanWords, DuggReadPlan, DuggReadSheet, DuggReadSite, DuggRenumber, DuggSearch, DuggSetLoad}
-use Rattle.contracts.specs.CapiSays.{DuggSetReach, DuggShare, DuggShareRepeated, DuggTidy, DuggToBytes, DuggToWords, DuggVersion, DuggWhy, DuggWords}
-use Rattle.contracts.specs.CapiSays.{DuggWritePlan, DuggWriteSheet, DuggWriteSite}
+use Rattle.contracts.specs.CapiSays.{DuggClearReach, DuggFault, DuggFind, DuggHeaviest, DuggLeast, DuggList, DuggLoadTest, DuggMend, DuggOverFull, DuggPlan}
+use Rattle.contracts.specs.CapiSays.{DuggPlanWords, DuggReadPlan, DuggReadSheet, DuggReadSite, DuggRenumber, DuggSearch, DuggSetLoad, DuggSetReach, DuggShare}
+use Rattle.contracts.specs.CapiSays.{DuggShareRepeated, DuggTidy, DuggToBytes, DuggToWords, DuggVersion, DuggWhy, DuggWords, DuggWritePlan, DuggWriteSheet}
+use Rattle.contracts.specs.CapiSays.{DuggWriteSite}
 use Rattle.finder.specs.Find.{find_answer, find_table, over_full_answer}
 use Rattle.finder.specs.Given.{find_given, over_full_given}
 use Rattle.flowlist.specs.declared.Flow.{Flow}
@@ -63,7 +61,6 @@ use Rattle.wordtable.specs.Check.{check_words_answer}
 use Rattle.wordtable.specs.Forms.{form_answer, to_bytes, to_words}
 use Rattle.wordtable.specs.Given.{form_given}
 use Rattle.wordtable.specs.Plan.{plan_words, plan_words_answer}
-use lib.ListN.{get_or}
 
 -- capi::dugg_fault
 pub dugg_fault-one : (site : Site)
@@ -172,8 +169,8 @@ pub dugg_plan-one : (site : Site) (table : List ℕ)
 dugg_plan-one site table = (
   told (plan_given (plan_answer site table)),
   plan_table site table,
-  record { answer = refl; table_after_holds = refl },
-  λ q table'' says. (says.answer, says.table_after_holds),
+  record { answer = refl; table_after = refl },
+  λ q table'' says. (says.answer, says.table_after),
 )
 
 -- capi::dugg_search
@@ -183,8 +180,8 @@ pub dugg_search-one : (site : Site) (limit : ℕ) (table : List ℕ)
 dugg_search-one site limit table = (
   told (search_given (search_answer site limit table)),
   search_table site limit table,
-  record { answer = refl; table_after_holds = refl },
-  λ q table'' says. (says.answer, says.table_after_holds),
+  record { answer = refl; table_after = refl },
+  λ q table'' says. (says.answer, says.table_after),
 )
 
 -- capi::dugg_find
@@ -194,8 +191,8 @@ pub dugg_find-one : (site : Site) (limit : ℕ) (table : List ℕ)
 dugg_find-one site limit table = (
   told (find_given (find_answer site limit table)),
   find_table site limit table,
-  record { answer = refl; table_after_holds = refl },
-  λ q table'' says. (says.answer, says.table_after_holds),
+  record { answer = refl; table_after = refl },
+  λ q table'' says. (says.answer, says.table_after),
 )
 
 -- capi::dugg_over_full
@@ -216,8 +213,8 @@ dugg_change_load-one site cell load table = (
   told (change_given (change_answer site cell load table)),
   change_site site cell load table,
   change_table site cell load table,
-  record { answer = refl; site_after = refl; table_after_holds = refl },
-  λ q site'' table'' says. (says.answer, says.site_after, says.table_after_holds),
+  record { answer = refl; site_after = refl; table_after = refl },
+  λ q site'' table'' says. (says.answer, says.site_after, says.table_after),
 )
 
 -- capi::dugg_check
@@ -269,20 +266,21 @@ pub dugg_to_bytes-one : (site : Site) (words : List ℕ) (table : List ℕ)
 dugg_to_bytes-one site words table = (
   told (form_given (form_answer site table words)),
   to_bytes site words table,
-  record { answer = refl; table_after_holds = refl },
-  λ q table'' says. (says.answer, says.table_after_holds),
+  record { answer = refl; table_after = refl },
+  λ q table'' says. (says.answer, says.table_after),
 )
 
 -- capi::dugg_mend
 pub dugg_mend-one : (site : Site) (table : List ℕ) (changes : List ℕ)
     → (r : Answer) × (table' : List ℕ) × (changes' : List ℕ) × (DuggMend site table changes r table' changes')
-    × ((q : Answer) (table'' : List ℕ) (changes'' : List ℕ) → DuggMend site table changes q table'' changes'' → (q ≡ r) × (table'' ≡ table') × (changes'' ≡ changes'))
+    × ((q : Answer) (table'' : List ℕ) (changes'' : List ℕ) → DuggMend site table changes q table'' changes''
+    → (q ≡ r) × (table'' ≡ table') × (changes'' ≡ changes'))
 dugg_mend-one site table changes = (
   told (mend_given (mend_answer site table changes)),
   mend_table site table changes,
   mend_list site table changes,
-  record { answer = refl; table_after_holds = refl; changes_after = refl },
-  λ q table'' changes'' says. (says.answer, says.table_after_holds, says.changes_after),
+  record { answer = refl; table_after = refl; changes_after = refl },
+  λ q table'' changes'' says. (says.answer, says.table_after, says.changes_after),
 )
 
 -- capi::dugg_renumber
@@ -354,8 +352,8 @@ pub dugg_read_plan-one : (bytes : List ℕ) (table : List ℕ)
 dugg_read_plan-one bytes table = (
   told_plan_read (read_plan bytes table),
   plan_table_read bytes table,
-  record { answer = refl; table_after_holds = refl },
-  λ q table'' says. (says.answer, says.table_after_holds),
+  record { answer = refl; table_after = refl },
+  λ q table'' says. (says.answer, says.table_after),
 )
 
 -- capi::dugg_write_plan

@@ -1,8 +1,6 @@
 -- For any arguments one answer and one content of what is lent meet the contract, and no other, in crate `chainwords`: by its equalities alone.
 -- Made by tools/surface from the source. Assumes nothing.
-use mathlib.Core.Path.{◌≡◌, refl}
-use mathlib.Core.List.{List}
-use Prim.Native.Nat.{ℕ}
+use Rattle.std.specs.Prelude.{List, refl, ℕ, ◌≡◌}
 use Rattle.chainwords.specs.Chain.{break_in, chain_in, first_split_in, gap_in, split_in}
 use Rattle.contracts.specs.ChainwordsSays.{ChainwordsBreakOf, ChainwordsFirstBreak, ChainwordsFirstSplit, ChainwordsGap, ChainwordsSplitOf}
 use Rattle.laws.specs.Bits.{bit_at, bit_in}

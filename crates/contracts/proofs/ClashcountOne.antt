@@ -1,7 +1,6 @@
 -- For any arguments one answer and one content of what is lent meet the contract, and no other, in crate `clashcount`: by its equalities alone.
 -- Made by tools/surface from the source. Assumes nothing.
-use mathlib.Core.Path.{◌≡◌, refl}
-use Prim.Native.Nat.{ℕ}
+use Rattle.std.specs.Prelude.{refl, ℕ, ◌≡◌}
 use Rattle.clashcount.specs.Count.{clash_count}
 use Rattle.contracts.specs.ClashcountSays.{ClashcountClashCount}
 use Rattle.site.specs.declared.Site.{Site}

@@ -1,13 +1,10 @@
 -- For any arguments one answer and one content of what is lent meet the contract, and no other, in crate `cleaning`: by its equalities alone.
 -- Made by tools/surface from the source. Assumes nothing.
-use mathlib.Core.Path.{◌≡◌, refl}
-use mathlib.Core.List.{List}
-use Prim.Native.Nat.{ℕ}
+use Rattle.std.specs.Prelude.{List, length, refl, take, ℕ, ◌≡◌}
 use Rattle.cleaning.specs.Clean.{changes_of, cleaned}
 use Rattle.cleaning.specs.declared.Tidied.{Tidied}
 use Rattle.contracts.specs.CleaningSays.{CleaningChangedIn, CleaningClean}
-use lib.ListN.{length, take}
-use lib.Seq.{sets}
+use Rattle.std.proofs.lemmas.List.Edits.{sets}
 
 -- cleaning::clean
 pub cleaning_clean-one : (s : List ℕ) (out : List ℕ)

@@ -1,13 +1,10 @@
 -- For any arguments one answer and one content of what is lent meet the contract, and no other, in crate `demands`: by its equalities alone.
 -- Made by tools/surface from the source. Assumes nothing.
-use mathlib.Core.Path.{◌≡◌, refl}
-use mathlib.Core.List.{List}
-use Prim.Native.Nat.{ℕ}
+use Rattle.std.specs.Prelude.{List, get_or, refl, ℕ, ◌≡◌}
 use Rattle.contracts.specs.DemandsSays.{DemandsDemand, DemandsFirstOver, DemandsMostDemand}
 use Rattle.demands.specs.Words.{demand_at, demand_counted, over_in}
 use Rattle.laws.specs.Most.{most}
 use Rattle.laws.specs.Search.{first}
-use lib.ListN.{get_or}
 
 -- demands::demand
 pub demands_demand-one : (loads : List ℕ) (row : ℕ) (i : ℕ)

@@ -1,13 +1,10 @@
 -- For any arguments one answer and one content of what is lent meet the contract, and no other, in crate `escaping`: by its equalities alone.
 -- Made by tools/surface from the source. Assumes nothing.
-use mathlib.Core.Path.{◌≡◌, refl}
-use mathlib.Core.List.{List}
-use Prim.Native.Nat.{◌+◌, ℕ}
+use Rattle.std.specs.Prelude.{List, length, refl, ℕ, ◌+◌, ◌≡◌}
 use Rattle.contracts.specs.EscapingSays.{EscapingPutEscaped, EscapingWholePart}
 use Rattle.escaping.specs.Escaped.{escaped}
 use Rattle.escaping.specs.Pieces.{whole_part}
-use lib.ListN.{length}
-use lib.Seq.{sets}
+use Rattle.std.proofs.lemmas.List.Edits.{sets}
 
 -- escaping::put_escaped
 pub escaping_put_escaped-one : (out : List ℕ) (at : ℕ) (text : List ℕ)

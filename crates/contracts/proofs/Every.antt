@@ -2,11 +2,12 @@
 use Rattle.contracts.proofs.AdmissionOne.{admit-one, admit_beside-one, decide-one, decide_beside-one, share_in-one}
 use Rattle.contracts.proofs.CalltextOne.{call_text-one}
 use Rattle.contracts.proofs.CapiOne.{dugg_admit-one, dugg_admit_beside-one, dugg_carry-one, dugg_chain-one, dugg_change_load-one, dugg_check-one}
-use Rattle.contracts.proofs.CapiOne.{dugg_check_words-one, dugg_clash-one, dugg_class-one, dugg_clear_reach-one, dugg_fault-one, dugg_find-one, dugg_heaviest-one}
-use Rattle.contracts.proofs.CapiOne.{dugg_least-one, dugg_list-one, dugg_load_test-one, dugg_mend-one, dugg_over_full-one, dugg_plan-one, dugg_plan_words-one}
-use Rattle.contracts.proofs.CapiOne.{dugg_read_plan-one, dugg_read_sheet-one, dugg_read_site-one, dugg_renumber-one, dugg_search-one, dugg_set_load-one}
-use Rattle.contracts.proofs.CapiOne.{dugg_set_reach-one, dugg_share-one, dugg_share_repeated-one, dugg_tidy-one, dugg_to_bytes-one, dugg_to_words-one}
-use Rattle.contracts.proofs.CapiOne.{dugg_version-one, dugg_why-one, dugg_words-one, dugg_write_plan-one, dugg_write_sheet-one, dugg_write_site-one}
+use Rattle.contracts.proofs.CapiOne.{dugg_check_words-one, dugg_clash-one, dugg_class-one, dugg_clear_reach-one, dugg_fault-one, dugg_find-one}
+use Rattle.contracts.proofs.CapiOne.{dugg_heaviest-one, dugg_least-one, dugg_list-one, dugg_load_test-one, dugg_mend-one, dugg_over_full-one, dugg_plan-one}
+use Rattle.contracts.proofs.CapiOne.{dugg_plan_words-one, dugg_read_plan-one, dugg_read_sheet-one, dugg_read_site-one, dugg_renumber-one, dugg_search-one}
+use Rattle.contracts.proofs.CapiOne.{dugg_set_load-one, dugg_set_reach-one, dugg_share-one, dugg_share_repeated-one, dugg_tidy-one, dugg_to_bytes-one}
+use Rattle.contracts.proofs.CapiOne.{dugg_to_words-one, dugg_version-one, dugg_why-one, dugg_words-one, dugg_write_plan-one, dugg_write_sheet-one}
+use Rattle.contracts.proofs.CapiOne.{dugg_write_site-one}
 use Rattle.contracts.proofs.CheckerOne.{check-one}
 use Rattle.contracts.proofs.FinderOne.{find-one, over_full-one}
 use Rattle.contracts.proofs.FlowsheetOne.{read_flows-one}
@@ -26,7 +27,7 @@ use Rattle.contracts.proofs.SheetOne.{read_sheet-one, write_sheet-one}
 use Rattle.contracts.proofs.SiteOne.{rule_ok-one, site_clash-one, site_clash_rows-one, site_clear_reach-one, site_fault_in-one, site_set_load-one}
 use Rattle.contracts.proofs.SiteOne.{site_set_reach-one, site_zeros-one, size_ok-one, within-one}
 use Rattle.contracts.proofs.SitefileOne.{read_site-one, write_site-one}
-use Rattle.contracts.proofs.TidyingOne.{changes_made-one, tidy_one}
+use Rattle.contracts.proofs.TidyingOne.{changes_made-one, tidy-one}
 use Rattle.contracts.proofs.WhytextOne.{why_text-one}
 use Rattle.contracts.proofs.WordtableOne.{check_words-one, plan_words-one, to_bytes-one, to_words-one}
 use Rattle.contracts.specs.Every.{EveryCall}
@@ -83,7 +84,7 @@ every_call = record {
   write_plan = write_plan-one;
   read_sheet = read_sheet-one;
   write_sheet = write_sheet-one;
-  tidy = tidy_one;
+  tidy = tidy-one;
   changes_made = changes_made-one;
   call_text = call_text-one;
   why_text = why_text-one;

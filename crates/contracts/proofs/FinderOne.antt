@@ -1,8 +1,6 @@
 -- For any arguments one answer and one content of what is lent meet the contract, and no other, in crate `finder`: by its equalities alone.
 -- Made by tools/surface from the source. Assumes nothing.
-use mathlib.Core.Path.{◌≡◌, refl}
-use mathlib.Core.List.{List}
-use Prim.Native.Nat.{ℕ}
+use Rattle.std.specs.Prelude.{List, refl, ℕ, ◌≡◌}
 use Rattle.contracts.specs.FinderSays.{Find, OverFull}
 use Rattle.finder.specs.Find.{find_answer, find_table, over_full_answer}
 use Rattle.finder.specs.declared.FindAnswer.{FindAnswer}
@@ -16,8 +14,8 @@ pub find-one : (site : Site) (limit : ℕ) (table : List ℕ)
 find-one site limit table = (
   find_answer site limit table,
   find_table site limit table,
-  record { answer = refl; table_after_holds = refl },
-  λ q table'' says. (says.answer, says.table_after_holds),
+  record { answer = refl; table_after = refl },
+  λ q table'' says. (says.answer, says.table_after),
 )
 
 -- finder::over_full

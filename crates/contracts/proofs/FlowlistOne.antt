@@ -1,12 +1,10 @@
 -- For any arguments one answer and one content of what is lent meet the contract, and no other, in crate `flowlist`: by its equalities alone.
 -- Made by tools/surface from the source. Assumes nothing.
-use mathlib.Core.Path.{◌≡◌, refl}
-use mathlib.Core.List.{List}
+use Rattle.std.specs.Prelude.{List, length, refl, ◌≡◌}
 use Rattle.contracts.specs.FlowlistSays.{FlowlistEmpty, FlowlistGather, FlowlistPush}
 use Rattle.flowlist.specs.List.{few, gathered, no_flows, with_flow}
 use Rattle.flowlist.specs.declared.Flow.{Flow}
 use Rattle.flowlist.specs.declared.FlowList.{FlowList}
-use lib.ListN.{length}
 
 -- flowlist::empty
 pub flowlist_empty-one : (r : FlowList) × (FlowlistEmpty r)

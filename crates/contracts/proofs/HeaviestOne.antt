@@ -1,6 +1,6 @@
 -- For any arguments one answer and one content of what is lent meet the contract, and no other, in crate `heaviest`: by its equalities alone.
 -- Made by tools/surface from the source. Assumes nothing.
-use mathlib.Core.Path.{◌≡◌, refl}
+use Rattle.std.specs.Prelude.{refl, ◌≡◌}
 use Rattle.contracts.specs.HeaviestSays.{Heaviest}
 use Rattle.heaviest.specs.Sets.{heaviest_of}
 use Rattle.heaviest.specs.declared.HeaviestAnswer.{HeaviestAnswer}

@@ -1,14 +1,11 @@
 -- For any arguments one answer and one content of what is lent meet the contract, and no other, in crate `inputs`: by its equalities alone.
 -- Made by tools/surface from the source. Assumes nothing.
-use mathlib.Core.Path.{◌≡◌, refl}
-use mathlib.Core.List.{List}
-use Prim.Native.Nat.{◌+◌, ℕ}
+use Rattle.std.specs.Prelude.{List, length, refl, ℕ, ◌+◌, ◌≡◌}
 use Rattle.contracts.specs.InputsSays.{InputsInputOf, InputsPutFile}
 use Rattle.inputs.specs.Files.{input_of}
 use Rattle.inputs.specs.Said.{file_said}
 use Rattle.inputs.specs.declared.Input.{Input}
-use lib.ListN.{length}
-use lib.Seq.{sets}
+use Rattle.std.proofs.lemmas.List.Edits.{sets}
 
 -- inputs::input_of
 pub inputs_input_of-one : (s : List ℕ)

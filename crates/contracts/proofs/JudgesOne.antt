@@ -1,6 +1,6 @@
 -- For any arguments one answer and one content of what is lent meet the contract, and no other, in crate `judges`: by its equalities alone.
 -- Made by tools/surface from the source. Assumes nothing.
-use mathlib.Core.Path.{◌≡◌, refl}
+use Rattle.std.specs.Prelude.{refl, ◌≡◌}
 use Rattle.contracts.specs.JudgesSays.{Chain, InClass, Least, LoadTest}
 use Rattle.judges.specs.Judges.{chain_answer, class_answer, least_answer, load_answer}
 use Rattle.judges.specs.declared.ChainAnswer.{ChainAnswer}

@@ -1,8 +1,6 @@
 -- For any arguments one answer and one content of what is lent meet the contract, and no other, in crate `lines`: by its equalities alone.
 -- Made by tools/surface from the source. Assumes nothing.
-use mathlib.Core.Path.{◌≡◌, refl}
-use mathlib.Core.List.{List, [], ◌∷◌}
-use Prim.Native.Nat.{ℕ}
+use Rattle.std.specs.Prelude.{List, [], refl, ℕ, ◌∷◌, ◌≡◌}
 use Rattle.contracts.specs.LinesSays.{LinesEat, LinesEatText, LinesReadHead, LinesReadLine, LinesReadNumber}
 use Rattle.lines.specs.Content.{head_read, line_read, number_read}
 use Rattle.lines.specs.Match.{eaten}

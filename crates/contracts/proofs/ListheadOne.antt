@@ -1,12 +1,10 @@
 -- For any arguments one answer and one content of what is lent meet the contract, and no other, in crate `listhead`: by its equalities alone.
 -- Made by tools/surface from the source. Assumes nothing.
-use mathlib.Core.Path.{◌≡◌, refl}
-use mathlib.Core.List.{List}
-use Prim.Native.Nat.{ℕ}
+use Rattle.std.specs.Prelude.{List, refl, ℕ, ◌≡◌}
 use Rattle.contracts.specs.ListheadSays.{ListheadListedHead}
 use Rattle.listhead.specs.Parts.{file_head, file_rest, file_table}
 use Rattle.listhead.specs.declared.Rest.{Rest}
-use lib.Seq.{sets}
+use Rattle.std.proofs.lemmas.List.Edits.{sets}
 
 -- listhead::listed_head
 pub listhead_listed_head-one : (out : List ℕ) (file : List ℕ) (table : List ℕ)
@@ -16,6 +14,6 @@ listhead_listed_head-one out file table = (
   file_rest file,
   sets out 0 (file_head file),
   file_table file table,
-  record { answer = refl; out_after = refl; table_after_holds = refl },
-  λ q out'' table'' says. (says.answer, says.out_after, says.table_after_holds),
+  record { answer = refl; out_after = refl; table_after = refl },
+  λ q out'' table'' says. (says.answer, says.out_after, says.table_after),
 )

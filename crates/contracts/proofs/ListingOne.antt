@@ -1,18 +1,15 @@
 -- For any arguments one answer and one content of what is lent meet the contract, and no other, in crate `listing`: by its equalities alone.
 -- Made by tools/surface from the source. Assumes nothing.
-use mathlib.Core.Path.{◌≡◌, refl}
-use mathlib.Core.List.{List}
-use Prim.Native.Nat.{◌+◌, ℕ}
+use Rattle.std.specs.Prelude.{List, length, refl, ℕ, ◌+◌, ◌≡◌}
 use Rattle.contracts.specs.ListingSays.{ListingPutAnswers, ListingRowCount, ListingRowLine}
 use Rattle.listing.specs.Answers.{head_with, row_count}
 use Rattle.planner.specs.declared.PlanAnswer.{PlanAnswer}
 use Rattle.say_listing.specs.Lines.{cell_listed}
 use Rattle.site.specs.declared.Site.{Site}
+use Rattle.std.proofs.lemmas.List.Edits.{sets}
 use Rattle.theory.specs.Greedy.{row_at}
-use lib.ListN.{length}
-use lib.Seq.{sets}
 
--- listing::row_count-law
+-- listing::row_count
 pub listing_row_count-one : (reply : PlanAnswer) (cells : ℕ)
     → (r : ℕ) × (ListingRowCount reply cells r)
     × ((q : ℕ) → ListingRowCount reply cells q → (q ≡ r))

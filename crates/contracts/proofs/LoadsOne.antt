@@ -1,14 +1,10 @@
 -- For any arguments one answer and one content of what is lent meet the contract, and no other, in crate `loads`: by its equalities alone.
 -- Made by tools/surface from the source. Assumes nothing.
-use mathlib.Core.Path.{◌≡◌, refl}
-use mathlib.Core.List.{List}
-use Prim.Native.Nat.{ℕ}
+use Rattle.std.specs.Prelude.{List, get_or, ltb, refl, ℕ, ◌≡◌}
 use Rattle.contracts.specs.LoadsSays.{LoadsGreater, LoadsLoadOf, LoadsLoaded, LoadsLoadedIn, LoadsLoadsOf, LoadsLoadsOfMany, LoadsWide}
 use Rattle.laws.specs.Bits.{word_of}
 use Rattle.laws.specs.Most.{greater}
 use Rattle.loads.specs.Loads.{loads_in}
-use lib.Dec.{ltb}
-use lib.ListN.{get_or}
 
 -- loads::wide
 pub loads_wide-one : (x : ℕ)

@@ -1,9 +1,6 @@
 -- For any arguments one answer and one content of what is lent meet the contract, and no other, in crate `oneway`: by its equalities alone.
 -- Made by tools/surface from the source. Assumes nothing.
-use mathlib.Core.Path.{◌≡◌, refl}
-use mathlib.Core.Bool.{Bool}
-use mathlib.Core.List.{List}
-use Prim.Native.Nat.{ℕ}
+use Rattle.std.specs.Prelude.{Bool, List, refl, ℕ, ◌≡◌}
 use Rattle.checker.specs.declared.CheckAnswer.{CheckAnswer}
 use Rattle.contracts.specs.OnewaySays.{OnewayIsValid, OnewayTwoWay, OnewayUnseen}
 use Rattle.oneway.specs.TwoWay.{is_valid, two_way, unseen_in}

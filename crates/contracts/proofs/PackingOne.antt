@@ -1,13 +1,11 @@
 -- For any arguments one answer and one content of what is lent meet the contract, and no other, in crate `packing`: by its equalities alone.
 -- Made by tools/surface from the source. Assumes nothing.
-use mathlib.Core.Path.{◌≡◌, refl}
-use mathlib.Core.List.{List}
-use Prim.Native.Nat.{ℕ}
+use Rattle.std.specs.Prelude.{List, refl, ℕ, ◌≡◌}
 use Rattle.contracts.specs.PackingSays.{PackingPackWords}
 use Rattle.laws.specs.Part.{list_of}
 use Rattle.packing.specs.Packed.{in_row}
 use Rattle.positions.specs.Blocked.{word_in}
-use lib.Seq.{sets}
+use Rattle.std.proofs.lemmas.List.Edits.{sets}
 
 -- packing::pack_words
 pub packing_pack_words-one : (set : List ℕ) (row : List ℕ) (w : ℕ)

@@ -1,13 +1,10 @@
 -- For any arguments one answer and one content of what is lent meet the contract, and no other, in crate `phrases`: by its equalities alone.
 -- Made by tools/surface from the source. Assumes nothing.
-use mathlib.Core.Path.{◌≡◌, refl}
-use mathlib.Core.List.{List}
-use Prim.Native.Nat.{◌+◌, ℕ}
+use Rattle.std.specs.Prelude.{List, length, refl, ℕ, ◌+◌, ◌≡◌}
 use Rattle.contracts.specs.PhrasesSays.{PhrasesPutPhrase}
 use Rattle.phrases.specs.Phrases.{phrase_in}
 use Rattle.phrases.specs.declared.Phrase.{Phrase}
-use lib.ListN.{length}
-use lib.Seq.{sets}
+use Rattle.std.proofs.lemmas.List.Edits.{sets}
 
 -- phrases::put_phrase
 pub phrases_put_phrase-one : (out : List ℕ) (at : ℕ) (table : List ℕ) (phrase : Phrase)

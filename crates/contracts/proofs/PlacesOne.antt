@@ -1,8 +1,6 @@
 -- For any arguments one answer and one content of what is lent meet the contract, and no other, in crate `places`: by its equalities alone.
 -- Made by tools/surface from the source. Assumes nothing.
-use mathlib.Core.Path.{◌≡◌, refl}
-use mathlib.Core.List.{List}
-use Prim.Native.Nat.{◌+◌, ℕ}
+use Rattle.std.specs.Prelude.{List, length, refl, ℕ, ◌+◌, ◌≡◌}
 use Rattle.contracts.specs.PlacesSays.{PlacesPlaceAt, PlacesPutPlace, PlacesPutSpread, PlacesPutSpreadHead}
 use Rattle.phrases.specs.Phrases.{phrase}
 use Rattle.phrases.specs.declared.Phrase.TheVariants.{Row}
@@ -10,8 +8,7 @@ use Rattle.places.specs.Lines.{spread_head_row, spread_lines}
 use Rattle.places.specs.Places.{place_of, place_said, spread_line}
 use Rattle.places.specs.declared.PlaceShown.{PlaceShown}
 use Rattle.site.specs.declared.Site.{Site}
-use lib.ListN.{length}
-use lib.Seq.{sets}
+use Rattle.std.proofs.lemmas.List.Edits.{sets}
 
 -- places::place_at
 pub places_place_at-one : (site : Site) (table : List ℕ) (clash : List ℕ) (k : ℕ)

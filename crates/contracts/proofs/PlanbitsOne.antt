@@ -1,13 +1,10 @@
 -- For any arguments one answer and one content of what is lent meet the contract, and no other, in crate `planbits`: by its equalities alone.
 -- Made by tools/surface from the source. Assumes nothing.
-use mathlib.Core.Path.{◌≡◌, refl}
-use mathlib.Core.List.{List}
-use Prim.Native.Nat.{ℕ}
+use Rattle.std.specs.Prelude.{List, length, refl, ℕ, ◌≡◌}
 use Rattle.contracts.specs.PlanbitsSays.{PlanbitsPutBits, PlanbitsUnpack}
 use Rattle.planbits.specs.Bits.{bits_from, packed_from}
 use Rattle.records.specs.Bits.{bytes_for}
-use lib.ListN.{length}
-use lib.Seq.{sets}
+use Rattle.std.proofs.lemmas.List.Edits.{sets}
 
 -- planbits::unpack
 pub planbits_unpack-one : (body : List ℕ) (table : List ℕ) (n : ℕ)
@@ -15,8 +12,8 @@ pub planbits_unpack-one : (body : List ℕ) (table : List ℕ) (n : ℕ)
     × ((table'' : List ℕ) → PlanbitsUnpack body table n table'' → (table'' ≡ table'))
 planbits_unpack-one body table n = (
   sets table 0 (bits_from body 0 n),
-  record { table_after_holds = refl },
-  λ table'' says. says.table_after_holds,
+  record { table_after = refl },
+  λ table'' says. says.table_after,
 )
 
 -- planbits::put_bits

@@ -1,8 +1,6 @@
 -- For any arguments one answer and one content of what is lent meet the contract, and no other, in crate `planfile`: by its equalities alone.
 -- Made by tools/surface from the source. Assumes nothing.
-use mathlib.Core.Path.{◌≡◌, refl}
-use mathlib.Core.List.{List}
-use Prim.Native.Nat.{ℕ}
+use Rattle.std.specs.Prelude.{List, refl, ℕ, ◌≡◌}
 use Rattle.contracts.specs.PlanfileSays.{ReadPlan, WritePlan}
 use Rattle.planfile.specs.Read.{plan_table_read, read_plan}
 use Rattle.planfile.specs.Write.{plan_out, plan_written}
@@ -17,8 +15,8 @@ pub read_plan-one : (bytes : List ℕ) (table : List ℕ)
 read_plan-one bytes table = (
   read_plan bytes table,
   plan_table_read bytes table,
-  record { answer = refl; table_after_holds = refl },
-  λ q table'' says. (says.answer, says.table_after_holds),
+  record { answer = refl; table_after = refl },
+  λ q table'' says. (says.answer, says.table_after),
 )
 
 -- planfile::write_plan

@@ -1,8 +1,6 @@
 -- For any arguments one answer and one content of what is lent meet the contract, and no other, in crate `planner`: by its equalities alone.
 -- Made by tools/surface from the source. Assumes nothing.
-use mathlib.Core.Path.{◌≡◌, refl}
-use mathlib.Core.List.{List}
-use Prim.Native.Nat.{ℕ}
+use Rattle.std.specs.Prelude.{List, refl, ℕ, ◌≡◌}
 use Rattle.contracts.specs.PlannerSays.{Plan}
 use Rattle.planner.specs.Plan.{plan_answer, plan_table}
 use Rattle.planner.specs.declared.PlanAnswer.{PlanAnswer}
@@ -15,6 +13,6 @@ pub plan-one : (site : Site) (table : List ℕ)
 plan-one site table = (
   plan_answer site table,
   plan_table site table,
-  record { answer = refl; table_after_holds = refl },
-  λ q table'' says. (says.answer, says.table_after_holds),
+  record { answer = refl; table_after = refl },
+  λ q table'' says. (says.answer, says.table_after),
 )

@@ -1,15 +1,12 @@
 -- For any arguments one answer and one content of what is lent meet the contract, and no other, in crate `planrows`: by its equalities alone.
 -- Made by tools/surface from the source. Assumes nothing.
-use mathlib.Core.Path.{◌≡◌, refl}
-use mathlib.Core.List.{List}
-use Prim.Native.Nat.{◌*◌, ℕ}
+use Rattle.std.specs.Prelude.{List, get_or, refl, ℕ, ◌*◌, ◌≡◌}
 use Rattle.contracts.specs.PlanrowsSays.{PlanrowsGroupOf, PlanrowsNearOf, PlanrowsPlaceOf, PlanrowsPlanRow}
 use Rattle.laws.specs.Bits.{bit_in, set_bit}
 use Rattle.planrows.specs.Row.{marks_in, near_in, opens, row_planned}
 use Rattle.rows.specs.Bars.{bar_row}
 use Rattle.rows.specs.Stretch.{filled_by}
 use Rattle.rows.specs.declared.Filled.{Filled}
-use lib.ListN.{get_or}
 
 -- planrows::near_of
 pub planrows_near_of-one : (clash : List ℕ) (i : ℕ)
@@ -48,6 +45,6 @@ pub planrows_plan_row-one : (table : List ℕ) (slots : ℕ) (channels : ℕ) (i
 planrows_plan_row-one table slots channels i load clash mask starts ends = (
   filled_by slots channels load (bar_row (opens mask) 0 (marks_in (slots * channels) (bit_in clash) table i)),
   row_planned (slots * channels) (bit_in clash) (opens mask) i load table,
-  record { answer = refl; table_after_holds = refl },
-  λ q table'' says. (says.answer, says.table_after_holds),
+  record { answer = refl; table_after = refl },
+  λ q table'' says. (says.answer, says.table_after),
 )

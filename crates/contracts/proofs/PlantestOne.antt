@@ -1,9 +1,6 @@
 -- For any arguments one answer and one content of what is lent meet the contract, and no other, in crate `plantest`: by its equalities alone.
 -- Made by tools/surface from the source. Assumes nothing.
-use mathlib.Core.Path.{◌≡◌, refl}
-use mathlib.Core.Bool.{Bool}
-use mathlib.Core.List.{List}
-use Prim.Native.Nat.{◌*◌, ℕ}
+use Rattle.std.specs.Prelude.{Bool, List, refl, ℕ, ◌*◌, ◌≡◌}
 use Rattle.contracts.specs.PlantestSays.{PlantestIsPlan}
 use Rattle.site.specs.Reach.{is_open, net_by}
 use Rattle.theory.specs.Plan.{is_plan}

@@ -1,17 +1,13 @@
 -- For any arguments one answer and one content of what is lent meet the contract, and no other, in crate `positions`: by its equalities alone.
 -- Made by tools/surface from the source. Assumes nothing.
-use mathlib.Core.Path.{◌≡◌, refl}
-use mathlib.Core.Bool.{Bool, not}
-use mathlib.Core.List.{List}
-use Prim.Native.Nat.{◌^◌, ℕ}
-use Rattle.contracts.specs.PositionsSays.{PositionsBars, PositionsBitWeight, PositionsBitsIn, PositionsFirstPast, PositionsIsBlocked}
-use Rattle.contracts.specs.PositionsSays.{PositionsNoneBlocked, PositionsOpenCount}
+use Rattle.std.specs.Prelude.{Bool, List, length, not, refl, ℕ, ◌^◌, ◌≡◌}
+use Rattle.contracts.specs.PositionsSays.{PositionsBars, PositionsBitWeight, PositionsBitsIn, PositionsFirstPast, PositionsIsBlocked, PositionsNoneBlocked}
+use Rattle.contracts.specs.PositionsSays.{PositionsOpenCount}
 use Rattle.laws.specs.Bits.{bit_at}
 use Rattle.laws.specs.Choice.{pick}
 use Rattle.laws.specs.Part.{list_of}
 use Rattle.laws.specs.Sum.{count}
 use Rattle.positions.specs.Blocked.{any_in, bar_of, blocked_at, first_past, most_positions, open_in}
-use lib.ListN.{length}
 
 -- positions::bits_in
 pub positions_bits_in-one : (x : ℕ)
@@ -53,7 +49,7 @@ positions_open_count-one set n = (
   λ q says. says.answer,
 )
 
--- positions::first_past-law
+-- positions::first_past
 pub positions_first_past-one : (set : List ℕ) (n : ℕ)
     → (r : ℕ) × (PositionsFirstPast set n r)
     × ((q : ℕ) → PositionsFirstPast set n q → (q ≡ r))

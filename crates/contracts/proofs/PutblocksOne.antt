@@ -1,12 +1,9 @@
 -- For any arguments one answer and one content of what is lent meet the contract, and no other, in crate `putblocks`: by its equalities alone.
 -- Made by tools/surface from the source. Assumes nothing.
-use mathlib.Core.Path.{◌≡◌, refl}
-use mathlib.Core.List.{List}
-use Prim.Native.Nat.{◌+◌, ℕ}
+use Rattle.std.specs.Prelude.{List, length, refl, ℕ, ◌+◌, ◌≡◌}
 use Rattle.contracts.specs.PutblocksSays.{PutblocksPutBlocked}
 use Rattle.putblocks.specs.Canon.{blocked_text}
-use lib.ListN.{length}
-use lib.Seq.{sets}
+use Rattle.std.proofs.lemmas.List.Edits.{sets}
 
 -- putblocks::put_blocked
 pub putblocks_put_blocked-one : (out : List ℕ) (at : ℕ) (set : List ℕ) (slots : ℕ) (channels : ℕ)

@@ -1,12 +1,9 @@
 -- For any arguments one answer and one content of what is lent meet the contract, and no other, in crate `putlines`: by its equalities alone.
 -- Made by tools/surface from the source. Assumes nothing.
-use mathlib.Core.Path.{◌≡◌, refl}
-use mathlib.Core.List.{List}
-use Prim.Native.Nat.{◌+◌, ℕ}
+use Rattle.std.specs.Prelude.{List, length, refl, ℕ, ◌+◌, ◌≡◌}
 use Rattle.contracts.specs.PutlinesSays.{PutlinesPutCell, PutlinesPutHeader}
 use Rattle.lines.specs.Format.{bits_of, cell_line, header}
-use lib.ListN.{length}
-use lib.Seq.{sets}
+use Rattle.std.proofs.lemmas.List.Edits.{sets}
 
 -- putlines::put_cell
 pub putlines_put_cell-one : (out : List ℕ) (at : ℕ) (n : ℕ) (k : ℕ) (load : ℕ) (row : ℕ)

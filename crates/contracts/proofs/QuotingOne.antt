@@ -1,12 +1,9 @@
 -- For any arguments one answer and one content of what is lent meet the contract, and no other, in crate `quoting`: by its equalities alone.
 -- Made by tools/surface from the source. Assumes nothing.
-use mathlib.Core.Path.{◌≡◌, refl}
-use mathlib.Core.List.{List}
-use Prim.Native.Nat.{◌+◌, ℕ}
+use Rattle.std.specs.Prelude.{List, length, refl, ℕ, ◌+◌, ◌≡◌}
 use Rattle.contracts.specs.QuotingSays.{QuotingPutName}
 use Rattle.quoting.specs.Names.{quoted_name}
-use lib.ListN.{length}
-use lib.Seq.{sets}
+use Rattle.std.proofs.lemmas.List.Edits.{sets}
 
 -- quoting::put_name
 pub quoting_put_name-one : (out : List ℕ) (at : ℕ) (name : List ℕ)

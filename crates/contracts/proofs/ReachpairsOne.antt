@@ -1,14 +1,11 @@
 -- For any arguments one answer and one content of what is lent meet the contract, and no other, in crate `reachpairs`: by its equalities alone.
 -- Made by tools/surface from the source. Assumes nothing.
-use mathlib.Core.Path.{◌≡◌, refl}
-use mathlib.Core.List.{List}
-use Prim.Native.Nat.{ℕ}
+use Rattle.std.specs.Prelude.{List, length, refl, ℕ, ◌≡◌}
 use Rattle.contracts.specs.ReachpairsSays.{ReachpairsPairsLen, ReachpairsPutPairs, ReachpairsReadReach}
 use Rattle.reachpairs.specs.Loop.{reach_read}
 use Rattle.reachpairs.specs.Pairs.{pair_bytes}
 use Rattle.records.specs.declared.ReadAnswer.{ReadAnswer}
-use lib.ListN.{length}
-use lib.Seq.{sets}
+use Rattle.std.proofs.lemmas.List.Edits.{sets}
 
 -- reachpairs::read_reach
 pub reachpairs_read_reach-one : (s : List ℕ) (at : ℕ) (cells : ℕ) (reach : List ℕ)

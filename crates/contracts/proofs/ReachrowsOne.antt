@@ -1,9 +1,6 @@
 -- For any arguments one answer and one content of what is lent meet the contract, and no other, in crate `reachrows`: by its equalities alone.
 -- Made by tools/surface from the source. Assumes nothing.
-use mathlib.Core.Path.{◌≡◌, refl}
-use mathlib.Core.Bool.{Bool}
-use mathlib.Core.List.{List}
-use Prim.Native.Nat.{ℕ}
+use Rattle.std.specs.Prelude.{Bool, List, get_or, ltb, refl, replicate, ℕ, ◌≡◌}
 use Rattle.contracts.specs.ReachrowsSays.{ReachrowsBadRow, ReachrowsExtraLoad, ReachrowsFewRows, ReachrowsManyRows, ReachrowsPairClashes, ReachrowsPutBit}
 use Rattle.contracts.specs.ReachrowsSays.{ReachrowsThirdRows}
 use Rattle.laws.specs.Bits.{clear_bit, set_bit, word_of}
@@ -11,9 +8,7 @@ use Rattle.laws.specs.Choice.{pick}
 use Rattle.laws.specs.Part.{list_of}
 use Rattle.laws.specs.Search.{first}
 use Rattle.reachrows.specs.Rows.{clash_in, row_bad}
-use lib.Dec.{ltb}
-use lib.ListN.{get_or, replicate}
-use lib.Seq.{sets}
+use Rattle.std.proofs.lemmas.List.Edits.{sets}
 
 -- reachrows::extra_load
 pub reachrows_extra_load-one : (loads : List ℕ) (cells : ℕ)

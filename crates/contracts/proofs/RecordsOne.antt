@@ -1,11 +1,8 @@
 -- For any arguments one answer and one content of what is lent meet the contract, and no other, in crate `records`: by its equalities alone.
 -- Made by tools/surface from the source. Assumes nothing.
-use mathlib.Core.Path.{◌≡◌, refl}
-use mathlib.Core.Bool.{Bool}
-use mathlib.Core.List.{List, [], ◌∷◌}
-use Prim.Native.Nat.{ℕ}
-use Rattle.contracts.specs.RecordsSays.{RecordsHeadAnswer, RecordsLeftOver, RecordsOpen, RecordsOpenedAnswer, RecordsPutHead, RecordsPutStart}
-use Rattle.contracts.specs.RecordsSays.{RecordsPutTwo, RecordsPutTwoBytes, RecordsTwoBytes}
+use Rattle.std.specs.Prelude.{Bool, List, [], refl, ℕ, ◌∷◌, ◌≡◌}
+use Rattle.contracts.specs.RecordsSays.{RecordsHeadAnswer, RecordsLeftOver, RecordsOpen, RecordsOpenedAnswer, RecordsPutHead, RecordsPutStart, RecordsPutTwo}
+use Rattle.contracts.specs.RecordsSays.{RecordsPutTwoBytes, RecordsTwoBytes}
 use Rattle.records.specs.Bits.{left_over}
 use Rattle.records.specs.Bytes.{le16, two_bytes_each}
 use Rattle.records.specs.Head.{head_answer, head_record}
@@ -13,7 +10,7 @@ use Rattle.records.specs.Opener.{open_answer, open_at}
 use Rattle.records.specs.declared.Length.{Length}
 use Rattle.records.specs.declared.Opened.{Opened}
 use Rattle.records.specs.declared.ReadAnswer.{ReadAnswer}
-use lib.Seq.{sets}
+use Rattle.std.proofs.lemmas.List.Edits.{sets}
 
 -- records::two_bytes
 pub records_two_bytes-one : (s : List ℕ) (k : ℕ)
@@ -55,7 +52,7 @@ records_head_answer-one s = (
   λ q says. says.answer,
 )
 
--- records::left_over-law
+-- records::left_over
 pub records_left_over-one : (body : List ℕ) (n : ℕ)
     → (r : Bool) × (RecordsLeftOver body n r)
     × ((q : Bool) → RecordsLeftOver body n q → (q ≡ r))

@@ -1,8 +1,6 @@
 -- For any arguments one answer and one content of what is lent meet the contract, and no other, in crate `replan`: by its equalities alone.
 -- Made by tools/surface from the source. Assumes nothing.
-use mathlib.Core.Path.{◌≡◌, refl}
-use mathlib.Core.List.{List}
-use Prim.Native.Nat.{◌*◌, ℕ}
+use Rattle.std.specs.Prelude.{List, refl, ℕ, ◌*◌, ◌≡◌}
 use Rattle.contracts.specs.ReplanSays.{ReplanPlanFrom}
 use Rattle.planner.specs.Plan.{answer_of, leaves}
 use Rattle.planner.specs.declared.PlanAnswer.{PlanAnswer}
@@ -16,6 +14,6 @@ pub replan_plan_from-one : (table : List ℕ) (first : ℕ) (cells : ℕ) (slots
 replan_plan_from-one table first cells slots channels loads clash blocked = (
   answer_of (greedy (net_by cells (slots * channels) loads clash (is_open blocked))),
   leaves (net_by cells (slots * channels) loads clash (is_open blocked)) table,
-  record { answer = refl; table_after_holds = refl },
-  λ q table'' says. (says.answer, says.table_after_holds),
+  record { answer = refl; table_after = refl },
+  λ q table'' says. (says.answer, says.table_after),
 )

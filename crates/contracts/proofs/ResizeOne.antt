@@ -1,8 +1,6 @@
 -- For any arguments one answer and one content of what is lent meet the contract, and no other, in crate `resize`: by its equalities alone.
 -- Made by tools/surface from the source. Assumes nothing.
-use mathlib.Core.Path.{◌≡◌, refl}
-use mathlib.Core.List.{List}
-use Prim.Native.Nat.{ℕ}
+use Rattle.std.specs.Prelude.{List, refl, ℕ, ◌≡◌}
 use Rattle.contracts.specs.ResizeSays.{SetBlocked, SetChannels, SetRule, SetSlots}
 use Rattle.resize.specs.Others.{set_blocked_of, set_rule_of}
 use Rattle.resize.specs.Sizes.{set_channels_of, set_slots_of}

@@ -1,8 +1,6 @@
 -- For any arguments one answer and one content of what is lent meet the contract, and no other, in crate `rows`: by its equalities alone.
 -- Made by tools/surface from the source. Assumes nothing.
-use mathlib.Core.Path.{◌≡◌, refl}
-use mathlib.Core.List.{List}
-use Prim.Native.Nat.{◌*◌, ℕ}
+use Rattle.std.specs.Prelude.{List, eqb, length, refl, replicate, take, ℕ, ◌*◌, ◌≡◌}
 use Rattle.contracts.specs.RowsSays.{RowsClear, RowsCover, RowsCoverRow, RowsFillRow, RowsForbidRow, RowsLayMask, RowsLift, RowsMarkByte}
 use Rattle.laws.specs.Choice.{pick}
 use Rattle.laws.specs.Part.{list_of, part, put}
@@ -11,8 +9,6 @@ use Rattle.rows.specs.Stretch.{cover_at, filled_by}
 use Rattle.rows.specs.declared.Filled.{Filled}
 use Rattle.theory.specs.Greedy.{fill, forbid, sends}
 use Rattle.theory.specs.Net.{unblocked}
-use lib.Dec.{eqb}
-use lib.ListN.{length, replicate, take}
 
 -- rows::fill_row
 pub rows_fill_row-one : (row : List ℕ) (slots : ℕ) (channels : ℕ) (load : ℕ)
@@ -41,8 +37,8 @@ pub rows_forbid_row-one : (table : List ℕ) (n : ℕ) (j : ℕ) (i : ℕ) (star
     × ((table'' : List ℕ) → RowsForbidRow table n j i start end table'' → (table'' ≡ table'))
 rows_forbid_row-one table n j i start end = (
   put (i * n) n (forbid (part (j * n) n table) (part (i * n) n table)) table,
-  record { table_after_holds = refl },
-  λ table'' says. says.table_after_holds,
+  record { table_after = refl },
+  λ table'' says. says.table_after,
 )
 
 -- rows::cover
@@ -61,8 +57,8 @@ pub rows_cover_row-one : (table : List ℕ) (n : ℕ) (j : ℕ) (i : ℕ)
     × ((table'' : List ℕ) → RowsCoverRow table n j i table'' → (table'' ≡ table'))
 rows_cover_row-one table n j i = (
   put (i * n) n (list_of (cover_at n table j i) n) table,
-  record { table_after_holds = refl },
-  λ table'' says. says.table_after_holds,
+  record { table_after = refl },
+  λ table'' says. says.table_after,
 )
 
 -- rows::clear

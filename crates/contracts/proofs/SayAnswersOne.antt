@@ -1,12 +1,9 @@
 -- For any arguments one answer and one content of what is lent meet the contract, and no other, in crate `say_answers`: by its equalities alone.
 -- Made by tools/surface from the source. Assumes nothing.
-use mathlib.Core.Path.{◌≡◌, refl}
-use mathlib.Core.List.{List}
-use Prim.Native.Nat.{◌+◌, ℕ}
+use Rattle.std.specs.Prelude.{List, length, refl, ℕ, ◌+◌, ◌≡◌}
 use Rattle.contracts.specs.SayAnswersSays.{SayAnswersPutCall}
 use Rattle.say_answers.specs.Said.{call_said}
-use lib.ListN.{length}
-use lib.Seq.{sets}
+use Rattle.std.proofs.lemmas.List.Edits.{sets}
 
 -- say_answers::put_call
 pub say_answers_put_call-one : (out : List ℕ) (at : ℕ) (call : ℕ) (number : ℕ) (a : ℕ) (b : ℕ) (c : ℕ)

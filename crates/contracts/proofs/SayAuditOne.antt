@@ -1,9 +1,6 @@
 -- For any arguments one answer and one content of what is lent meet the contract, and no other, in crate `say_audit`: by its equalities alone.
 -- Made by tools/surface from the source. Assumes nothing.
-use mathlib.Core.Path.{◌≡◌, refl}
-use mathlib.Core.Bool.{Bool}
-use mathlib.Core.List.{List}
-use Prim.Native.Nat.{◌+◌, ℕ}
+use Rattle.std.specs.Prelude.{Bool, List, length, refl, ℕ, ◌+◌, ◌≡◌}
 use Rattle.auditing.specs.declared.Extent.{Extent}
 use Rattle.auditing.specs.declared.Form.{Form}
 use Rattle.checker.specs.declared.CheckAnswer.{CheckAnswer}
@@ -14,8 +11,7 @@ use Rattle.mender.specs.declared.MendAnswer.{MendAnswer}
 use Rattle.records.specs.declared.ReadAnswer.{ReadAnswer}
 use Rattle.say_audit.specs.Said.{audited_said, checked_said, line_end, other_size_said, plan_refused, shown_name, site_refused, unread_plan, unread_said}
 use Rattle.site.specs.declared.Site.{Site}
-use lib.ListN.{length}
-use lib.Seq.{sets}
+use Rattle.std.proofs.lemmas.List.Edits.{sets}
 
 -- say_audit::put_shown
 pub say_audit_put_shown-one : (out : List ℕ) (at : ℕ) (name : List ℕ)

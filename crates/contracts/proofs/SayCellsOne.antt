@@ -1,14 +1,11 @@
 -- For any arguments one answer and one content of what is lent meet the contract, and no other, in crate `say_cells`: by its equalities alone.
 -- Made by tools/surface from the source. Assumes nothing.
-use mathlib.Core.Path.{◌≡◌, refl}
-use mathlib.Core.List.{List}
-use Prim.Native.Nat.{◌+◌, ℕ}
+use Rattle.std.specs.Prelude.{List, length, refl, ℕ, ◌+◌, ◌≡◌}
 use Rattle.contracts.specs.SayCellsSays.{SayCellsPutSender}
 use Rattle.say_cells.specs.Cells.{sender_line}
 use Rattle.say_cells.specs.declared.SentAs.{SentAs}
 use Rattle.site.specs.declared.Site.{Site}
-use lib.ListN.{length}
-use lib.Seq.{sets}
+use Rattle.std.proofs.lemmas.List.Edits.{sets}
 
 -- say_cells::put_sender
 pub say_cells_put_sender-one : (out : List ℕ) (site : Site) (table : List ℕ) (kind : SentAs) (i : ℕ)

@@ -1,12 +1,9 @@
 -- For any arguments one answer and one content of what is lent meet the contract, and no other, in crate `say_changes`: by its equalities alone.
 -- Made by tools/surface from the source. Assumes nothing.
-use mathlib.Core.Path.{◌≡◌, refl}
-use mathlib.Core.List.{List}
-use Prim.Native.Nat.{◌+◌, ℕ}
+use Rattle.std.specs.Prelude.{List, length, refl, ℕ, ◌+◌, ◌≡◌}
 use Rattle.contracts.specs.SayChangesSays.{SayChangesPutChanges}
 use Rattle.say_changes.specs.Said.{slot_said}
-use lib.ListN.{length}
-use lib.Seq.{sets}
+use Rattle.std.proofs.lemmas.List.Edits.{sets}
 
 -- say_changes::put_changes
 pub say_changes_put_changes-one : (out : List ℕ) (at : ℕ) (old : List ℕ) (new : List ℕ) (from : ℕ) (channels : ℕ) (cell : ℕ) (slot : ℕ)

@@ -1,8 +1,6 @@
 -- For any arguments one answer and one content of what is lent meet the contract, and no other, in crate `say_csv`: by its equalities alone.
 -- Made by tools/surface from the source. Assumes nothing.
-use mathlib.Core.Path.{◌≡◌, refl}
-use mathlib.Core.List.{List}
-use Prim.Native.Nat.{◌+◌, ℕ}
+use Rattle.std.specs.Prelude.{List, length, refl, ℕ, ◌+◌, ◌≡◌}
 use Rattle.auditing.specs.declared.Extent.{Extent}
 use Rattle.auditing.specs.declared.Form.{Form}
 use Rattle.contracts.specs.SayCsvSays.{SayCsvPutFirst, SayCsvPutPlanFields, SayCsvPutRefusedFields, SayCsvPutSite, SayCsvPutUnreadFields}
@@ -11,8 +9,7 @@ use Rattle.records.specs.declared.ReadAnswer.{ReadAnswer}
 use Rattle.say_csv.specs.Fields.{first_line, plan_field, refused_line_fields, site_fields, unread_fields}
 use Rattle.say_csv.specs.declared.PlanTold.{PlanTold}
 use Rattle.site.specs.declared.Site.{Site}
-use lib.ListN.{length}
-use lib.Seq.{sets}
+use Rattle.std.proofs.lemmas.List.Edits.{sets}
 
 -- say_csv::put_first
 pub say_csv_put_first-one : (out : List ℕ) (at : ℕ)

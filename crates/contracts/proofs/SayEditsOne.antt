@@ -1,13 +1,10 @@
 -- For any arguments one answer and one content of what is lent meet the contract, and no other, in crate `say_edits`: by its equalities alone.
 -- Made by tools/surface from the source. Assumes nothing.
-use mathlib.Core.Path.{◌≡◌, refl}
-use mathlib.Core.List.{List}
-use Prim.Native.Nat.{◌+◌, ℕ}
+use Rattle.std.specs.Prelude.{List, length, refl, ℕ, ◌+◌, ◌≡◌}
 use Rattle.contracts.specs.SayEditsSays.{SayEditsPutPart}
 use Rattle.say_edits.specs.Said.{part_said}
 use Rattle.say_edits.specs.declared.Part.{Part}
-use lib.ListN.{length}
-use lib.Seq.{sets}
+use Rattle.std.proofs.lemmas.List.Edits.{sets}
 
 -- say_edits::put_part
 pub say_edits_put_part-one : (out : List ℕ) (at : ℕ) (part : Part)

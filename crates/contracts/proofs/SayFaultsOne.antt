@@ -1,15 +1,11 @@
 -- For any arguments one answer and one content of what is lent meet the contract, and no other, in crate `say_faults`: by its equalities alone.
 -- Made by tools/surface from the source. Assumes nothing.
-use mathlib.Core.Path.{◌≡◌, refl}
-use mathlib.Core.Bool.{Bool}
-use mathlib.Core.List.{List}
-use Prim.Native.Nat.{◌+◌, ℕ}
+use Rattle.std.specs.Prelude.{Bool, List, length, refl, ℕ, ◌+◌, ◌≡◌}
 use Rattle.contracts.specs.SayFaultsSays.{SayFaultsCanJudge, SayFaultsPutPiece, SayFaultsPutThings}
 use Rattle.say_faults.specs.Said.{judgeable, piece_said, things_said}
 use Rattle.say_faults.specs.declared.Piece.{Piece}
 use Rattle.site.specs.declared.Site.{Site}
-use lib.ListN.{length}
-use lib.Seq.{sets}
+use Rattle.std.proofs.lemmas.List.Edits.{sets}
 
 -- say_faults::can_judge
 pub say_faults_can_judge-one : (site : Site) (table : List ℕ)

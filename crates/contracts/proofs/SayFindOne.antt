@@ -1,16 +1,13 @@
 -- For any arguments one answer and one content of what is lent meet the contract, and no other, in crate `say_find`: by its equalities alone.
 -- Made by tools/surface from the source. Assumes nothing.
-use mathlib.Core.Path.{◌≡◌, refl}
-use mathlib.Core.List.{List}
-use Prim.Native.Nat.{◌+◌, ℕ}
+use Rattle.std.specs.Prelude.{List, length, refl, ℕ, ◌+◌, ◌≡◌}
 use Rattle.contracts.specs.SayFindSays.{SayFindFindWhy, SayFindPutFind, SayFindPutLast, SayFindPutLastLine, SayFindStatus}
 use Rattle.finder.specs.Find.{find_answer, find_table}
 use Rattle.finder.specs.declared.FindAnswer.{FindAnswer}
 use Rattle.finds.specs.Find.{find_said, last_line, status_of, why_tries}
 use Rattle.finds.specs.Last.{last_word}
 use Rattle.site.specs.declared.Site.{Site}
-use lib.ListN.{length}
-use lib.Seq.{sets}
+use Rattle.std.proofs.lemmas.List.Edits.{sets}
 
 -- say_find::put_last
 pub say_find_put_last-one : (out : List ℕ) (at : ℕ) (reply : FindAnswer)
@@ -52,8 +49,8 @@ pub say_find_find_why-one : (site : Site) (table : List ℕ)
 say_find_find_why-one site table = (
   find_answer site why_tries table,
   find_table site why_tries table,
-  record { answer = refl; table_after_holds = refl },
-  λ q table'' says. (says.answer, says.table_after_holds),
+  record { answer = refl; table_after = refl },
+  λ q table'' says. (says.answer, says.table_after),
 )
 
 -- say_find::status

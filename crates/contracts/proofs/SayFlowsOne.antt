@@ -1,8 +1,6 @@
 -- For any arguments one answer and one content of what is lent meet the contract, and no other, in crate `say_flows`: by its equalities alone.
 -- Made by tools/surface from the source. Assumes nothing.
-use mathlib.Core.Path.{◌≡◌, refl}
-use mathlib.Core.List.{List}
-use Prim.Native.Nat.{◌+◌, ℕ}
+use Rattle.std.specs.Prelude.{List, get_or, length, refl, ℕ, ◌+◌, ◌≡◌}
 use Rattle.admission.specs.declared.AdmitAnswer.{AdmitAnswer}
 use Rattle.admission.specs.declared.BesideAnswer.{BesideAnswer}
 use Rattle.contracts.specs.SayFlowsSays.{SayFlowsPutAdmit, SayFlowsPutBeside}
@@ -10,8 +8,7 @@ use Rattle.flowlist.specs.List.{zero_flow}
 use Rattle.flowlist.specs.declared.FlowList.{FlowList}
 use Rattle.say_flows.specs.Said.{admit_said, beside_said}
 use Rattle.site.specs.declared.Site.{Site}
-use lib.ListN.{get_or, length}
-use lib.Seq.{sets}
+use Rattle.std.proofs.lemmas.List.Edits.{sets}
 
 -- say_flows::put_admit
 pub say_flows_put_admit-one : (out : List ℕ) (at : ℕ) (site : Site) (l : FlowList) (count : ℕ) (reply : AdmitAnswer)

@@ -1,13 +1,10 @@
 -- For any arguments one answer and one content of what is lent meet the contract, and no other, in crate `say_flowsheet`: by its equalities alone.
 -- Made by tools/surface from the source. Assumes nothing.
-use mathlib.Core.Path.{◌≡◌, refl}
-use mathlib.Core.List.{List}
-use Prim.Native.Nat.{◌+◌, ℕ}
+use Rattle.std.specs.Prelude.{List, length, refl, ℕ, ◌+◌, ◌≡◌}
 use Rattle.contracts.specs.SayFlowsheetSays.{SayFlowsheetPutFlowSheet}
 use Rattle.flowsheet.specs.declared.FlowsAnswer.{FlowsAnswer}
 use Rattle.say_flowsheet.specs.Said.{flow_sheet_said}
-use lib.ListN.{length}
-use lib.Seq.{sets}
+use Rattle.std.proofs.lemmas.List.Edits.{sets}
 
 -- say_flowsheet::put_flow_sheet
 pub say_flowsheet_put_flow_sheet-one : (out : List ℕ) (at : ℕ) (reply : FlowsAnswer)

@@ -1,16 +1,13 @@
 -- For any arguments one answer and one content of what is lent meet the contract, and no other, in crate `say_grid`: by its equalities alone.
 -- Made by tools/surface from the source. Assumes nothing.
-use mathlib.Core.Path.{◌≡◌, refl}
-use mathlib.Core.List.{List}
-use Prim.Native.Nat.{◌+◌, ℕ}
+use Rattle.std.specs.Prelude.{List, length, refl, ℕ, ◌+◌, ◌≡◌}
 use Rattle.contracts.specs.SayGridSays.{SayGridPieceSlots, SayGridPutGap, SayGridPutGridLine, SayGridPutLegend}
 use Rattle.phrases.specs.Phrases.{phrase}
 use Rattle.phrases.specs.declared.Phrase.TheVariants.{Row}
 use Rattle.say_grid.specs.Grid.{grid_line, piece_slots}
 use Rattle.say_grid.specs.Lines.{grid_end_row, grid_lines, legend_row}
 use Rattle.site.specs.declared.Site.{Site}
-use lib.ListN.{length}
-use lib.Seq.{sets}
+use Rattle.std.proofs.lemmas.List.Edits.{sets}
 
 -- say_grid::put_legend
 pub say_grid_put_legend-one : (out : List ℕ)

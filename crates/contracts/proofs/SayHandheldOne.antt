@@ -1,13 +1,10 @@
 -- For any arguments one answer and one content of what is lent meet the contract, and no other, in crate `say_handheld`: by its equalities alone.
 -- Made by tools/surface from the source. Assumes nothing.
-use mathlib.Core.Path.{◌≡◌, refl}
-use mathlib.Core.List.{List}
-use Prim.Native.Nat.{◌+◌, ℕ}
+use Rattle.std.specs.Prelude.{List, length, refl, ℕ, ◌+◌, ◌≡◌}
 use Rattle.contracts.specs.SayHandheldSays.{SayHandheldPutChange}
 use Rattle.handheld.specs.declared.ChangeAnswer.{ChangeAnswer}
 use Rattle.say_handheld.specs.Said.{change_said}
-use lib.ListN.{length}
-use lib.Seq.{sets}
+use Rattle.std.proofs.lemmas.List.Edits.{sets}
 
 -- say_handheld::put_change
 pub say_handheld_put_change-one : (out : List ℕ) (at : ℕ) (cell : ℕ) (load : ℕ) (reply : ChangeAnswer)

@@ -1,14 +1,11 @@
 -- For any arguments one answer and one content of what is lent meet the contract, and no other, in crate `say_listing`: by its equalities alone.
 -- Made by tools/surface from the source. Assumes nothing.
-use mathlib.Core.Path.{◌≡◌, refl}
-use mathlib.Core.List.{List}
-use Prim.Native.Nat.{◌+◌, ℕ}
+use Rattle.std.specs.Prelude.{List, length, refl, ℕ, ◌+◌, ◌≡◌}
 use Rattle.contracts.specs.SayListingSays.{SayListingPutCellLine, SayListingPutLine}
 use Rattle.phrases.specs.Phrases.{phrase}
 use Rattle.phrases.specs.declared.Phrase.{Phrase}
 use Rattle.say_listing.specs.Lines.{cell_listed, listing_lines}
-use lib.ListN.{length}
-use lib.Seq.{sets}
+use Rattle.std.proofs.lemmas.List.Edits.{sets}
 
 -- say_listing::put_line
 pub say_listing_put_line-one : (out : List ℕ) (at : ℕ) (what : Phrase)

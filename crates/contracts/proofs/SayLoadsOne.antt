@@ -1,16 +1,13 @@
 -- For any arguments one answer and one content of what is lent meet the contract, and no other, in crate `say_loads`: by its equalities alone.
 -- Made by tools/surface from the source. Assumes nothing.
-use mathlib.Core.Path.{◌≡◌, refl}
-use mathlib.Core.List.{List}
-use Prim.Native.Nat.{◌+◌, ℕ}
+use Rattle.std.specs.Prelude.{List, length, refl, ℕ, ◌+◌, ◌≡◌}
 use Rattle.contracts.specs.SayLoadsSays.{SayLoadsBarScale, SayLoadsOpenSlots, SayLoadsPutBar, SayLoadsPutRoomLine}
 use Rattle.drawing.specs.Loads.{bar_said, bar_scale, load_lines, room_line}
 use Rattle.phrases.specs.Phrases.{phrase}
 use Rattle.site.specs.Reach.{net_of}
 use Rattle.site.specs.declared.Site.{Site}
+use Rattle.std.proofs.lemmas.List.Edits.{sets}
 use Rattle.theory.specs.Net.{room}
-use lib.ListN.{length}
-use lib.Seq.{sets}
 
 -- say_loads::open_slots
 pub say_loads_open_slots-one : (site : Site)

@@ -1,16 +1,13 @@
 -- For any arguments one answer and one content of what is lent meet the contract, and no other, in crate `say_numbering`: by its equalities alone.
 -- Made by tools/surface from the source. Assumes nothing.
-use mathlib.Core.Path.{◌≡◌, refl}
-use mathlib.Core.List.{List}
-use Prim.Native.Nat.{◌+◌, ℕ}
+use Rattle.std.specs.Prelude.{List, length, refl, ℕ, ◌+◌, ◌≡◌}
 use Rattle.contracts.specs.SayNumberingSays.{SayNumberingPutAnew, SayNumberingPutCarry, SayNumberingPutRenumber}
 use Rattle.numbering.specs.declared.CarryAnswer.{CarryAnswer}
 use Rattle.numbering.specs.declared.RenumberAnswer.{RenumberAnswer}
 use Rattle.say_numbering.specs.Anew.{anew_said}
 use Rattle.say_numbering.specs.Said.{carry_said, renumber_said}
 use Rattle.site.specs.declared.Site.{Site}
-use lib.ListN.{length}
-use lib.Seq.{sets}
+use Rattle.std.proofs.lemmas.List.Edits.{sets}
 
 -- say_numbering::put_renumber
 pub say_numbering_put_renumber-one : (out : List ℕ) (at : ℕ) (new : List ℕ) (reply : RenumberAnswer)

@@ -1,14 +1,11 @@
 -- For any arguments one answer and one content of what is lent meet the contract, and no other, in crate `say_picture`: by its equalities alone.
 -- Made by tools/surface from the source. Assumes nothing.
-use mathlib.Core.Path.{◌≡◌, refl}
-use mathlib.Core.List.{List}
-use Prim.Native.Nat.{◌+◌, ℕ}
+use Rattle.std.specs.Prelude.{List, length, refl, ℕ, ◌+◌, ◌≡◌}
 use Rattle.contracts.specs.SayPictureSays.{SayPicturePutFacts, SayPicturePutPictureHead, SayPicturePutPictureTail}
 use Rattle.drawing.specs.Picture.{fact_lines, facts_phrase, head_said, tail_said}
 use Rattle.phrases.specs.Phrases.{phrase}
 use Rattle.site.specs.declared.Site.{Site}
-use lib.ListN.{length}
-use lib.Seq.{sets}
+use Rattle.std.proofs.lemmas.List.Edits.{sets}
 
 -- say_picture::put_picture_head
 pub say_picture_put_picture_head-one : (out : List ℕ) (at : ℕ) (site : Site)

@@ -1,14 +1,11 @@
 -- For any arguments one answer and one content of what is lent meet the contract, and no other, in crate `say_range`: by its equalities alone.
 -- Made by tools/surface from the source. Assumes nothing.
-use mathlib.Core.Path.{◌≡◌, refl}
-use mathlib.Core.List.{List}
-use Prim.Native.Nat.{◌+◌, ℕ}
+use Rattle.std.specs.Prelude.{List, length, refl, ℕ, ◌+◌, ◌≡◌}
 use Rattle.contracts.specs.SayRangeSays.{SayRangeCellMiddle, SayRangeCellStep, SayRangePutLines, SayRangePutNode, SayRangePutRing}
 use Rattle.drawing.specs.Range.{cell_at, cell_step, circle_lines, circle_phrase, lines_of, ring_phrase}
 use Rattle.phrases.specs.Phrases.{phrase}
 use Rattle.site.specs.declared.Site.{Site}
-use lib.ListN.{length}
-use lib.Seq.{sets}
+use Rattle.std.proofs.lemmas.List.Edits.{sets}
 
 -- say_range::cell_step
 pub say_range_cell_step-one : (site : Site)

@@ -1,15 +1,12 @@
 -- For any arguments one answer and one content of what is lent meet the contract, and no other, in crate `say_refusals`: by its equalities alone.
 -- Made by tools/surface from the source. Assumes nothing.
-use mathlib.Core.Path.{◌≡◌, refl}
-use mathlib.Core.List.{List}
-use Prim.Native.Nat.{◌+◌, ℕ}
+use Rattle.std.specs.Prelude.{List, length, refl, ℕ, ◌+◌, ◌≡◌}
 use Rattle.contracts.specs.SayRefusalsSays.{SayRefusalsPutRefused, SayRefusalsPutSentence}
 use Rattle.say_refusals.specs.Said.{refused_line}
 use Rattle.say_refusals.specs.Sentences.{sentence_in}
 use Rattle.say_refusals.specs.declared.Place.{Place}
 use Rattle.say_refusals.specs.declared.Sentence.{Sentence}
-use lib.ListN.{length}
-use lib.Seq.{sets}
+use Rattle.std.proofs.lemmas.List.Edits.{sets}
 
 -- say_refusals::put_refused
 pub say_refusals_put_refused-one : (out : List ℕ) (at : ℕ) (number : ℕ) (place : Place)

@@ -1,13 +1,10 @@
 -- For any arguments one answer and one content of what is lent meet the contract, and no other, in crate `say_report`: by its equalities alone.
 -- Made by tools/surface from the source. Assumes nothing.
-use mathlib.Core.Path.{◌≡◌, refl}
-use mathlib.Core.List.{List}
-use Prim.Native.Nat.{◌+◌, ℕ}
+use Rattle.std.specs.Prelude.{List, length, refl, ℕ, ◌+◌, ◌≡◌}
 use Rattle.contracts.specs.SayReportSays.{SayReportPutReportHead, SayReportPutReportRow}
 use Rattle.say_report.specs.Page.{report_head, report_line}
 use Rattle.site.specs.declared.Site.{Site}
-use lib.ListN.{length}
-use lib.Seq.{sets}
+use Rattle.std.proofs.lemmas.List.Edits.{sets}
 
 -- say_report::put_report_row
 pub say_report_put_report_row-one : (out : List ℕ) (at : ℕ) (row : ℕ)

@@ -1,16 +1,13 @@
 -- For any arguments one answer and one content of what is lent meet the contract, and no other, in crate `say_room`: by its equalities alone.
 -- Made by tools/surface from the source. Assumes nothing.
-use mathlib.Core.Path.{◌≡◌, refl}
-use mathlib.Core.List.{List}
-use Prim.Native.Nat.{◌+◌, ℕ}
+use Rattle.std.specs.Prelude.{List, length, refl, ℕ, ◌+◌, ◌≡◌}
 use Rattle.contracts.specs.SayRoomSays.{SayRoomPutRoom, SayRoomPutSize, SayRoomPutWordEnd}
 use Rattle.finder.specs.declared.FindAnswer.{FindAnswer}
 use Rattle.phrases.specs.Phrases.{phrase}
 use Rattle.say_room.specs.Lines.{room_lines}
 use Rattle.say_room.specs.Said.{room_phrase, size_said, word_end}
 use Rattle.site.specs.declared.Site.{Site}
-use lib.ListN.{length}
-use lib.Seq.{sets}
+use Rattle.std.proofs.lemmas.List.Edits.{sets}
 
 -- say_room::put_word_end
 pub say_room_put_word_end-one : (out : List ℕ) (at : ℕ) (reply : FindAnswer)

@@ -1,13 +1,10 @@
 -- For any arguments one answer and one content of what is lent meet the contract, and no other, in crate `say_rule`: by its equalities alone.
 -- Made by tools/surface from the source. Assumes nothing.
-use mathlib.Core.Path.{◌≡◌, refl}
-use mathlib.Core.List.{List}
-use Prim.Native.Nat.{◌+◌, ℕ}
+use Rattle.std.specs.Prelude.{List, length, refl, ℕ, ◌+◌, ◌≡◌}
 use Rattle.contracts.specs.SayRuleSays.{SayRulePutRule, SayRulePutThirds, SayRuleThirdOf}
 use Rattle.say_rule.specs.Said.{rule_said, third_of, thirds_said}
 use Rattle.site.specs.declared.Site.{Site}
-use lib.ListN.{length}
-use lib.Seq.{sets}
+use Rattle.std.proofs.lemmas.List.Edits.{sets}
 
 -- say_rule::third_of
 pub say_rule_third_of-one : (reach : List ℕ) (a : ℕ) (b : ℕ)

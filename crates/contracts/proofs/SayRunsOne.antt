@@ -1,14 +1,10 @@
 -- For any arguments one answer and one content of what is lent meet the contract, and no other, in crate `say_runs`: by its equalities alone.
 -- Made by tools/surface from the source. Assumes nothing.
-use mathlib.Core.Path.{◌≡◌, refl}
-use mathlib.Core.Bool.{Bool}
-use mathlib.Core.List.{List}
-use Prim.Native.Nat.{◌+◌, ℕ}
+use Rattle.std.specs.Prelude.{Bool, List, length, refl, ℕ, ◌+◌, ◌≡◌}
 use Rattle.contracts.specs.SayRunsSays.{SayRunsPutRuns, SayRunsSomeRun}
 use Rattle.say_runs.specs.Runs.{run_before}
 use Rattle.say_runs.specs.Said.{runs_said}
-use lib.ListN.{length}
-use lib.Seq.{sets}
+use Rattle.std.proofs.lemmas.List.Edits.{sets}
 
 -- say_runs::some_run
 pub say_runs_some_run-one : (row : List ℕ)

@@ -1,14 +1,11 @@
 -- For any arguments one answer and one content of what is lent meet the contract, and no other, in crate `say_search`: by its equalities alone.
 -- Made by tools/surface from the source. Assumes nothing.
-use mathlib.Core.Path.{◌≡◌, refl}
-use mathlib.Core.List.{List}
-use Prim.Native.Nat.{◌+◌, ℕ}
+use Rattle.std.specs.Prelude.{List, length, refl, ℕ, ◌+◌, ◌≡◌}
 use Rattle.contracts.specs.SaySearchSays.{SaySearchPutOn, SaySearchPutSearch, SaySearchTriesPhrase}
 use Rattle.phrases.specs.declared.Phrase.{Phrase}
 use Rattle.say_search.specs.Said.{on_said, search_said, tries_phrase}
 use Rattle.search.specs.declared.SearchAnswer.{SearchAnswer}
-use lib.ListN.{length}
-use lib.Seq.{sets}
+use Rattle.std.proofs.lemmas.List.Edits.{sets}
 
 -- say_search::tries_phrase
 pub say_search_tries_phrase-one : (row : ℕ) (tries : ℕ)

@@ -1,15 +1,12 @@
 -- For any arguments one answer and one content of what is lent meet the contract, and no other, in crate `say_sheets`: by its equalities alone.
 -- Made by tools/surface from the source. Assumes nothing.
-use mathlib.Core.Path.{◌≡◌, refl}
-use mathlib.Core.List.{List}
-use Prim.Native.Nat.{◌+◌, ℕ}
+use Rattle.std.specs.Prelude.{List, length, refl, ℕ, ◌+◌, ◌≡◌}
 use Rattle.contracts.specs.SaySheetsSays.{SaySheetsPutMade, SaySheetsPutSheetRefused, SaySheetsPutTidy}
 use Rattle.say_sheets.specs.Said.{made_said, sheet_refused_said, tidy_said}
 use Rattle.sheet.specs.declared.SheetAnswer.{SheetAnswer}
 use Rattle.site.specs.declared.Site.{Site}
+use Rattle.std.proofs.lemmas.List.Edits.{sets}
 use Rattle.tidying.specs.declared.TidyAnswer.{TidyAnswer}
-use lib.ListN.{length}
-use lib.Seq.{sets}
 
 -- say_sheets::put_sheet_refused
 pub say_sheets_put_sheet_refused-one : (out : List ℕ) (at : ℕ) (sheet : List ℕ) (reply : SheetAnswer)

@@ -1,8 +1,6 @@
 -- For any arguments one answer and one content of what is lent meet the contract, and no other, in crate `say_slots`: by its equalities alone.
 -- Made by tools/surface from the source. Assumes nothing.
-use mathlib.Core.Path.{◌≡◌, refl}
-use mathlib.Core.List.{List}
-use Prim.Native.Nat.{◌+◌, ℕ}
+use Rattle.std.specs.Prelude.{List, length, refl, ℕ, ◌+◌, ◌≡◌}
 use Rattle.contracts.specs.SaySlotsSays.{SaySlotsChannelHigh, SaySlotsEverySlot, SaySlotsLessOf, SaySlotsPutBand, SaySlotsPutBandName, SaySlotsPutEdge}
 use Rattle.contracts.specs.SaySlotsSays.{SaySlotsPutMarks, SaySlotsPutNumbers, SaySlotsSlotWide}
 use Rattle.drawing.specs.Lines.{band_lines}
@@ -10,8 +8,7 @@ use Rattle.drawing.specs.Places.{channel_high, lesser, slot_wide}
 use Rattle.drawing.specs.Slots.{edge_phrase, every_slot, frame_phrase, marks_of_kind, name_phrase, slot_numbers}
 use Rattle.phrases.specs.Phrases.{phrase}
 use Rattle.site.specs.declared.Site.{Site}
-use lib.ListN.{length}
-use lib.Seq.{sets}
+use Rattle.std.proofs.lemmas.List.Edits.{sets}
 
 -- say_slots::less_of
 pub say_slots_less_of-one : (a : ℕ) (b : ℕ)

@@ -1,17 +1,13 @@
 -- For any arguments one answer and one content of what is lent meet the contract, and no other, in crate `say_tally`: by its equalities alone.
 -- Made by tools/surface from the source. Assumes nothing.
-use mathlib.Core.Path.{◌≡◌, refl}
-use mathlib.Core.Bool.{Bool}
-use mathlib.Core.List.{List}
-use Prim.Native.Nat.{◌+◌, ℕ}
+use Rattle.std.specs.Prelude.{Bool, List, length, refl, ℕ, ◌+◌, ◌≡◌}
 use Rattle.checker.specs.declared.CheckAnswer.{CheckAnswer}
 use Rattle.contracts.specs.SayTallySays.{SayTallyAllWell, SayTallyMarkOf, SayTallyPutTotals, SayTallyRefusedMark, SayTallyVerdictSaid}
 use Rattle.finder.specs.declared.FindAnswer.{FindAnswer}
 use Rattle.say_tally.specs.Marks.{mark_of, refused_mark, verdict_said}
 use Rattle.say_tally.specs.Said.{all_well, totals_said}
 use Rattle.say_tally.specs.declared.PlanSaid.{PlanSaid}
-use lib.ListN.{length}
-use lib.Seq.{sets}
+use Rattle.std.proofs.lemmas.List.Edits.{sets}
 
 -- say_tally::verdict_said
 pub say_tally_verdict_said-one : (verdict : CheckAnswer) (unseen : Bool)

@@ -1,8 +1,6 @@
 -- For any arguments one answer and one content of what is lent meet the contract, and no other, in crate `say_verdicts`: by its equalities alone.
 -- Made by tools/surface from the source. Assumes nothing.
-use mathlib.Core.Path.{◌≡◌, refl}
-use mathlib.Core.List.{List}
-use Prim.Native.Nat.{◌+◌, ℕ}
+use Rattle.std.specs.Prelude.{List, length, refl, ℕ, ◌+◌, ◌≡◌}
 use Rattle.checker.specs.declared.CheckAnswer.{CheckAnswer}
 use Rattle.contracts.specs.SayVerdictsSays.{SayVerdictsPutBadList, SayVerdictsPutCheck, SayVerdictsPutFault, SayVerdictsPutMend, SayVerdictsPutOtherPlan}
 use Rattle.contracts.specs.SayVerdictsSays.{SayVerdictsPutPlan, SayVerdictsPutRead, SayVerdictsPutRepeats, SayVerdictsPutShare, SayVerdictsPutSheetRead}
@@ -13,10 +11,9 @@ use Rattle.shares.specs.declared.ShareAnswer.{ShareAnswer}
 use Rattle.sheet.specs.declared.SheetAnswer.{SheetAnswer}
 use Rattle.site.specs.declared.Fault.{Fault}
 use Rattle.site.specs.declared.Site.{Site}
+use Rattle.std.proofs.lemmas.List.Edits.{sets}
 use Rattle.verdicts.specs.Said.{bad_list_line, check_said, fault_said, mend_said, other_plan_line, plan_said, read_said, repeats_line, share_said, sheet_said}
 use Rattle.verdicts.specs.declared.File.{File}
-use lib.ListN.{length}
-use lib.Seq.{sets}
 
 -- say_verdicts::put_fault
 pub say_verdicts_put_fault-one : (out : List ℕ) (at : ℕ) (reply : Fault)

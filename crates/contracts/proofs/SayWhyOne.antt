@@ -1,15 +1,12 @@
 -- For any arguments one answer and one content of what is lent meet the contract, and no other, in crate `say_why`: by its equalities alone.
 -- Made by tools/surface from the source. Assumes nothing.
-use mathlib.Core.Path.{◌≡◌, refl}
-use mathlib.Core.List.{List}
-use Prim.Native.Nat.{◌+◌, ℕ}
+use Rattle.std.specs.Prelude.{List, length, refl, ℕ, ◌+◌, ◌≡◌}
 use Rattle.contracts.specs.SayWhySays.{SayWhyFewest, SayWhyLeastNumber, SayWhyPutWhy}
 use Rattle.judges.specs.declared.LeastAnswer.{LeastAnswer}
 use Rattle.planner.specs.Plan.{plan_table}
 use Rattle.site.specs.declared.Site.{Site}
+use Rattle.std.proofs.lemmas.List.Edits.{sets}
 use Rattle.why.specs.Said.{fewest, least_number, why_said}
-use lib.ListN.{length}
-use lib.Seq.{sets}
 
 -- say_why::least_number
 pub say_why_least_number-one : (reply : LeastAnswer)
@@ -39,6 +36,6 @@ say_why_put_why-one site table out = (
   0 + length (why_said site table),
   plan_table site table,
   sets out 0 (why_said site table),
-  record { answer = refl; table_after_holds = refl; out_after = refl },
-  λ q table'' out'' says. (says.answer, says.table_after_holds, says.out_after),
+  record { answer = refl; table_after = refl; out_after = refl },
+  λ q table'' out'' says. (says.answer, says.table_after, says.out_after),
 )

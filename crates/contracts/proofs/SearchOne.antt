@@ -1,8 +1,6 @@
 -- For any arguments one answer and one content of what is lent meet the contract, and no other, in crate `search`: by its equalities alone.
 -- Made by tools/surface from the source. Assumes nothing.
-use mathlib.Core.Path.{◌≡◌, refl}
-use mathlib.Core.List.{List}
-use Prim.Native.Nat.{ℕ}
+use Rattle.std.specs.Prelude.{List, refl, ℕ, ◌≡◌}
 use Rattle.contracts.specs.SearchSays.{Search}
 use Rattle.search.specs.Search.{search_answer, search_table}
 use Rattle.search.specs.declared.SearchAnswer.{SearchAnswer}
@@ -15,6 +13,6 @@ pub search-one : (site : Site) (limit : ℕ) (table : List ℕ)
 search-one site limit table = (
   search_answer site limit table,
   search_table site limit table,
-  record { answer = refl; table_after_holds = refl },
-  λ q table'' says. (says.answer, says.table_after_holds),
+  record { answer = refl; table_after = refl },
+  λ q table'' says. (says.answer, says.table_after),
 )

@@ -1,11 +1,8 @@
 -- For any arguments one answer and one content of what is lent meet the contract, and no other, in crate `sets`: by its equalities alone.
 -- Made by tools/surface from the source. Assumes nothing.
-use mathlib.Core.Path.{◌≡◌, refl}
-use mathlib.Core.Bool.{◌&&◌, ◌||◌, not}
-use mathlib.Core.List.{List}
-use Prim.Native.Nat.{◌*◌, ◌+◌, ◌-◌, ℕ}
-use Rattle.contracts.specs.SetsSays.{SetsFirstPositions, SetsJoinSet, SetsKeepAll, SetsMeetOf, SetsPackCell, SetsPackRow, SetsPutSet, SetsSetSize}
-use Rattle.contracts.specs.SetsSays.{SetsTakeAway, SetsTakeFirst, SetsUnlikeCount}
+use Rattle.std.specs.Prelude.{List, get_or, ltb, not, refl, ℕ, ◌&&◌, ◌*◌, ◌+◌, ◌-◌, ◌||◌, ◌≡◌}
+use Rattle.contracts.specs.SetsSays.{SetsFirstPositions, SetsJoinSet, SetsKeepAll, SetsMeetOf, SetsPackCell, SetsPackRow, SetsPutSet, SetsSetSize, SetsTakeAway}
+use Rattle.contracts.specs.SetsSays.{SetsTakeFirst, SetsUnlikeCount}
 use Rattle.laws.specs.Choice.{pick}
 use Rattle.laws.specs.Few.{first_few}
 use Rattle.laws.specs.Part.{list_of}
@@ -13,9 +10,7 @@ use Rattle.laws.specs.Sum.{count}
 use Rattle.packing.specs.Packed.{in_row}
 use Rattle.sets.specs.Pack.{in_cell}
 use Rattle.sets.specs.Sets.{in_set, set_in}
-use lib.Dec.{ltb}
-use lib.ListN.{get_or}
-use lib.Seq.{sets}
+use Rattle.std.proofs.lemmas.List.Edits.{sets}
 
 -- sets::set_size
 pub sets_set_size-one : (set : List ℕ) (w : ℕ)

@@ -1,15 +1,12 @@
 -- For any arguments one answer and one content of what is lent meet the contract, and no other, in crate `setwords`: by its equalities alone.
 -- Made by tools/surface from the source. Assumes nothing.
-use mathlib.Core.Path.{◌≡◌, refl}
-use mathlib.Core.Bool.{◌&&◌, ◌||◌, not}
-use Prim.Native.Nat.{ℕ}
+use Rattle.std.specs.Prelude.{ltb, not, refl, ℕ, ◌&&◌, ◌||◌, ◌≡◌}
 use Rattle.contracts.specs.SetwordsSays.{SetwordsDiffering, SetwordsEither, SetwordsFirstFew, SetwordsKeptWord, SetwordsLowWord, SetwordsShared}
 use Rattle.contracts.specs.SetwordsSays.{SetwordsWithout}
 use Rattle.laws.specs.Bits.{bit_at, word_of}
 use Rattle.laws.specs.Choice.{pick}
 use Rattle.laws.specs.Few.{first_few}
 use Rattle.laws.specs.Sum.{count}
-use lib.Dec.{ltb}
 
 -- setwords::shared
 pub setwords_shared-one : (x : ℕ) (y : ℕ)

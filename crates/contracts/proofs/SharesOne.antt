@@ -1,6 +1,6 @@
 -- For any arguments one answer and one content of what is lent meet the contract, and no other, in crate `shares`: by its equalities alone.
 -- Made by tools/surface from the source. Assumes nothing.
-use mathlib.Core.Path.{◌≡◌, refl}
+use Rattle.std.specs.Prelude.{refl, ◌≡◌}
 use Rattle.contracts.specs.SharesSays.{DefaultRepeats, Share, ShareOf}
 use Rattle.shares.specs.Share.{default_repeats, share_of}
 use Rattle.shares.specs.declared.Fragments.{Fragments}

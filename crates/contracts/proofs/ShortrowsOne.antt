@@ -1,14 +1,10 @@
 -- For any arguments one answer and one content of what is lent meet the contract, and no other, in crate `shortrows`: by its equalities alone.
 -- Made by tools/surface from the source. Assumes nothing.
-use mathlib.Core.Path.{◌≡◌, refl}
-use mathlib.Core.Bool.{not}
-use mathlib.Core.List.{List}
-use Prim.Native.Nat.{◌*◌, ℕ}
+use Rattle.std.specs.Prelude.{List, not, refl, set, ℕ, ◌*◌, ◌≡◌}
 use Rattle.contracts.specs.ShortrowsSays.{ShortrowsOpenWord, ShortrowsPlanShortRow}
 use Rattle.laws.specs.Bits.{bit_at, bit_in, word_of}
 use Rattle.planrows.specs.Row.{row_planned, row_short}
 use Rattle.theory.specs.Greedy.{reserved}
-use lib.ListN.{set}
 
 -- shortrows::open_word
 pub shortrows_open_word-one : (blocked : ℕ) (n : ℕ)
@@ -29,6 +25,6 @@ shortrows_plan_short_row-one table held slots channels i load clash usable = (
   row_short (slots * channels) (bit_in clash) (bit_at usable) i load table,
   row_planned (slots * channels) (bit_in clash) (bit_at usable) i load table,
   set held i (word_of (reserved (slots * channels) (row_planned (slots * channels) (bit_in clash) (bit_at usable) i load table) i) (slots * channels)),
-  record { answer = refl; table_after_holds = refl; held_after = refl },
-  λ q table'' held'' says. (says.answer, says.table_after_holds, says.held_after),
+  record { answer = refl; table_after = refl; held_after = refl },
+  λ q table'' held'' says. (says.answer, says.table_after, says.held_after),
 )

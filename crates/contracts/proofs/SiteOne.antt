@@ -1,9 +1,6 @@
 -- For any arguments one answer and one content of what is lent meet the contract, and no other, in crate `site`: by its equalities alone.
 -- Made by tools/surface from the source. Assumes nothing.
-use mathlib.Core.Path.{◌≡◌, refl}
-use mathlib.Core.Bool.{Bool}
-use mathlib.Core.List.{List}
-use Prim.Native.Nat.{ℕ}
+use Rattle.std.specs.Prelude.{Bool, List, refl, ℕ, ◌≡◌}
 use Rattle.contracts.specs.SiteSays.{RuleOk, SiteClash, SiteClashRows, SiteClearReach, SiteFaultIn, SiteSetLoad, SiteSetReach, SiteZeros, SizeOk, Within}
 use Rattle.site.specs.Edit.{clear_reach_of, set_load_of, set_reach_of}
 use Rattle.site.specs.Reach.{clash_answer, clash_rows}

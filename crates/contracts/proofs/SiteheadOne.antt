@@ -1,12 +1,10 @@
 -- For any arguments one answer and one content of what is lent meet the contract, and no other, in crate `sitehead`: by its equalities alone.
 -- Made by tools/surface from the source. Assumes nothing.
-use mathlib.Core.Path.{◌≡◌, refl}
-use mathlib.Core.List.{List}
-use Prim.Native.Nat.{ℕ}
+use Rattle.std.specs.Prelude.{List, refl, ℕ, ◌≡◌}
 use Rattle.contracts.specs.SiteheadSays.{SiteheadHeadLen, SiteheadPutSiteHead, SiteheadRuleOf, SiteheadSiteHead}
 use Rattle.records.specs.declared.ReadAnswer.{ReadAnswer}
 use Rattle.sitehead.specs.Head.{head_length, rule_of_head, site_head, site_head_answer}
-use lib.Seq.{sets}
+use Rattle.std.proofs.lemmas.List.Edits.{sets}
 
 -- sitehead::site_head
 pub sitehead_site_head-one : (s : List ℕ)

@@ -1,15 +1,12 @@
 -- For any arguments one answer and one content of what is lent meet the contract, and no other, in crate `stretches`: by its equalities alone.
 -- Made by tools/surface from the source. Assumes nothing.
-use mathlib.Core.Path.{◌≡◌, refl}
-use mathlib.Core.List.{List, ◌++◌}
-use Prim.Native.Nat.{ℕ}
+use Rattle.std.specs.Prelude.{List, drop, refl, ℕ, ◌++◌, ◌≡◌}
 use Rattle.contracts.specs.StretchesSays.{StretchesPlanStretches}
 use Rattle.planner.specs.Plan.{answer_of}
 use Rattle.planner.specs.declared.PlanAnswer.{PlanAnswer}
 use Rattle.site.specs.Reach.{is_open, net_by}
 use Rattle.theory.specs.Greedy.{greedy}
 use Rattle.words.specs.Words.{out_words}
-use lib.ListN.{drop}
 
 -- stretches::plan_stretches
 pub stretches_plan_stretches-one : (words : List ℕ) (clash : List ℕ) (loads : List ℕ) (cells : ℕ) (n : ℕ) (blocked : List ℕ)

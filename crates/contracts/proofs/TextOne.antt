@@ -1,12 +1,9 @@
 -- For any arguments one answer and one content of what is lent meet the contract, and no other, in crate `text`: by its equalities alone.
 -- Made by tools/surface from the source. Assumes nothing.
-use mathlib.Core.Path.{◌≡◌, refl}
-use mathlib.Core.List.{List}
-use Prim.Native.Nat.{◌+◌, ℕ}
+use Rattle.std.specs.Prelude.{List, length, refl, ℕ, ◌+◌, ◌≡◌}
 use Rattle.contracts.specs.TextSays.{TextPutFew, TextPutNumber, TextPutText}
+use Rattle.std.proofs.lemmas.List.Edits.{sets}
 use Rattle.text.specs.Decimal.{decimal}
-use lib.ListN.{length}
-use lib.Seq.{sets}
 
 -- text::put_text
 pub text_put_text-one : (out : List ℕ) (at : ℕ) (text : List ℕ)

@@ -1,8 +1,6 @@
 -- For any arguments one answer and one content of what is lent meet the contract, and no other, in crate `tidying`: by its equalities alone.
 -- Made by tools/surface from the source. Assumes nothing.
-use mathlib.Core.Path.{◌≡◌, refl}
-use mathlib.Core.List.{List}
-use Prim.Native.Nat.{ℕ}
+use Rattle.std.specs.Prelude.{List, refl, ℕ, ◌≡◌}
 use Rattle.cleaning.specs.Clean.{changes_of}
 use Rattle.cleaning.specs.declared.Tidied.{Tidied}
 use Rattle.contracts.specs.TidyingSays.{ChangesMade, Tidy}
@@ -10,10 +8,10 @@ use Rattle.tidying.specs.Tidy.{tidy_answer, tidy_out}
 use Rattle.tidying.specs.declared.TidyAnswer.{TidyAnswer}
 
 -- tidying::tidy
-pub tidy_one : (sheet : List ℕ) (out : List ℕ)
+pub tidy-one : (sheet : List ℕ) (out : List ℕ)
     → (r : TidyAnswer) × (out' : List ℕ) × (Tidy sheet out r out')
     × ((q : TidyAnswer) (out'' : List ℕ) → Tidy sheet out q out'' → (q ≡ r) × (out'' ≡ out'))
-tidy_one sheet out = (
+tidy-one sheet out = (
   tidy_answer sheet out,
   tidy_out sheet out,
   record { answer = refl; out_after = refl },

@@ -1,16 +1,15 @@
 -- For any arguments one answer and one content of what is lent meet the contract, and no other, in crate `told`: by its equalities alone.
 -- Made by tools/surface from the source. Assumes nothing.
-use mathlib.Core.Path.{◌≡◌, refl}
-use Prim.Native.Nat.{ℕ}
+use Rattle.std.specs.Prelude.{refl, ℕ, ◌≡◌}
 use Rattle.admission.specs.Given.{admit_given, beside_given}
 use Rattle.admission.specs.declared.AdmitAnswer.{AdmitAnswer}
 use Rattle.admission.specs.declared.BesideAnswer.{BesideAnswer}
 use Rattle.checker.specs.Given.{check_given}
 use Rattle.checker.specs.declared.CheckAnswer.{CheckAnswer}
-use Rattle.contracts.specs.ToldSays.{ToldAdmitAnswer, ToldBesideAnswer, ToldCarryAnswer, ToldChainAnswer, ToldChangeAnswer, ToldCheckAnswer}
-use Rattle.contracts.specs.ToldSays.{ToldClashAnswer, ToldClassAnswer, ToldFaultAnswer, ToldFindAnswer, ToldFormAnswer, ToldGive, ToldHeaviestAnswer}
-use Rattle.contracts.specs.ToldSays.{ToldLeastAnswer, ToldLoadAnswer, ToldMendAnswer, ToldOverFullAnswer, ToldPlanAnswer, ToldRenumberAnswer}
-use Rattle.contracts.specs.ToldSays.{ToldRenumberedSite, ToldSearchAnswer, ToldShareAnswer}
+use Rattle.contracts.specs.ToldSays.{ToldAdmitAnswer, ToldBesideAnswer, ToldCarryAnswer, ToldChainAnswer, ToldChangeAnswer, ToldCheckAnswer, ToldClashAnswer}
+use Rattle.contracts.specs.ToldSays.{ToldClassAnswer, ToldFaultAnswer, ToldFindAnswer, ToldFormAnswer, ToldGive, ToldHeaviestAnswer, ToldLeastAnswer}
+use Rattle.contracts.specs.ToldSays.{ToldLoadAnswer, ToldMendAnswer, ToldOverFullAnswer, ToldPlanAnswer, ToldRenumberAnswer, ToldRenumberedSite}
+use Rattle.contracts.specs.ToldSays.{ToldSearchAnswer, ToldShareAnswer}
 use Rattle.finder.specs.Given.{find_given, over_full_given}
 use Rattle.finder.specs.declared.FindAnswer.{FindAnswer}
 use Rattle.finder.specs.declared.OverFullAnswer.{OverFullAnswer}

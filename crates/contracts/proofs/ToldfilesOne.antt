@@ -1,6 +1,6 @@
 -- For any arguments one answer and one content of what is lent meet the contract, and no other, in crate `toldfiles`: by its equalities alone.
 -- Made by tools/surface from the source. Assumes nothing.
-use mathlib.Core.Path.{◌≡◌, refl}
+use Rattle.std.specs.Prelude.{refl, ◌≡◌}
 use Rattle.contracts.specs.ToldfilesSays.{ToldfilesChangedSite, ToldfilesEditedAnswer, ToldfilesPlanRead, ToldfilesPlanWritten, ToldfilesReadAnswer}
 use Rattle.contracts.specs.ToldfilesSays.{ToldfilesSheetAnswer, ToldfilesSheetRead, ToldfilesSiteRead, ToldfilesTidyAnswer, ToldfilesWrittenAnswer}
 use Rattle.handheld.specs.declared.Changed.{Changed}

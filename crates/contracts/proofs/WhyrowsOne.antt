@@ -1,14 +1,12 @@
 -- For any arguments one answer and one content of what is lent meet the contract, and no other, in crate `whyrows`: by its equalities alone.
 -- Made by tools/surface from the source. Assumes nothing.
-use mathlib.Core.Path.{◌≡◌, refl}
-use Prim.Native.Nat.{ℕ}
+use Rattle.std.specs.Prelude.{ltb, refl, ℕ, ◌≡◌}
 use Rattle.contracts.specs.WhyrowsSays.{WhyrowsChainPhrase, WhyrowsNoRow}
 use Rattle.judges.specs.declared.ChainAnswer.{ChainAnswer}
 use Rattle.laws.specs.Choice.{pick}
 use Rattle.phrases.specs.declared.Phrase.{Phrase}
 use Rattle.why.specs.Lines.{full_row, gave_up_row}
 use Rattle.why.specs.Said.{chain_phrase}
-use lib.Dec.{ltb}
 
 -- whyrows::chain_phrase
 pub whyrows_chain_phrase-one : (reply : ChainAnswer)

@@ -1,16 +1,13 @@
 -- For any arguments one answer and one content of what is lent meet the contract, and no other, in crate `wordforms`: by its equalities alone.
 -- Made by tools/surface from the source. Assumes nothing.
-use mathlib.Core.Path.{◌≡◌, refl}
-use mathlib.Core.List.{List, ◌++◌}
-use Prim.Native.Nat.{◌*◌, ℕ}
+use Rattle.std.specs.Prelude.{List, drop, length, refl, ℕ, ◌*◌, ◌++◌, ◌≡◌}
 use Rattle.contracts.specs.WordformsSays.{WordformsGatherWords, WordformsLayRow, WordformsScatter}
 use Rattle.laws.specs.Part.{list_of}
 use Rattle.laws.specs.Sum.{bit}
+use Rattle.std.proofs.lemmas.List.Edits.{sets}
 use Rattle.theory.specs.Greedy.{reserved}
 use Rattle.wordforms.specs.Words.{bytes_of, sends_at}
 use Rattle.words.specs.Words.{words_of}
-use lib.ListN.{drop, length}
-use lib.Seq.{sets}
 
 -- wordforms::gather_words
 pub wordforms_gather_words-one : (words : List ℕ) (table : List ℕ) (n : ℕ) (cells : ℕ)
@@ -38,6 +35,6 @@ pub wordforms_scatter-one : (table : List ℕ) (words : List ℕ) (n : ℕ) (cel
     × ((table'' : List ℕ) → WordformsScatter table words n cells table'' → (table'' ≡ table'))
 wordforms_scatter-one table words n cells = (
   bytes_of cells n (sends_at words) ++ drop (cells * n) table,
-  record { table_after_holds = refl },
-  λ table'' says. says.table_after_holds,
+  record { table_after = refl },
+  λ table'' says. says.table_after,
 )

@@ -1,17 +1,14 @@
 -- For any arguments one answer and one content of what is lent meet the contract, and no other, in crate `words`: by its equalities alone.
 -- Made by tools/surface from the source. Assumes nothing.
-use mathlib.Core.Path.{◌≡◌, refl}
-use mathlib.Core.Bool.{Bool, ◌&&◌, not}
-use mathlib.Core.List.{List}
-use Prim.Native.Nat.{ℕ}
+use Rattle.std.specs.Prelude.{Bool, List, not, refl, ℕ, ◌&&◌, ◌≡◌}
 use Rattle.contracts.specs.WordsSays.{WordsAddRow, WordsApart, WordsFirstIn, WordsHas, WordsJoinRow, WordsLay, WordsLowest, WordsSecondIn, WordsWordAt}
 use Rattle.laws.specs.Bits.{bit_at, word_of}
 use Rattle.laws.specs.Part.{list_of}
 use Rattle.laws.specs.Search.{first}
+use Rattle.std.proofs.lemmas.List.Edits.{sets}
 use Rattle.theory.specs.Greedy.{reserved}
 use Rattle.words.specs.Clashes.{first_in, second_in}
 use Rattle.words.specs.Words.{joined_row, marked_row, word_at}
-use lib.Seq.{sets}
 
 -- words::lay
 pub words_lay-one : (words : List ℕ) (from : ℕ) (m : ℕ) (word : ℕ)

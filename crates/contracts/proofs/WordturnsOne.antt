@@ -1,9 +1,6 @@
 -- For any arguments one answer and one content of what is lent meet the contract, and no other, in crate `wordturns`: by its equalities alone.
 -- Made by tools/surface from the source. Assumes nothing.
-use mathlib.Core.Path.{◌≡◌, refl}
-use mathlib.Core.Bool.{◌&&◌, not}
-use mathlib.Core.List.{List}
-use Prim.Native.Nat.{ℕ}
+use Rattle.std.specs.Prelude.{List, not, refl, ℕ, ◌&&◌, ◌≡◌}
 use Rattle.contracts.specs.WordturnsSays.{WordturnsFreeWord, WordturnsWordTurn}
 use Rattle.laws.specs.Bits.{bit_at, bit_in, word_of}
 use Rattle.laws.specs.Sum.{any}

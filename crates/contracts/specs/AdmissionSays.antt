@@ -1,6 +1,6 @@
 -- The equalities that the contracts of crate `admission` state: r is the answer, and x' what a lent x holds afterwards.
 -- Made by tools/surface from the source.
-use Rattle.std.specs.Prelude.{◌≡◌, List, ℕ, get_or}
+use Rattle.std.specs.Prelude.{List, get_or, ℕ, ◌≡◌}
 use Rattle.admission.specs.Admit.{admit_answer, answer_in, share_in}
 use Rattle.admission.specs.Beside.{beside_answer, beside_in}
 use Rattle.admission.specs.declared.AdmitAnswer.{AdmitAnswer}

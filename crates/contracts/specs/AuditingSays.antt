@@ -1,6 +1,6 @@
 -- The equalities that the contracts of crate `auditing` state: r is the answer, and x' what a lent x holds afterwards.
 -- Made by tools/surface from the source.
-use Rattle.std.specs.Prelude.{◌≡◌, ℕ}
+use Rattle.std.specs.Prelude.{ℕ, ◌≡◌}
 use Rattle.auditing.specs.Form.{form_of}
 use Rattle.auditing.specs.Takes.{open_here, takes_of}
 use Rattle.auditing.specs.declared.Extent.{Extent}

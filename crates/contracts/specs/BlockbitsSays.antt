@@ -1,6 +1,6 @@
 -- The equalities that the contracts of crate `blockbits` state: r is the answer, and x' what a lent x holds afterwards.
 -- Made by tools/surface from the source.
-use Rattle.std.specs.Prelude.{◌≡◌, List, ℕ, length}
+use Rattle.std.specs.Prelude.{List, length, ℕ, ◌≡◌}
 use Rattle.blockbits.specs.Blocks.{block_record}
 use Rattle.blockbits.specs.Loop.{blocks_read}
 use Rattle.blockbits.specs.declared.BlocksRead.{BlocksRead}

@@ -1,6 +1,6 @@
 -- The equalities that the contracts of crate `blocks` state: r is the answer, and x' what a lent x holds afterwards.
 -- Made by tools/surface from the source.
-use Rattle.std.specs.Prelude.{◌≡◌, Bool, List, ℕ}
+use Rattle.std.specs.Prelude.{Bool, List, ℕ, ◌≡◌}
 use Rattle.blocks.specs.Order.{bit_of_two, high_order, high_sends, low_order, low_sends, meeting, placed}
 use Rattle.blocks.specs.declared.Block.{Block}
 use Rattle.laws.specs.Bits.{word_of}

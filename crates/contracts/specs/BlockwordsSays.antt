@@ -1,6 +1,6 @@
 -- The equalities that the contracts of crate `blockwords` state: r is the answer, and x' what a lent x holds afterwards.
 -- Made by tools/surface from the source.
-use Rattle.std.specs.Prelude.{◌≡◌, ℕ}
+use Rattle.std.specs.Prelude.{ℕ, ◌≡◌}
 use Rattle.blockwords.specs.Plain.{plain_bit}
 use Rattle.laws.specs.Bits.{word_of}
 

@@ -1,6 +1,6 @@
 -- The equalities that the contracts of crate `capi` state: r is the answer, and x' what a lent x holds afterwards.
 -- Made by tools/surface from the source.
-use Rattle.std.specs.Prelude.{◌≡◌, List, ℕ, get_or}
+use Rattle.std.specs.Prelude.{List, get_or, ℕ, ◌≡◌}
 use Rattle.admission.specs.Admit.{admit_answer}
 use Rattle.admission.specs.Beside.{beside_answer}
 use Rattle.admission.specs.Given.{admit_given, beside_given}
@@ -100,17 +100,17 @@ pub record DuggHeaviest (site : Site) (r : Answer) : Type 0 where
 -- capi::dugg_plan
 pub record DuggPlan (site : Site) (table : List ℕ) (r : Answer) (table' : List ℕ) : Type 0 where
   pub answer : r ≡ told (plan_given (plan_answer site table))
-  pub table_after_holds : table' ≡ plan_table site table
+  pub table_after : table' ≡ plan_table site table
 
 -- capi::dugg_search
 pub record DuggSearch (site : Site) (limit : ℕ) (table : List ℕ) (r : Answer) (table' : List ℕ) : Type 0 where
   pub answer : r ≡ told (search_given (search_answer site limit table))
-  pub table_after_holds : table' ≡ search_table site limit table
+  pub table_after : table' ≡ search_table site limit table
 
 -- capi::dugg_find
 pub record DuggFind (site : Site) (limit : ℕ) (table : List ℕ) (r : Answer) (table' : List ℕ) : Type 0 where
   pub answer : r ≡ told (find_given (find_answer site limit table))
-  pub table_after_holds : table' ≡ find_table site limit table
+  pub table_after : table' ≡ find_table site limit table
 
 -- capi::dugg_over_full
 pub record DuggOverFull (site : Site) (cells : ℕ) (r : Answer) : Type 0 where
@@ -120,7 +120,7 @@ pub record DuggOverFull (site : Site) (cells : ℕ) (r : Answer) : Type 0 where
 pub record DuggChangeLoad (site : Site) (cell : ℕ) (load : ℕ) (table : List ℕ) (r : Answer) (site' : Site) (table' : List ℕ) : Type 0 where
   pub answer : r ≡ told (change_given (change_answer site cell load table))
   pub site_after : site' ≡ change_site site cell load table
-  pub table_after_holds : table' ≡ change_table site cell load table
+  pub table_after : table' ≡ change_table site cell load table
 
 -- capi::dugg_check
 pub record DuggCheck (site : Site) (table : List ℕ) (r : Answer) : Type 0 where
@@ -143,12 +143,12 @@ pub record DuggToWords (site : Site) (table : List ℕ) (words : List ℕ) (r : 
 -- capi::dugg_to_bytes
 pub record DuggToBytes (site : Site) (words : List ℕ) (table : List ℕ) (r : Answer) (table' : List ℕ) : Type 0 where
   pub answer : r ≡ told (form_given (form_answer site table words))
-  pub table_after_holds : table' ≡ to_bytes site words table
+  pub table_after : table' ≡ to_bytes site words table
 
 -- capi::dugg_mend
 pub record DuggMend (site : Site) (table : List ℕ) (changes : List ℕ) (r : Answer) (table' : List ℕ) (changes' : List ℕ) : Type 0 where
   pub answer : r ≡ told (mend_given (mend_answer site table changes))
-  pub table_after_holds : table' ≡ mend_table site table changes
+  pub table_after : table' ≡ mend_table site table changes
   pub changes_after : changes' ≡ mend_list site table changes
 
 -- capi::dugg_renumber
@@ -180,7 +180,7 @@ pub record DuggWriteSite (site : Site) (out : List ℕ) (r : Answer) (out' : Lis
 -- capi::dugg_read_plan
 pub record DuggReadPlan (bytes : List ℕ) (table : List ℕ) (r : PlanReadC) (table' : List ℕ) : Type 0 where
   pub answer : r ≡ told_plan_read (read_plan bytes table)
-  pub table_after_holds : table' ≡ plan_table_read bytes table
+  pub table_after : table' ≡ plan_table_read bytes table
 
 -- capi::dugg_write_plan
 pub record DuggWritePlan (site : Site) (table : List ℕ) (out : List ℕ) (r : Answer) (out' : List ℕ) : Type 0 where
@@ -211,8 +211,7 @@ pub record DuggAdmitBeside (site : Site) (flows : List Flow) (r : Answer) : Type
 
 -- capi::dugg_words
 pub record DuggWords (given : Answer) (call : ℕ) (out : List ℕ) (r : Answer) (out' : List ℕ) : Type 0 where
-  pub answer : r ≡ told (written_given (written (call_said call given.number (get_or given.value 0 0) (get_or given.value 1 0) (get_or
-      given.value 2 0)) out))
+  pub answer : r ≡ told (written_given (written (call_said call given.number (get_or given.value 0 0) (get_or given.value 1 0) (get_or given.value 2 0)) out))
   pub out_after : out' ≡ laid_over (call_said call given.number (get_or given.value 0 0) (get_or given.value 1 0) (get_or given.value 2 0)) out
 
 -- capi::dugg_why

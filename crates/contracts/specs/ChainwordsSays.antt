@@ -1,6 +1,6 @@
 -- The equalities that the contracts of crate `chainwords` state: r is the answer, and x' what a lent x holds afterwards.
 -- Made by tools/surface from the source.
-use Rattle.std.specs.Prelude.{◌≡◌, List, ℕ}
+use Rattle.std.specs.Prelude.{List, ℕ, ◌≡◌}
 use Rattle.chainwords.specs.Chain.{break_in, chain_in, first_split_in, gap_in, split_in}
 use Rattle.laws.specs.Bits.{bit_at, bit_in}
 use Rattle.theory.specs.Verdict.{first_break}

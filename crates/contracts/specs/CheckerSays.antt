@@ -1,6 +1,6 @@
 -- The equalities that the contracts of crate `checker` state: r is the answer, and x' what a lent x holds afterwards.
 -- Made by tools/surface from the source.
-use Rattle.std.specs.Prelude.{◌≡◌, List, ℕ}
+use Rattle.std.specs.Prelude.{List, ℕ, ◌≡◌}
 use Rattle.checker.specs.Check.{check_answer}
 use Rattle.checker.specs.declared.CheckAnswer.{CheckAnswer}
 use Rattle.site.specs.declared.Site.{Site}

@@ -1,6 +1,6 @@
 -- The equalities that the contracts of crate `clashcount` state: r is the answer, and x' what a lent x holds afterwards.
 -- Made by tools/surface from the source.
-use Rattle.std.specs.Prelude.{◌≡◌, ℕ}
+use Rattle.std.specs.Prelude.{ℕ, ◌≡◌}
 use Rattle.clashcount.specs.Count.{clash_count}
 use Rattle.site.specs.declared.Site.{Site}
 

@@ -1,6 +1,6 @@
 -- The equalities that the contracts of crate `cleaning` state: r is the answer, and x' what a lent x holds afterwards.
 -- Made by tools/surface from the source.
-use Rattle.std.specs.Prelude.{◌≡◌, List, ℕ, length, take}
+use Rattle.std.specs.Prelude.{List, length, take, ℕ, ◌≡◌}
 use Rattle.cleaning.specs.Clean.{changes_of, cleaned}
 use Rattle.cleaning.specs.declared.Tidied.{Tidied}
 use Rattle.std.proofs.lemmas.List.Edits.{sets}

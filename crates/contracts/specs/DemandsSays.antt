@@ -1,6 +1,6 @@
 -- The equalities that the contracts of crate `demands` state: r is the answer, and x' what a lent x holds afterwards.
 -- Made by tools/surface from the source.
-use Rattle.std.specs.Prelude.{◌≡◌, List, ℕ, get_or}
+use Rattle.std.specs.Prelude.{List, get_or, ℕ, ◌≡◌}
 use Rattle.demands.specs.Words.{demand_at, demand_counted, over_in}
 use Rattle.laws.specs.Most.{most}
 use Rattle.laws.specs.Search.{first}

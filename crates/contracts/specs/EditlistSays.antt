@@ -1,6 +1,6 @@
 -- The equalities that the contracts of crate `editlist` state: r is the answer, and x' what a lent x holds afterwards.
 -- Made by tools/surface from the source.
-use Rattle.std.specs.Prelude.{◌≡◌, List, ℕ}
+use Rattle.std.specs.Prelude.{List, ℕ, ◌≡◌}
 use Rattle.editlist.specs.Made.{edited_by}
 use Rattle.editlist.specs.Read.{kind_of, read_edit}
 use Rattle.editlist.specs.declared.Edit.{Edit}

@@ -1,6 +1,6 @@
 -- Every call of the product: for any arguments one answer and one content of what is lent meet its contract, and no other. None has a `requires`.
 -- Made by tools/surface from the source.
-use Rattle.std.specs.Prelude.{◌≡◌, Bool, List, ℕ}
+use Rattle.std.specs.Prelude.{Bool, List, ℕ, ◌≡◌}
 use Rattle.admission.specs.declared.AdmitAnswer.{AdmitAnswer}
 use Rattle.admission.specs.declared.BesideAnswer.{BesideAnswer}
 use Rattle.checker.specs.declared.CheckAnswer.{CheckAnswer}
@@ -8,10 +8,10 @@ use Rattle.cleaning.specs.declared.Tidied.{Tidied}
 use Rattle.contracts.specs.AdmissionSays.{Admit, AdmitBeside, Decide, DecideBeside, ShareIn}
 use Rattle.contracts.specs.CalltextSays.{CallText}
 use Rattle.contracts.specs.CapiSays.{DuggAdmit, DuggAdmitBeside, DuggCarry, DuggChain, DuggChangeLoad, DuggCheck, DuggCheckWords, DuggClash, DuggClass}
-use Rattle.contracts.specs.CapiSays.{DuggClearReach, DuggFault, DuggFind, DuggHeaviest, DuggLeast, DuggList, DuggLoadTest, DuggMend, DuggOverFull}
-use Rattle.contracts.specs.CapiSays.{DuggPlan, DuggPlanWords, DuggReadPlan, DuggReadSheet, DuggReadSite, DuggRenumber, DuggSearch, DuggSetLoad}
-use Rattle.contracts.specs.CapiSays.{DuggSetReach, DuggShare, DuggShareRepeated, DuggTidy, DuggToBytes, DuggToWords, DuggVersion, DuggWhy, DuggWords}
-use Rattle.contracts.specs.CapiSays.{DuggWritePlan, DuggWriteSheet, DuggWriteSite}
+use Rattle.contracts.specs.CapiSays.{DuggClearReach, DuggFault, DuggFind, DuggHeaviest, DuggLeast, DuggList, DuggLoadTest, DuggMend, DuggOverFull, DuggPlan}
+use Rattle.contracts.specs.CapiSays.{DuggPlanWords, DuggReadPlan, DuggReadSheet, DuggReadSite, DuggRenumber, DuggSearch, DuggSetLoad, DuggSetReach, DuggShare}
+use Rattle.contracts.specs.CapiSays.{DuggShareRepeated, DuggTidy, DuggToBytes, DuggToWords, DuggVersion, DuggWhy, DuggWords, DuggWritePlan, DuggWriteSheet}
+use Rattle.contracts.specs.CapiSays.{DuggWriteSite}
 use Rattle.contracts.specs.CheckerSays.{Check}
 use Rattle.contracts.specs.FinderSays.{Find, OverFull}
 use Rattle.contracts.specs.FlowsheetSays.{ReadFlows}
@@ -155,7 +155,8 @@ pub record EveryCall : Type 0 where
   -- handheld::change_load
   pub change_load : (site : Site) (cell : ℕ) (load : ℕ) (table : List ℕ)
       → (r : ChangeAnswer) × (site' : Site) × (table' : List ℕ) × (ChangeLoad site cell load table r site' table')
-      × ((q : ChangeAnswer) (site'' : Site) (table'' : List ℕ) → ChangeLoad site cell load table q site'' table'' → (q ≡ r) × (site'' ≡ site') × (table'' ≡ table'))
+      × ((q : ChangeAnswer) (site'' : Site) (table'' : List ℕ) → ChangeLoad site cell load table q site'' table''
+      → (q ≡ r) × (site'' ≡ site') × (table'' ≡ table'))
   -- checker::check
   pub check : (site : Site) (table : List ℕ)
       → (r : CheckAnswer) × (Check site table r)
@@ -220,7 +221,7 @@ pub record EveryCall : Type 0 where
   pub over_full : (site : Site) (cells : ℕ)
       → (r : OverFullAnswer) × (OverFull site cells r)
       × ((q : OverFullAnswer) → OverFull site cells q → (q ≡ r))
-  -- rooms::room_of-law
+  -- rooms::room_of
   pub room_of : (site : Site) (cell : ℕ)
       → (r : RoomAnswer) × (RoomOf site cell r)
       × ((q : RoomAnswer) → RoomOf site cell q → (q ≡ r))
@@ -351,7 +352,8 @@ pub record EveryCall : Type 0 where
   -- capi::dugg_change_load
   pub dugg_change_load : (site : Site) (cell : ℕ) (load : ℕ) (table : List ℕ)
       → (r : Answer) × (site' : Site) × (table' : List ℕ) × (DuggChangeLoad site cell load table r site' table')
-      × ((q : Answer) (site'' : Site) (table'' : List ℕ) → DuggChangeLoad site cell load table q site'' table'' → (q ≡ r) × (site'' ≡ site') × (table'' ≡ table'))
+      × ((q : Answer) (site'' : Site) (table'' : List ℕ) → DuggChangeLoad site cell load table q site'' table''
+      → (q ≡ r) × (site'' ≡ site') × (table'' ≡ table'))
   -- capi::dugg_check
   pub dugg_check : (site : Site) (table : List ℕ)
       → (r : Answer) × (DuggCheck site table r)

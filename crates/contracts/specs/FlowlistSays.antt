@@ -1,6 +1,6 @@
 -- The equalities that the contracts of crate `flowlist` state: r is the answer, and x' what a lent x holds afterwards.
 -- Made by tools/surface from the source.
-use Rattle.std.specs.Prelude.{◌≡◌, List, length}
+use Rattle.std.specs.Prelude.{List, length, ◌≡◌}
 use Rattle.flowlist.specs.List.{few, gathered, no_flows, with_flow}
 use Rattle.flowlist.specs.declared.Flow.{Flow}
 use Rattle.flowlist.specs.declared.FlowList.{FlowList}

@@ -1,6 +1,6 @@
 -- The equalities that the contracts of crate `flowsheet` state: r is the answer, and x' what a lent x holds afterwards.
 -- Made by tools/surface from the source.
-use Rattle.std.specs.Prelude.{◌≡◌, List, ℕ}
+use Rattle.std.specs.Prelude.{List, ℕ, ◌≡◌}
 use Rattle.flowsheet.specs.Read.{read_flows}
 use Rattle.flowsheet.specs.declared.FlowsRead.{FlowsRead}
 

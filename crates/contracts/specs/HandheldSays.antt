@@ -1,6 +1,6 @@
 -- The equalities that the contracts of crate `handheld` state: r is the answer, and x' what a lent x holds afterwards.
 -- Made by tools/surface from the source.
-use Rattle.std.specs.Prelude.{◌≡◌, List, ℕ}
+use Rattle.std.specs.Prelude.{List, ℕ, ◌≡◌}
 use Rattle.handheld.specs.Change.{change_answer, change_site, change_table, changed_of}
 use Rattle.handheld.specs.declared.ChangeAnswer.{ChangeAnswer}
 use Rattle.handheld.specs.declared.Changed.{Changed}
@@ -9,10 +9,10 @@ use Rattle.site.specs.declared.Site.{Site}
 -- handheld::changed_load
 pub record ChangedLoad (site : Site) (cell : ℕ) (load : ℕ) (table : List ℕ) (r : Changed) (table' : List ℕ) : Type 0 where
   pub answer : r ≡ changed_of site cell load table
-  pub table_after_holds : table' ≡ change_table site cell load table
+  pub table_after : table' ≡ change_table site cell load table
 
 -- handheld::change_load
 pub record ChangeLoad (site : Site) (cell : ℕ) (load : ℕ) (table : List ℕ) (r : ChangeAnswer) (site' : Site) (table' : List ℕ) : Type 0 where
   pub answer : r ≡ change_answer site cell load table
   pub site_after : site' ≡ change_site site cell load table
-  pub table_after_holds : table' ≡ change_table site cell load table
+  pub table_after : table' ≡ change_table site cell load table

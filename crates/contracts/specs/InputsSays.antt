@@ -1,6 +1,6 @@
 -- The equalities that the contracts of crate `inputs` state: r is the answer, and x' what a lent x holds afterwards.
 -- Made by tools/surface from the source.
-use Rattle.std.specs.Prelude.{◌≡◌, List, ◌+◌, ℕ, length}
+use Rattle.std.specs.Prelude.{List, length, ℕ, ◌+◌, ◌≡◌}
 use Rattle.inputs.specs.Files.{input_of}
 use Rattle.inputs.specs.Said.{file_said}
 use Rattle.inputs.specs.declared.Input.{Input}

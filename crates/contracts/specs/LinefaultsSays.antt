@@ -1,6 +1,6 @@
 -- The equalities that the contracts of crate `linefaults` state: r is the answer, and x' what a lent x holds afterwards.
 -- Made by tools/surface from the source.
-use Rattle.std.specs.Prelude.{◌≡◌, List, ℕ}
+use Rattle.std.specs.Prelude.{List, ℕ, ◌≡◌}
 use Rattle.linefaults.specs.Fault.{fault_of_line}
 use Rattle.linefaults.specs.declared.LineFault.{LineFault}
 

@@ -1,6 +1,6 @@
 -- The equalities that the contracts of crate `lines` state: r is the answer, and x' what a lent x holds afterwards.
 -- Made by tools/surface from the source.
-use Rattle.std.specs.Prelude.{◌≡◌, List, [], ◌∷◌, ℕ}
+use Rattle.std.specs.Prelude.{List, [], ℕ, ◌∷◌, ◌≡◌}
 use Rattle.lines.specs.Content.{head_read, line_read, number_read}
 use Rattle.lines.specs.Match.{eaten}
 use Rattle.lines.specs.declared.Head.{Head}

@@ -1,14 +1,14 @@
 -- The equalities that the contracts of crate `listing` state: r is the answer, and x' what a lent x holds afterwards.
 -- Made by tools/surface from the source.
-use Rattle.std.specs.Prelude.{◌≡◌, List, ◌+◌, ℕ, length}
+use Rattle.std.specs.Prelude.{List, length, ℕ, ◌+◌, ◌≡◌}
 use Rattle.listing.specs.Answers.{head_with, row_count}
 use Rattle.planner.specs.declared.PlanAnswer.{PlanAnswer}
 use Rattle.say_listing.specs.Lines.{cell_listed}
 use Rattle.site.specs.declared.Site.{Site}
-use Rattle.theory.specs.Greedy.{row_at}
 use Rattle.std.proofs.lemmas.List.Edits.{sets}
+use Rattle.theory.specs.Greedy.{row_at}
 
--- listing::row_count-law
+-- listing::row_count
 pub record ListingRowCount (reply : PlanAnswer) (cells : ℕ) (r : ℕ) : Type 0 where
   pub answer : r ≡ row_count reply cells
 

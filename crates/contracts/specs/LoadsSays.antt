@@ -1,6 +1,6 @@
 -- The equalities that the contracts of crate `loads` state: r is the answer, and x' what a lent x holds afterwards.
 -- Made by tools/surface from the source.
-use Rattle.std.specs.Prelude.{◌≡◌, List, ℕ, ltb, get_or}
+use Rattle.std.specs.Prelude.{List, get_or, ltb, ℕ, ◌≡◌}
 use Rattle.laws.specs.Bits.{word_of}
 use Rattle.laws.specs.Most.{greater}
 use Rattle.loads.specs.Loads.{loads_in}

@@ -1,6 +1,6 @@
 -- The equalities that the contracts of crate `numbering` state: r is the answer, and x' what a lent x holds afterwards.
 -- Made by tools/surface from the source.
-use Rattle.std.specs.Prelude.{◌≡◌, List, ℕ}
+use Rattle.std.specs.Prelude.{List, ℕ, ◌≡◌}
 use Rattle.numbering.specs.Carried.{carry_answer, carry_table}
 use Rattle.numbering.specs.Renumber.{renumber_of}
 use Rattle.numbering.specs.declared.CarryAnswer.{CarryAnswer}

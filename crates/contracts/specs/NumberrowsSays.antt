@@ -1,6 +1,6 @@
 -- The equalities that the contracts of crate `numberrows` state: r is the answer, and x' what a lent x holds afterwards.
 -- Made by tools/surface from the source.
-use Rattle.std.specs.Prelude.{◌≡◌, Bool, List, ℕ}
+use Rattle.std.specs.Prelude.{Bool, List, ℕ, ◌≡◌}
 use Rattle.laws.specs.Bits.{bit_in}
 use Rattle.numberrows.specs.Numbers.{moved_by, moved_rows, numbers_of}
 use Rattle.numberrows.specs.Words.{close_in}

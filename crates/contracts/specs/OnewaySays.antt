@@ -1,6 +1,6 @@
 -- The equalities that the contracts of crate `oneway` state: r is the answer, and x' what a lent x holds afterwards.
 -- Made by tools/surface from the source.
-use Rattle.std.specs.Prelude.{◌≡◌, Bool, List, ℕ}
+use Rattle.std.specs.Prelude.{Bool, List, ℕ, ◌≡◌}
 use Rattle.checker.specs.declared.CheckAnswer.{CheckAnswer}
 use Rattle.oneway.specs.TwoWay.{is_valid, two_way, unseen_in}
 use Rattle.site.specs.declared.Site.{Site}

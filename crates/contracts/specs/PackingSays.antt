@@ -1,6 +1,6 @@
 -- The equalities that the contracts of crate `packing` state: r is the answer, and x' what a lent x holds afterwards.
 -- Made by tools/surface from the source.
-use Rattle.std.specs.Prelude.{◌≡◌, List, ℕ}
+use Rattle.std.specs.Prelude.{List, ℕ, ◌≡◌}
 use Rattle.laws.specs.Part.{list_of}
 use Rattle.packing.specs.Packed.{in_row}
 use Rattle.positions.specs.Blocked.{word_in}

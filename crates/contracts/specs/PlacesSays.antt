@@ -1,6 +1,6 @@
 -- The equalities that the contracts of crate `places` state: r is the answer, and x' what a lent x holds afterwards.
 -- Made by tools/surface from the source.
-use Rattle.std.specs.Prelude.{◌≡◌, List, ◌+◌, ℕ, length}
+use Rattle.std.specs.Prelude.{List, length, ℕ, ◌+◌, ◌≡◌}
 use Rattle.phrases.specs.Phrases.{phrase}
 use Rattle.phrases.specs.declared.Phrase.TheVariants.{Row}
 use Rattle.places.specs.Lines.{spread_head_row, spread_lines}

@@ -1,6 +1,6 @@
 -- The equalities that the contracts of crate `planfile` state: r is the answer, and x' what a lent x holds afterwards.
 -- Made by tools/surface from the source.
-use Rattle.std.specs.Prelude.{◌≡◌, List, ℕ}
+use Rattle.std.specs.Prelude.{List, ℕ, ◌≡◌}
 use Rattle.planfile.specs.Read.{plan_table_read, read_plan}
 use Rattle.planfile.specs.Write.{plan_out, plan_written}
 use Rattle.planfile.specs.declared.PlanRead.{PlanRead}
@@ -10,7 +10,7 @@ use Rattle.site.specs.declared.Site.{Site}
 -- planfile::read_plan
 pub record ReadPlan (bytes : List ℕ) (table : List ℕ) (r : PlanRead) (table' : List ℕ) : Type 0 where
   pub answer : r ≡ read_plan bytes table
-  pub table_after_holds : table' ≡ plan_table_read bytes table
+  pub table_after : table' ≡ plan_table_read bytes table
 
 -- planfile::write_plan
 pub record WritePlan (site : Site) (table : List ℕ) (out : List ℕ) (r : PlanWritten) (out' : List ℕ) : Type 0 where

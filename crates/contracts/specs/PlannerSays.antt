@@ -1,6 +1,6 @@
 -- The equalities that the contracts of crate `planner` state: r is the answer, and x' what a lent x holds afterwards.
 -- Made by tools/surface from the source.
-use Rattle.std.specs.Prelude.{◌≡◌, List, ℕ}
+use Rattle.std.specs.Prelude.{List, ℕ, ◌≡◌}
 use Rattle.planner.specs.Plan.{plan_answer, plan_table}
 use Rattle.planner.specs.declared.PlanAnswer.{PlanAnswer}
 use Rattle.site.specs.declared.Site.{Site}
@@ -8,4 +8,4 @@ use Rattle.site.specs.declared.Site.{Site}
 -- planner::plan
 pub record Plan (site : Site) (table : List ℕ) (r : PlanAnswer) (table' : List ℕ) : Type 0 where
   pub answer : r ≡ plan_answer site table
-  pub table_after_holds : table' ≡ plan_table site table
+  pub table_after : table' ≡ plan_table site table

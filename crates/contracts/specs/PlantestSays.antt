@@ -1,6 +1,6 @@
 -- The equalities that the contracts of crate `plantest` state: r is the answer, and x' what a lent x holds afterwards.
 -- Made by tools/surface from the source.
-use Rattle.std.specs.Prelude.{◌≡◌, Bool, List, ◌*◌, ℕ}
+use Rattle.std.specs.Prelude.{Bool, List, ℕ, ◌*◌, ◌≡◌}
 use Rattle.site.specs.Reach.{is_open, net_by}
 use Rattle.theory.specs.Plan.{is_plan}
 

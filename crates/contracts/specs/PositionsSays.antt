@@ -1,6 +1,6 @@
 -- The equalities that the contracts of crate `positions` state: r is the answer, and x' what a lent x holds afterwards.
 -- Made by tools/surface from the source.
-use Rattle.std.specs.Prelude.{◌≡◌, Bool, not, List, ◌^◌, ℕ, length}
+use Rattle.std.specs.Prelude.{Bool, List, length, not, ℕ, ◌^◌, ◌≡◌}
 use Rattle.laws.specs.Bits.{bit_at}
 use Rattle.laws.specs.Choice.{pick}
 use Rattle.laws.specs.Part.{list_of}
@@ -23,7 +23,7 @@ pub record PositionsIsBlocked (set : List ℕ) (k : ℕ) (r : Bool) : Type 0 whe
 pub record PositionsOpenCount (set : List ℕ) (n : ℕ) (r : ℕ) : Type 0 where
   pub answer : r ≡ open_in set n
 
--- positions::first_past-law
+-- positions::first_past
 pub record PositionsFirstPast (set : List ℕ) (n : ℕ) (r : ℕ) : Type 0 where
   pub answer : r ≡ first_past set n
 

@@ -1,6 +1,6 @@
 -- The equalities that the contracts of crate `reachpairs` state: r is the answer, and x' what a lent x holds afterwards.
 -- Made by tools/surface from the source.
-use Rattle.std.specs.Prelude.{◌≡◌, List, ℕ, length}
+use Rattle.std.specs.Prelude.{List, length, ℕ, ◌≡◌}
 use Rattle.reachpairs.specs.Loop.{reach_read}
 use Rattle.reachpairs.specs.Pairs.{pair_bytes}
 use Rattle.records.specs.declared.ReadAnswer.{ReadAnswer}

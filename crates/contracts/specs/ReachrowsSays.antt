@@ -1,6 +1,6 @@
 -- The equalities that the contracts of crate `reachrows` state: r is the answer, and x' what a lent x holds afterwards.
 -- Made by tools/surface from the source.
-use Rattle.std.specs.Prelude.{◌≡◌, Bool, List, ℕ, ltb, get_or, replicate}
+use Rattle.std.specs.Prelude.{Bool, List, get_or, ltb, replicate, ℕ, ◌≡◌}
 use Rattle.laws.specs.Bits.{clear_bit, set_bit, word_of}
 use Rattle.laws.specs.Choice.{pick}
 use Rattle.laws.specs.Part.{list_of}

@@ -1,6 +1,6 @@
 -- The equalities that the contracts of crate `records` state: r is the answer, and x' what a lent x holds afterwards.
 -- Made by tools/surface from the source.
-use Rattle.std.specs.Prelude.{◌≡◌, Bool, List, [], ◌∷◌, ℕ}
+use Rattle.std.specs.Prelude.{Bool, List, [], ℕ, ◌∷◌, ◌≡◌}
 use Rattle.records.specs.Bits.{left_over}
 use Rattle.records.specs.Bytes.{le16, two_bytes_each}
 use Rattle.records.specs.Head.{head_answer, head_record}
@@ -26,7 +26,7 @@ pub record RecordsOpenedAnswer (o : Opened) (r : ReadAnswer) : Type 0 where
 pub record RecordsHeadAnswer (s : List ℕ) (r : ReadAnswer) : Type 0 where
   pub answer : r ≡ head_answer s
 
--- records::left_over-law
+-- records::left_over
 pub record RecordsLeftOver (body : List ℕ) (n : ℕ) (r : Bool) : Type 0 where
   pub answer : r ≡ left_over body n
 

@@ -1,6 +1,6 @@
 -- The equalities that the contracts of crate `resize` state: r is the answer, and x' what a lent x holds afterwards.
 -- Made by tools/surface from the source.
-use Rattle.std.specs.Prelude.{◌≡◌, List, ℕ}
+use Rattle.std.specs.Prelude.{List, ℕ, ◌≡◌}
 use Rattle.resize.specs.Others.{set_blocked_of, set_rule_of}
 use Rattle.resize.specs.Sizes.{set_channels_of, set_slots_of}
 use Rattle.site.specs.declared.Edited.{Edited}

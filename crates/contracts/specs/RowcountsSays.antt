@@ -1,6 +1,6 @@
 -- The equalities that the contracts of crate `rowcounts` state: r is the answer, and x' what a lent x holds afterwards.
 -- Made by tools/surface from the source.
-use Rattle.std.specs.Prelude.{◌≡◌, List, ℕ}
+use Rattle.std.specs.Prelude.{List, ℕ, ◌≡◌}
 use Rattle.laws.specs.Sum.{count}
 use Rattle.rowcounts.specs.Counts.{load_net}
 use Rattle.theory.specs.Greedy.{reserved}

@@ -1,6 +1,6 @@
 -- The equalities that the contracts of crate `rows` state: r is the answer, and x' what a lent x holds afterwards.
 -- Made by tools/surface from the source.
-use Rattle.std.specs.Prelude.{◌≡◌, List, ◌*◌, ℕ, eqb, length, replicate, take}
+use Rattle.std.specs.Prelude.{List, eqb, length, replicate, take, ℕ, ◌*◌, ◌≡◌}
 use Rattle.laws.specs.Choice.{pick}
 use Rattle.laws.specs.Part.{list_of, part, put}
 use Rattle.rows.specs.Bars.{lifted}
@@ -20,7 +20,7 @@ pub record RowsMarkByte (earlier : ℕ) (byte : ℕ) (r : ℕ) : Type 0 where
 
 -- rows::forbid_row
 pub record RowsForbidRow (table : List ℕ) (n : ℕ) (j : ℕ) (i : ℕ) (start : ℕ) (end : ℕ) (table' : List ℕ) : Type 0 where
-  pub table_after_holds : table' ≡ put (i * n) n (forbid (part (j * n) n table) (part (i * n) n table)) table
+  pub table_after : table' ≡ put (i * n) n (forbid (part (j * n) n table) (part (i * n) n table)) table
 
 -- rows::cover
 pub record RowsCover (earlier : ℕ) (byte : ℕ) (r : ℕ) : Type 0 where
@@ -28,7 +28,7 @@ pub record RowsCover (earlier : ℕ) (byte : ℕ) (r : ℕ) : Type 0 where
 
 -- rows::cover_row
 pub record RowsCoverRow (table : List ℕ) (n : ℕ) (j : ℕ) (i : ℕ) (table' : List ℕ) : Type 0 where
-  pub table_after_holds : table' ≡ put (i * n) n (list_of (cover_at n table j i) n) table
+  pub table_after : table' ≡ put (i * n) n (list_of (cover_at n table j i) n) table
 
 -- rows::clear
 pub record RowsClear (bytes : List ℕ) (bytes' : List ℕ) : Type 0 where

@@ -1,6 +1,6 @@
 -- The equalities that the contracts of crate `say_audit` state: r is the answer, and x' what a lent x holds afterwards.
 -- Made by tools/surface from the source.
-use Rattle.std.specs.Prelude.{◌≡◌, Bool, List, ◌+◌, ℕ, length}
+use Rattle.std.specs.Prelude.{Bool, List, length, ℕ, ◌+◌, ◌≡◌}
 use Rattle.auditing.specs.declared.Extent.{Extent}
 use Rattle.auditing.specs.declared.Form.{Form}
 use Rattle.checker.specs.declared.CheckAnswer.{CheckAnswer}

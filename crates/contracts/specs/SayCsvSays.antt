@@ -1,6 +1,6 @@
 -- The equalities that the contracts of crate `say_csv` state: r is the answer, and x' what a lent x holds afterwards.
 -- Made by tools/surface from the source.
-use Rattle.std.specs.Prelude.{◌≡◌, List, ◌+◌, ℕ, length}
+use Rattle.std.specs.Prelude.{List, length, ℕ, ◌+◌, ◌≡◌}
 use Rattle.auditing.specs.declared.Extent.{Extent}
 use Rattle.auditing.specs.declared.Form.{Form}
 use Rattle.finder.specs.declared.FindAnswer.{FindAnswer}

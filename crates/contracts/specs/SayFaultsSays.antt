@@ -1,6 +1,6 @@
 -- The equalities that the contracts of crate `say_faults` state: r is the answer, and x' what a lent x holds afterwards.
 -- Made by tools/surface from the source.
-use Rattle.std.specs.Prelude.{◌≡◌, Bool, List, ◌+◌, ℕ, length}
+use Rattle.std.specs.Prelude.{Bool, List, length, ℕ, ◌+◌, ◌≡◌}
 use Rattle.say_faults.specs.Said.{judgeable, piece_said, things_said}
 use Rattle.say_faults.specs.declared.Piece.{Piece}
 use Rattle.site.specs.declared.Site.{Site}

@@ -1,6 +1,6 @@
 -- The equalities that the contracts of crate `say_find` state: r is the answer, and x' what a lent x holds afterwards.
 -- Made by tools/surface from the source.
-use Rattle.std.specs.Prelude.{◌≡◌, List, ◌+◌, ℕ, length}
+use Rattle.std.specs.Prelude.{List, length, ℕ, ◌+◌, ◌≡◌}
 use Rattle.finder.specs.Find.{find_answer, find_table}
 use Rattle.finder.specs.declared.FindAnswer.{FindAnswer}
 use Rattle.finds.specs.Find.{find_said, last_line, status_of, why_tries}
@@ -26,7 +26,7 @@ pub record SayFindPutLastLine (out : List ℕ) (at : ℕ) (reply : FindAnswer) (
 -- say_find::find_why
 pub record SayFindFindWhy (site : Site) (table : List ℕ) (r : FindAnswer) (table' : List ℕ) : Type 0 where
   pub answer : r ≡ find_answer site why_tries table
-  pub table_after_holds : table' ≡ find_table site why_tries table
+  pub table_after : table' ≡ find_table site why_tries table
 
 -- say_find::status
 pub record SayFindStatus (reply : FindAnswer) (r : ℕ) : Type 0 where

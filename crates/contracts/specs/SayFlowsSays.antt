@@ -1,6 +1,6 @@
 -- The equalities that the contracts of crate `say_flows` state: r is the answer, and x' what a lent x holds afterwards.
 -- Made by tools/surface from the source.
-use Rattle.std.specs.Prelude.{◌≡◌, List, ◌+◌, ℕ, get_or, length}
+use Rattle.std.specs.Prelude.{List, get_or, length, ℕ, ◌+◌, ◌≡◌}
 use Rattle.admission.specs.declared.AdmitAnswer.{AdmitAnswer}
 use Rattle.admission.specs.declared.BesideAnswer.{BesideAnswer}
 use Rattle.flowlist.specs.List.{zero_flow}

@@ -1,6 +1,6 @@
 -- The equalities that the contracts of crate `say_flowsheet` state: r is the answer, and x' what a lent x holds afterwards.
 -- Made by tools/surface from the source.
-use Rattle.std.specs.Prelude.{◌≡◌, List, ◌+◌, ℕ, length}
+use Rattle.std.specs.Prelude.{List, length, ℕ, ◌+◌, ◌≡◌}
 use Rattle.flowsheet.specs.declared.FlowsAnswer.{FlowsAnswer}
 use Rattle.say_flowsheet.specs.Said.{flow_sheet_said}
 use Rattle.std.proofs.lemmas.List.Edits.{sets}

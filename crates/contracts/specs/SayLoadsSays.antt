@@ -1,12 +1,12 @@
 -- The equalities that the contracts of crate `say_loads` state: r is the answer, and x' what a lent x holds afterwards.
 -- Made by tools/surface from the source.
-use Rattle.std.specs.Prelude.{◌≡◌, List, ◌+◌, ℕ, length}
+use Rattle.std.specs.Prelude.{List, length, ℕ, ◌+◌, ◌≡◌}
 use Rattle.drawing.specs.Loads.{bar_said, bar_scale, load_lines, room_line}
 use Rattle.phrases.specs.Phrases.{phrase}
 use Rattle.site.specs.Reach.{net_of}
 use Rattle.site.specs.declared.Site.{Site}
-use Rattle.theory.specs.Net.{room}
 use Rattle.std.proofs.lemmas.List.Edits.{sets}
+use Rattle.theory.specs.Net.{room}
 
 -- say_loads::open_slots
 pub record SayLoadsOpenSlots (site : Site) (r : ℕ) : Type 0 where

@@ -1,6 +1,6 @@
 -- The equalities that the contracts of crate `say_numbering` state: r is the answer, and x' what a lent x holds afterwards.
 -- Made by tools/surface from the source.
-use Rattle.std.specs.Prelude.{◌≡◌, List, ◌+◌, ℕ, length}
+use Rattle.std.specs.Prelude.{List, length, ℕ, ◌+◌, ◌≡◌}
 use Rattle.numbering.specs.declared.CarryAnswer.{CarryAnswer}
 use Rattle.numbering.specs.declared.RenumberAnswer.{RenumberAnswer}
 use Rattle.say_numbering.specs.Anew.{anew_said}

@@ -1,6 +1,6 @@
 -- The equalities that the contracts of crate `say_range` state: r is the answer, and x' what a lent x holds afterwards.
 -- Made by tools/surface from the source.
-use Rattle.std.specs.Prelude.{◌≡◌, List, ◌+◌, ℕ, length}
+use Rattle.std.specs.Prelude.{List, length, ℕ, ◌+◌, ◌≡◌}
 use Rattle.drawing.specs.Range.{cell_at, cell_step, circle_lines, circle_phrase, lines_of, ring_phrase}
 use Rattle.phrases.specs.Phrases.{phrase}
 use Rattle.site.specs.declared.Site.{Site}

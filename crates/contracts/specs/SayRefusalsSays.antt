@@ -1,6 +1,6 @@
 -- The equalities that the contracts of crate `say_refusals` state: r is the answer, and x' what a lent x holds afterwards.
 -- Made by tools/surface from the source.
-use Rattle.std.specs.Prelude.{◌≡◌, List, ◌+◌, ℕ, length}
+use Rattle.std.specs.Prelude.{List, length, ℕ, ◌+◌, ◌≡◌}
 use Rattle.say_refusals.specs.Said.{refused_line}
 use Rattle.say_refusals.specs.Sentences.{sentence_in}
 use Rattle.say_refusals.specs.declared.Place.{Place}

@@ -1,6 +1,6 @@
 -- The equalities that the contracts of crate `say_room` state: r is the answer, and x' what a lent x holds afterwards.
 -- Made by tools/surface from the source.
-use Rattle.std.specs.Prelude.{◌≡◌, List, ◌+◌, ℕ, length}
+use Rattle.std.specs.Prelude.{List, length, ℕ, ◌+◌, ◌≡◌}
 use Rattle.finder.specs.declared.FindAnswer.{FindAnswer}
 use Rattle.phrases.specs.Phrases.{phrase}
 use Rattle.say_room.specs.Lines.{room_lines}

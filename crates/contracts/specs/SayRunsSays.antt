@@ -1,6 +1,6 @@
 -- The equalities that the contracts of crate `say_runs` state: r is the answer, and x' what a lent x holds afterwards.
 -- Made by tools/surface from the source.
-use Rattle.std.specs.Prelude.{◌≡◌, Bool, List, ◌+◌, ℕ, length}
+use Rattle.std.specs.Prelude.{Bool, List, length, ℕ, ◌+◌, ◌≡◌}
 use Rattle.say_runs.specs.Runs.{run_before}
 use Rattle.say_runs.specs.Said.{runs_said}
 use Rattle.std.proofs.lemmas.List.Edits.{sets}

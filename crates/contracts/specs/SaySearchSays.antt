@@ -1,6 +1,6 @@
 -- The equalities that the contracts of crate `say_search` state: r is the answer, and x' what a lent x holds afterwards.
 -- Made by tools/surface from the source.
-use Rattle.std.specs.Prelude.{◌≡◌, List, ◌+◌, ℕ, length}
+use Rattle.std.specs.Prelude.{List, length, ℕ, ◌+◌, ◌≡◌}
 use Rattle.phrases.specs.declared.Phrase.{Phrase}
 use Rattle.say_search.specs.Said.{on_said, search_said, tries_phrase}
 use Rattle.search.specs.declared.SearchAnswer.{SearchAnswer}

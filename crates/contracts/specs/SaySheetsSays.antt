@@ -1,11 +1,11 @@
 -- The equalities that the contracts of crate `say_sheets` state: r is the answer, and x' what a lent x holds afterwards.
 -- Made by tools/surface from the source.
-use Rattle.std.specs.Prelude.{◌≡◌, List, ◌+◌, ℕ, length}
+use Rattle.std.specs.Prelude.{List, length, ℕ, ◌+◌, ◌≡◌}
 use Rattle.say_sheets.specs.Said.{made_said, sheet_refused_said, tidy_said}
 use Rattle.sheet.specs.declared.SheetAnswer.{SheetAnswer}
 use Rattle.site.specs.declared.Site.{Site}
-use Rattle.tidying.specs.declared.TidyAnswer.{TidyAnswer}
 use Rattle.std.proofs.lemmas.List.Edits.{sets}
+use Rattle.tidying.specs.declared.TidyAnswer.{TidyAnswer}
 
 -- say_sheets::put_sheet_refused
 pub record SaySheetsPutSheetRefused (out : List ℕ) (at : ℕ) (sheet : List ℕ) (reply : SheetAnswer) (r : ℕ) (out' : List ℕ) : Type 0 where

@@ -1,6 +1,6 @@
 -- The equalities that the contracts of crate `say_slots` state: r is the answer, and x' what a lent x holds afterwards.
 -- Made by tools/surface from the source.
-use Rattle.std.specs.Prelude.{◌≡◌, List, ◌+◌, ℕ, length}
+use Rattle.std.specs.Prelude.{List, length, ℕ, ◌+◌, ◌≡◌}
 use Rattle.drawing.specs.Lines.{band_lines}
 use Rattle.drawing.specs.Places.{channel_high, lesser, slot_wide}
 use Rattle.drawing.specs.Slots.{edge_phrase, every_slot, frame_phrase, marks_of_kind, name_phrase, slot_numbers}

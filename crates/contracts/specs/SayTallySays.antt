@@ -1,6 +1,6 @@
 -- The equalities that the contracts of crate `say_tally` state: r is the answer, and x' what a lent x holds afterwards.
 -- Made by tools/surface from the source.
-use Rattle.std.specs.Prelude.{◌≡◌, Bool, List, ◌+◌, ℕ, length}
+use Rattle.std.specs.Prelude.{Bool, List, length, ℕ, ◌+◌, ◌≡◌}
 use Rattle.checker.specs.declared.CheckAnswer.{CheckAnswer}
 use Rattle.finder.specs.declared.FindAnswer.{FindAnswer}
 use Rattle.say_tally.specs.Marks.{mark_of, refused_mark, verdict_said}

@@ -1,6 +1,6 @@
 -- The equalities that the contracts of crate `say_verdicts` state: r is the answer, and x' what a lent x holds afterwards.
 -- Made by tools/surface from the source.
-use Rattle.std.specs.Prelude.{◌≡◌, List, ◌+◌, ℕ, length}
+use Rattle.std.specs.Prelude.{List, length, ℕ, ◌+◌, ◌≡◌}
 use Rattle.checker.specs.declared.CheckAnswer.{CheckAnswer}
 use Rattle.mender.specs.declared.MendAnswer.{MendAnswer}
 use Rattle.planner.specs.declared.PlanAnswer.{PlanAnswer}
@@ -9,9 +9,9 @@ use Rattle.shares.specs.declared.ShareAnswer.{ShareAnswer}
 use Rattle.sheet.specs.declared.SheetAnswer.{SheetAnswer}
 use Rattle.site.specs.declared.Fault.{Fault}
 use Rattle.site.specs.declared.Site.{Site}
+use Rattle.std.proofs.lemmas.List.Edits.{sets}
 use Rattle.verdicts.specs.Said.{bad_list_line, check_said, fault_said, mend_said, other_plan_line, plan_said, read_said, repeats_line, share_said, sheet_said}
 use Rattle.verdicts.specs.declared.File.{File}
-use Rattle.std.proofs.lemmas.List.Edits.{sets}
 
 -- say_verdicts::put_fault
 pub record SayVerdictsPutFault (out : List ℕ) (at : ℕ) (reply : Fault) (r : ℕ) (out' : List ℕ) : Type 0 where

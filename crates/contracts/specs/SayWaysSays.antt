@@ -1,6 +1,6 @@
 -- The equalities that the contracts of crate `say_ways` state: r is the answer, and x' what a lent x holds afterwards.
 -- Made by tools/surface from the source.
-use Rattle.std.specs.Prelude.{◌≡◌, ℕ}
+use Rattle.std.specs.Prelude.{ℕ, ◌≡◌}
 use Rattle.say_refusals.specs.declared.Sentence.{Sentence}
 use Rattle.site.specs.declared.Site.{Site}
 use Rattle.verdicts.specs.Said.{changes_sentence, clash_sentence}

@@ -1,11 +1,11 @@
 -- The equalities that the contracts of crate `say_why` state: r is the answer, and x' what a lent x holds afterwards.
 -- Made by tools/surface from the source.
-use Rattle.std.specs.Prelude.{◌≡◌, List, ◌+◌, ℕ, length}
+use Rattle.std.specs.Prelude.{List, length, ℕ, ◌+◌, ◌≡◌}
 use Rattle.judges.specs.declared.LeastAnswer.{LeastAnswer}
 use Rattle.planner.specs.Plan.{plan_table}
 use Rattle.site.specs.declared.Site.{Site}
-use Rattle.why.specs.Said.{fewest, least_number, why_said}
 use Rattle.std.proofs.lemmas.List.Edits.{sets}
+use Rattle.why.specs.Said.{fewest, least_number, why_said}
 
 -- say_why::least_number
 pub record SayWhyLeastNumber (reply : LeastAnswer) (r : ℕ) : Type 0 where
@@ -19,4 +19,4 @@ pub record SayWhyFewest (n : ℕ) (f : ℕ) (r : ℕ) : Type 0 where
 pub record SayWhyPutWhy (site : Site) (table : List ℕ) (out : List ℕ) (r : ℕ) (table' : List ℕ) (out' : List ℕ) : Type 0 where
   pub answer : r ≡ 0 + length (why_said site table)
   pub out_after : out' ≡ sets out 0 (why_said site table)
-  pub table_after_holds : table' ≡ plan_table site table
+  pub table_after : table' ≡ plan_table site table

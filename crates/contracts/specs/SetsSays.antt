@@ -1,6 +1,6 @@
 -- The equalities that the contracts of crate `sets` state: r is the answer, and x' what a lent x holds afterwards.
 -- Made by tools/surface from the source.
-use Rattle.std.specs.Prelude.{◌≡◌, ◌&&◌, ◌||◌, not, List, ◌*◌, ◌+◌, ◌-◌, ℕ, ltb, get_or}
+use Rattle.std.specs.Prelude.{List, get_or, ltb, not, ℕ, ◌&&◌, ◌*◌, ◌+◌, ◌-◌, ◌||◌, ◌≡◌}
 use Rattle.laws.specs.Choice.{pick}
 use Rattle.laws.specs.Few.{first_few}
 use Rattle.laws.specs.Part.{list_of}

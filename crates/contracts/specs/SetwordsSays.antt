@@ -1,6 +1,6 @@
 -- The equalities that the contracts of crate `setwords` state: r is the answer, and x' what a lent x holds afterwards.
 -- Made by tools/surface from the source.
-use Rattle.std.specs.Prelude.{◌≡◌, ◌&&◌, ◌||◌, not, ℕ, ltb}
+use Rattle.std.specs.Prelude.{ltb, not, ℕ, ◌&&◌, ◌||◌, ◌≡◌}
 use Rattle.laws.specs.Bits.{bit_at, word_of}
 use Rattle.laws.specs.Choice.{pick}
 use Rattle.laws.specs.Few.{first_few}

@@ -1,6 +1,6 @@
 -- The equalities that the contracts of crate `sheet` state: r is the answer, and x' what a lent x holds afterwards.
 -- Made by tools/surface from the source.
-use Rattle.std.specs.Prelude.{◌≡◌, List, ℕ}
+use Rattle.std.specs.Prelude.{List, ℕ, ◌≡◌}
 use Rattle.records.specs.declared.Written.{Written}
 use Rattle.sheet.specs.Read.{read_sheet}
 use Rattle.sheet.specs.Write.{sheet_out, sheet_written}

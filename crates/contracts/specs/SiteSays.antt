@@ -1,6 +1,6 @@
 -- The equalities that the contracts of crate `site` state: r is the answer, and x' what a lent x holds afterwards.
 -- Made by tools/surface from the source.
-use Rattle.std.specs.Prelude.{◌≡◌, Bool, List, ℕ}
+use Rattle.std.specs.Prelude.{Bool, List, ℕ, ◌≡◌}
 use Rattle.site.specs.Edit.{clear_reach_of, set_load_of, set_reach_of}
 use Rattle.site.specs.Reach.{clash_answer, clash_rows}
 use Rattle.site.specs.Record.{fault_of, rule_ok, size_ok, up_to, zero_site}

@@ -1,6 +1,6 @@
 -- The equalities that the contracts of crate `sitehead` state: r is the answer, and x' what a lent x holds afterwards.
 -- Made by tools/surface from the source.
-use Rattle.std.specs.Prelude.{◌≡◌, List, ℕ}
+use Rattle.std.specs.Prelude.{List, ℕ, ◌≡◌}
 use Rattle.records.specs.declared.ReadAnswer.{ReadAnswer}
 use Rattle.sitehead.specs.Head.{head_length, rule_of_head, site_head, site_head_answer}
 use Rattle.std.proofs.lemmas.List.Edits.{sets}

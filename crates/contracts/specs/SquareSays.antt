@@ -1,6 +1,6 @@
 -- The equalities that the contracts of crate `square` state: r is the answer, and x' what a lent x holds afterwards.
 -- Made by tools/surface from the source.
-use Rattle.std.specs.Prelude.{◌≡◌, List, ◌*◌, ◌+◌, ◌-◌, ◌^◌, ℕ}
+use Rattle.std.specs.Prelude.{List, ℕ, ◌*◌, ◌+◌, ◌-◌, ◌^◌, ◌≡◌}
 use Rattle.laws.specs.Bits.{bit_at, word_of}
 use Rattle.square.specs.Turned.{turned, turned_fours}
 

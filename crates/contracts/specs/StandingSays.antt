@@ -1,6 +1,6 @@
 -- The equalities that the contracts of crate `standing` state: r is the answer, and x' what a lent x holds afterwards.
 -- Made by tools/surface from the source.
-use Rattle.std.specs.Prelude.{◌≡◌, List, ℕ}
+use Rattle.std.specs.Prelude.{List, ℕ, ◌≡◌}
 use Rattle.standing.specs.Stand.{stood_by}
 use Rattle.standing.specs.Turns.{packed_rows, turned_by}
 use Rattle.standing.specs.declared.Stood.{Stood}

@@ -1,6 +1,6 @@
 -- The equalities that the contracts of crate `stretches` state: r is the answer, and x' what a lent x holds afterwards.
 -- Made by tools/surface from the source.
-use Rattle.std.specs.Prelude.{◌≡◌, List, ◌++◌, ℕ, drop}
+use Rattle.std.specs.Prelude.{List, drop, ℕ, ◌++◌, ◌≡◌}
 use Rattle.planner.specs.Plan.{answer_of}
 use Rattle.planner.specs.declared.PlanAnswer.{PlanAnswer}
 use Rattle.site.specs.Reach.{is_open, net_by}

@@ -1,6 +1,6 @@
 -- The equalities that the contracts of crate `tidying` state: r is the answer, and x' what a lent x holds afterwards.
 -- Made by tools/surface from the source.
-use Rattle.std.specs.Prelude.{◌≡◌, List, ℕ}
+use Rattle.std.specs.Prelude.{List, ℕ, ◌≡◌}
 use Rattle.cleaning.specs.Clean.{changes_of}
 use Rattle.cleaning.specs.declared.Tidied.{Tidied}
 use Rattle.tidying.specs.Tidy.{tidy_answer, tidy_out}

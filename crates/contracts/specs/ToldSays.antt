@@ -1,6 +1,6 @@
 -- The equalities that the contracts of crate `told` state: r is the answer, and x' what a lent x holds afterwards.
 -- Made by tools/surface from the source.
-use Rattle.std.specs.Prelude.{◌≡◌, ℕ}
+use Rattle.std.specs.Prelude.{ℕ, ◌≡◌}
 use Rattle.admission.specs.Given.{admit_given, beside_given}
 use Rattle.admission.specs.declared.AdmitAnswer.{AdmitAnswer}
 use Rattle.admission.specs.declared.BesideAnswer.{BesideAnswer}

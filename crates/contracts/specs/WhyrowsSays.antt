@@ -1,6 +1,6 @@
 -- The equalities that the contracts of crate `whyrows` state: r is the answer, and x' what a lent x holds afterwards.
 -- Made by tools/surface from the source.
-use Rattle.std.specs.Prelude.{◌≡◌, ℕ, ltb}
+use Rattle.std.specs.Prelude.{ltb, ℕ, ◌≡◌}
 use Rattle.judges.specs.declared.ChainAnswer.{ChainAnswer}
 use Rattle.laws.specs.Choice.{pick}
 use Rattle.phrases.specs.declared.Phrase.{Phrase}

@@ -1,13 +1,13 @@
 -- The equalities that the contracts of crate `words` state: r is the answer, and x' what a lent x holds afterwards.
 -- Made by tools/surface from the source.
-use Rattle.std.specs.Prelude.{◌≡◌, Bool, ◌&&◌, not, List, ℕ}
+use Rattle.std.specs.Prelude.{Bool, List, not, ℕ, ◌&&◌, ◌≡◌}
 use Rattle.laws.specs.Bits.{bit_at, word_of}
 use Rattle.laws.specs.Part.{list_of}
 use Rattle.laws.specs.Search.{first}
+use Rattle.std.proofs.lemmas.List.Edits.{sets}
 use Rattle.theory.specs.Greedy.{reserved}
 use Rattle.words.specs.Clashes.{first_in, second_in}
 use Rattle.words.specs.Words.{joined_row, marked_row, word_at}
-use Rattle.std.proofs.lemmas.List.Edits.{sets}
 
 -- words::lay
 pub record WordsLay (words : List ℕ) (from : ℕ) (m : ℕ) (word : ℕ) (words' : List ℕ) : Type 0 where

@@ -1,6 +1,6 @@
 -- The equalities that the contracts of crate `wordtable` state: r is the answer, and x' what a lent x holds afterwards.
 -- Made by tools/surface from the source.
-use Rattle.std.specs.Prelude.{◌≡◌, List, ℕ}
+use Rattle.std.specs.Prelude.{List, ℕ, ◌≡◌}
 use Rattle.checker.specs.declared.CheckAnswer.{CheckAnswer}
 use Rattle.planner.specs.declared.PlanAnswer.{PlanAnswer}
 use Rattle.site.specs.declared.Site.{Site}
@@ -26,4 +26,4 @@ pub record ToWords (site : Site) (table : List ℕ) (words : List ℕ) (r : Form
 -- wordtable::to_bytes
 pub record ToBytes (site : Site) (words : List ℕ) (table : List ℕ) (r : FormAnswer) (table' : List ℕ) : Type 0 where
   pub answer : r ≡ form_answer site table words
-  pub table_after_holds : table' ≡ to_bytes site words table
+  pub table_after : table' ≡ to_bytes site words table

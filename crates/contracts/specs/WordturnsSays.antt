@@ -1,6 +1,6 @@
 -- The equalities that the contracts of crate `wordturns` state: r is the answer, and x' what a lent x holds afterwards.
 -- Made by tools/surface from the source.
-use Rattle.std.specs.Prelude.{◌≡◌, ◌&&◌, not, List, ℕ}
+use Rattle.std.specs.Prelude.{List, not, ℕ, ◌&&◌, ◌≡◌}
 use Rattle.laws.specs.Bits.{bit_at, bit_in, word_of}
 use Rattle.laws.specs.Sum.{any}
 use Rattle.wordturns.specs.Turn.{word_here, word_moves, word_short}

@@ -21,7 +21,8 @@ use Rattle.demanded.specs.Numbers.{done_with, refused}
 use Rattle.demanded.proofs.Numbers.{no-room-number, over-number, broken-number, outside-number, blocked-number, clash-number, count-number}
 
 -- "If not, it names the lowest cell that is over and by how much."
-pub over-names : (s : Site) (cell m : ℕ) → load_given (load_answer s) ≡ done_with (cell ∷ m ∷ []) → (i : ℕ) × (cell ≡ i + 1) × FirstOver (net_of s) (counted s) i m
+pub over-names : (s : Site) (cell m : ℕ) → load_given (load_answer s) ≡ done_with (cell ∷ m ∷ []) → (i : ℕ) × (cell ≡ i + 1) × FirstOver (net_of s)
+    (counted s) i m
 over-names s cell m e = (over-means s cell m (over-number s cell m e)).1
 
 -- "If not chained, the judge names the first triple a, b, c in rising order of a, then c, then b."

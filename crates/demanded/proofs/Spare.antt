@@ -86,7 +86,8 @@ module _ (p : ℕ) (s t : Site) (put : SpareIn p s t) where
   -- a number of the new site: the spare cell's, or that of one of the others
   moved_in : (cell : ℕ) → UpTo s.cells cell → UpTo t.cells (moved p cell)
   moved_in cell u =
-      ⊎_elim (λ x. (omega (arith, x, u), omega (arith, x, u, put.one_more))) (λ x. (omega (arith, x, u), omega (arith, x, u, put.one_more))) (moved_at-law p cell)
+      ⊎_elim (λ x. (omega (arith, x, u), omega (arith, x, u, put.one_more))) (λ x. (omega (arith, x, u), omega (arith, x, u, put.one_more)))
+      (moved_at-law p cell)
 
   moved-from : (x : ℕ) → UpTo t.cells x → (x ≡ p + 1) ⊎ ((y : ℕ) × UpTo s.cells y × (x ≡ moved p y))
   moved-from x u =

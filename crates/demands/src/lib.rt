@@ -1,4 +1,6 @@
 // The demands of a site's cells, over the loads, the clash rows and the word of the cells that count: the first that is over, and the greatest.
+#![tactic(auto)]
+
 ghost use Rattle.std.specs.Prelude.{◌≡◌, ◌≤◌, ◌<◌, get_or};
 ghost use Rattle.laws.specs.Most.{most};
 ghost use Rattle.laws.specs.Search.{first};

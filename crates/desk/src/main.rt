@@ -1,20 +1,19 @@
 // The desk's program, run by the script `duggfrask`, whose head says how the two speak: argument 1 is the command, 2 and 3 are the names of its inputs,
-// and its numbers follow, and a list; the first input is on standard input, the second on descriptor 4, the third on 6.
+// and its numbers follow, and a list; and `infiles` where its inputs are.
 // What it says and writes is made by proved functions over slices; here it is only read and written, by way of `reply`.
 //
 // Every buffer has 65,536 bytes: the table of the largest site has as many, 32 cells by 2,048 positions.
 // What is said at once has far fewer, and so has every good input. Of a longer one only the first 65,536 bytes are read, and they are refused.
+#![tactic(auto)]
+
 ghost use Rattle.std.specs.Prelude.{◌≤◌, length};
 
-use infiles::SECOND;
-use libc::STDIN_FILENO;
+use infiles::{FIRST, SECOND, THIRD, read_input};
 use reply::no;
-
-// The descriptor of the third input.
-const THIRD: i32 = 6;
 
 // The commands that say what is in a plan, and write none; whether it is one of them.
 fn seen_asked(
+    rt: &HostRuntime,
     input: &[u8],
     second: &[u8],
     third: &[u8],
@@ -24,17 +23,18 @@ fn seen_asked(
 ) -> bool
     requires { 65536 ≤ length text.old }
 {
-    if showdesk::show::show_commands(input, second, table, text) {
+    if showdesk::show::show_commands(rt, input, second, table, text) {
         return true;
     }
-    if showdesk::picture::picture_commands(input, second, table, text) {
+    if showdesk::picture::picture_commands(rt, input, second, table, text) {
         return true;
     }
-    showdesk::list::list_commands(input, second, third, old, table, text)
+    showdesk::list::list_commands(rt, input, second, third, old, table, text)
 }
 
 // The commands that look at a plan; whether it is one of them.
 fn plan_asked(
+    rt: &HostRuntime,
     input: &[u8],
     second: &[u8],
     third: &[u8],
@@ -45,50 +45,58 @@ fn plan_asked(
 ) -> bool
     requires { 65536 ≤ length text.old }
 {
-    if seen_asked(input, second, third, old, table, text) {
+    if seen_asked(rt, input, second, third, old, table, text) {
         return true;
     }
-    if plandesk::plan::plan_commands(input, second, old, table, out, text) {
+    if plandesk::plan::plan_commands(rt, input, second, old, table, out, text) {
         return true;
     }
-    plandesk::number::number_commands(input, second, old, table, out, text)
+    plandesk::number::number_commands(rt, input, second, old, table, out, text)
 }
 
 // The commands that look at a site or a sheet alone; whether it is one of them.
-fn site_asked(input: &[u8], table: &mut [u8], out: &mut [u8], text: &mut [u8]) -> bool
+fn site_asked(
+    rt: &HostRuntime,
+    input: &[u8],
+    table: &mut [u8],
+    out: &mut [u8],
+    text: &mut [u8],
+) -> bool
     requires in_bounds { 65536 ≤ length table.old }
     requires in_bounds_2 { 65536 ≤ length text.old }
 {
-    if plandesk::find::find_commands(input, table, out, text) {
+    if plandesk::find::find_commands(rt, input, table, out, text) {
         return true;
     }
-    if plandesk::room::room_commands(input, table, text) {
+    if plandesk::room::room_commands(rt, input, table, text) {
         return true;
     }
-    if sitedesk::sheets::sheet_commands(input, out, text) {
+    if sitedesk::sheets::sheet_commands(rt, input, out, text) {
         return true;
     }
-    sitedesk::set::set_commands(input, out, text)
+    sitedesk::set::set_commands(rt, input, out, text)
 }
 
 // The commands on flows, on all sites at once, and the parts of a report; whether it is one of them.
-fn text_asked(input: &[u8], second: &[u8], text: &mut [u8]) -> bool
+fn text_asked(rt: &HostRuntime, input: &[u8], second: &[u8], ended: bool, text: &mut [u8]) -> bool
     requires in_bounds { 65536 ≤ length text.old }
     requires input_len_bound { length input.now ≤ 65536 }
 {
-    if sitedesk::flow::flow_commands(input, second, text) {
+    if sitedesk::flow::flow_commands(rt, input, second, ended, text) {
         return true;
     }
-    if auditdesk::audit_commands(input, text) {
+    if auditdesk::audit_commands(rt, input, text) {
         return true;
     }
-    showdesk::report::report_commands(input, text)
+    showdesk::report::report_commands(rt, input, text)
 }
 
-// Does what the command says: each module of the desk's crates knows its own commands.
+// Does what the command says: each module of the desk's crates knows its own commands. `ended` is whether the second input was read to its end.
 fn answer(
+    rt: &HostRuntime,
     input: &[u8],
     second: &[u8],
+    ended: bool,
     third: &[u8],
     old: &mut [u8],
     table: &mut [u8],
@@ -99,34 +107,36 @@ fn answer(
     requires in_bounds_2 { 65536 ≤ length text.old }
     requires input_len_bound { length input.now ≤ 65536 }
 {
-    if site_asked(input, table, out, text) {
+    if site_asked(rt, input, table, out, text) {
         return;
     }
-    if text_asked(input, second, text) {
+    if text_asked(rt, input, second, ended, text) {
         return;
     }
-    if plan_asked(input, second, third, old, table, out, text) {
+    if plan_asked(rt, input, second, third, old, table, out, text) {
         return;
     }
-    no(b"duggfrask: there is no such command\n", 36);
+    no(rt, b"duggfrask: there is no such command\n", 36);
 }
 
 // Reads the inputs, and answers.
-fn main() {
-    let mut input = io::large_buffer();
-    let n = io::read_full(STDIN_FILENO, &mut input);
-    let mut second = io::large_buffer();
-    let m = io::read_full(SECOND, &mut second);
-    let mut third = io::large_buffer();
-    let l = io::read_full(THIRD, &mut third);
-    let mut table = io::large_buffer();
-    let mut old = io::large_buffer();
-    let mut out = io::large_buffer();
-    let mut text = io::large_buffer();
+fn main(rt: HostRuntime) {
+    let mut input = [0u8; 65536];
+    let first = read_input(&rt, FIRST, true, &mut input);
+    let mut second = [0u8; 65536];
+    let next = read_input(&rt, SECOND, first.own, &mut second);
+    let mut third = [0u8; 65536];
+    let last = read_input(&rt, THIRD, first.own & next.own, &mut third);
+    let mut table = [0u8; 65536];
+    let mut old = [0u8; 65536];
+    let mut out = [0u8; 65536];
+    let mut text = [0u8; 65536];
     answer(
-        &input[..n],
-        &second[..m],
-        &third[..l],
+        &rt,
+        &input[..first.size],
+        &second[..next.size],
+        next.ended,
+        &third[..last.size],
         &mut old,
         &mut table,
         &mut out,

@@ -9,7 +9,8 @@ use Rattle.laws.specs.Part.{part, put, list_of}
 use Rattle.theory.specs.Greedy.{forbid, marked, fill, unmet, run}
 use Rattle.theory.specs.Verdict.{overloaded, lowest_over, load_verdict, most_demand, gap, breaks, break_of, first_break, chain_verdict}
 use Rattle.theory.specs.Verdict.{second, splits, split_of, first_split, class_verdict}
-use Rattle.theory.specs.Verdict.{holder_at, barred_at, lowest_barred, second_at, clashes_at, first_at, lowest_clash, wrong_in, lowest_wrong, open_verdict, table_verdict}
+use Rattle.theory.specs.Verdict.{holder_at, barred_at, lowest_barred, second_at, clashes_at, first_at, lowest_clash, wrong_in, lowest_wrong, open_verdict}
+use Rattle.theory.specs.Verdict.{table_verdict}
 use Rattle.site.specs.Record.{up_to, size_ok, rule_ok, row_bad, extra_load, bad_row, fault_of}
 use Rattle.site.specs.declared.Fault.TheVariants.{Fine, Size, Rule, Load, Reach, Blocked}
 use Rattle.site.specs.Reach.{reaches, reached_by_both, clash_in}
@@ -134,23 +135,27 @@ air-faults = (
 
 rules : Answered desk_rules
 unfolding with_zeros first_of sum any part list_of forbid marked fill unmet run reaches clash_in overloaded lowest_over load_verdict load_answer gap breaks
-    break_of first_break chain_verdict chain_answer holder_at barred_at lowest_barred second_at clashes_at first_at lowest_clash wrong_in lowest_wrong open_verdict
+    break_of first_break chain_verdict chain_answer holder_at barred_at lowest_barred second_at clashes_at first_at lowest_clash wrong_in lowest_wrong
+    open_verdict
     table_verdict verdict_of check_answer plan_answer plan_table
 rules = rw (faults.0, faults.1, faults.2, faults.3, faults.4, faults.5, faults.6, faults.7, faults.8, faults.9, faults.10) refl
 
 least : Answered desk_least
-unfolding with_zeros first_of sum most reaches clash_in gap breaks break_of first_break chain_verdict chain_answer second splits split_of first_split class_verdict
+unfolding with_zeros first_of sum most reaches clash_in gap breaks break_of first_break chain_verdict chain_answer second splits split_of first_split
+    class_verdict
     most_demand least_answer
 least = rw (faults.0, faults.1, faults.2, faults.3, faults.6, faults.7, faults.11) refl
 
 nested : Answered desk_nested
 unfolding with_zeros first_of sum any part list_of forbid marked fill unmet run most reaches clash_in overloaded lowest_over load_verdict load_answer gap breaks
-    break_of first_break chain_verdict chain_answer second splits split_of first_split class_verdict class_answer most_demand least_answer plan_answer plan_table
+    break_of first_break chain_verdict chain_answer second splits split_of first_split class_verdict class_answer most_demand least_answer plan_answer
+    plan_table
 nested = rw (faults.21, faults.0, faults.3, faults.5, faults.4) refl
 
 words : Answered desk_words
 unfolding with_zeros first_of sum any part list_of forbid marked fill unmet run reaches clash_in holder_at barred_at lowest_barred second_at clashes_at first_at
-    lowest_clash wrong_in lowest_wrong open_verdict table_verdict verdict_of word_of bytes_of plan_words_answer plan_words check_words_answer form_answer to_words
+    lowest_clash wrong_in lowest_wrong open_verdict table_verdict verdict_of word_of bytes_of plan_words_answer plan_words check_words_answer form_answer
+    to_words
     to_bytes
 words = rw (faults.0, faults.2) refl
 
@@ -161,20 +166,25 @@ mended = rw (faults.0, faults.12, faults.5) refl
 
 blocked : Answered desk_blocked
 unfolding with_zeros first_of sum any part list_of forbid marked fill unmet run reaches clash_in overloaded lowest_over load_verdict load_answer gap breaks
-    break_of first_break chain_verdict chain_answer second splits split_of first_split class_verdict most most_demand least_answer holder_at barred_at lowest_barred
+    break_of first_break chain_verdict chain_answer second splits split_of first_split class_verdict most most_demand least_answer holder_at barred_at
+    lowest_barred
     second_at clashes_at first_at lowest_clash
-    wrong_in lowest_wrong open_verdict table_verdict verdict_of check_answer plan_answer plan_table word_of plan_words_answer plan_words check_words_answer stand
+    wrong_in lowest_wrong open_verdict table_verdict verdict_of check_answer plan_answer plan_table word_of plan_words_answer plan_words check_words_answer
+    stand
     overlay cell_changes changes mend_answer mend_table mend_list
 blocked = rw (faults.14, faults.15, faults.16, faults.17, faults.18, faults.19, faults.20) refl
 
 renumbered : Answered desk_numbered
-unfolding with_zeros first_of sum any part put list_of forbid marked fill unmet run reaches clash_in holder_at barred_at lowest_barred second_at clashes_at first_at
-    lowest_clash wrong_in lowest_wrong open_verdict table_verdict verdict_of check_answer plan_answer plan_table word_of last missing odd fit give_numbers numbering
+unfolding with_zeros first_of sum any part put list_of forbid marked fill unmet run reaches clash_in holder_at barred_at lowest_barred second_at clashes_at
+    first_at
+    lowest_clash wrong_in lowest_wrong open_verdict table_verdict verdict_of check_answer plan_answer plan_table word_of last missing odd fit give_numbers
+    numbering
     carried moved_by moved_rows numbering_of moved_site renumber_of carry_answer carry_table
 renumbered = rw (faults.0, faults.5, faults.7, faults.13, faults.22, faults.23) refl
 
 edge : Answered desk_edge
-unfolding with_zeros first_of sum any part put list_of forbid marked fill unmet run reaches reached_by_both clash_in overloaded lowest_over load_verdict load_answer
+unfolding with_zeros first_of sum any part put list_of forbid marked fill unmet run reaches reached_by_both clash_in overloaded lowest_over load_verdict
+    load_answer
     gap breaks break_of first_break chain_verdict chain_answer second splits split_of first_split class_verdict most most_demand least_answer holder_at
     barred_at lowest_barred second_at clashes_at first_at lowest_clash wrong_in lowest_wrong open_verdict table_verdict verdict_of plan_answer plan_table
     word_of plan_words_answer plan_words check_words_answer stand overlay cell_changes changes mend_answer mend_table mend_list best_of mutual_in heaviest_in
@@ -182,9 +192,11 @@ unfolding with_zeros first_of sum any part put list_of forbid marked fill unmet 
 edge = rw (air-faults.0, air-faults.1) refl
 
 ruled : Answered desk_ruled
-unfolding with_zeros first_of sum any part put list_of forbid marked fill unmet run reaches reached_by_both clash_in overloaded lowest_over load_verdict load_answer
+unfolding with_zeros first_of sum any part put list_of forbid marked fill unmet run reaches reached_by_both clash_in overloaded lowest_over load_verdict
+    load_answer
     gap breaks break_of first_break chain_verdict chain_answer second splits split_of first_split class_verdict class_answer holder_at barred_at lowest_barred
-    second_at clashes_at first_at lowest_clash wrong_in lowest_wrong open_verdict table_verdict verdict_of check_answer plan_answer plan_table word_of last missing odd
+    second_at clashes_at first_at lowest_clash wrong_in lowest_wrong open_verdict table_verdict verdict_of check_answer plan_answer plan_table word_of last
+    missing odd
     fit give_numbers numbering moved_by moved_rows numbering_of moved_site renumber_of
 ruled =
     let f = air-faults in

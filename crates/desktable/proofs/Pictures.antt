@@ -74,7 +74,8 @@ places-third = refl
 
 -- its cell 5 in channel 2: it keeps clear, sends, keeps clear and sends, a slot each, so no two of them are one mark. In channel 1 it keeps clear throughout
 runs-apart :
-    run_marks (edge_site 2) edge_table sends_mark 4 1 4 ∷ run_marks (edge_site 2) edge_table clear_mark 4 1 4 ∷ run_marks (edge_site 2) edge_table clear_mark 4 0 4 ∷ []
+    run_marks (edge_site 2) edge_table sends_mark 4 1 4 ∷ run_marks (edge_site 2) edge_table clear_mark 4 1 4 ∷ run_marks
+    (edge_site 2) edge_table clear_mark 4 0 4 ∷ []
     ≡ ((566 ∷ 1270 ∷ 416 ∷ 48 ∷ []) ∷ (1398 ∷ 1270 ∷ 416 ∷ 48 ∷ []) ∷ []) ∷ ((150 ∷ 1270 ∷ 416 ∷ 48 ∷ []) ∷ (982 ∷ 1270 ∷ 416 ∷ 48 ∷ []) ∷ [])
     ∷ ((150 ∷ 1222 ∷ 1664 ∷ 48 ∷ []) ∷ []) ∷ []
 unfolding with_zeros first_of in_turn any reaches reached_by_both clash_in slot_wide channel_high meets marked_as run_begins run_past
@@ -88,7 +89,8 @@ band-said : band_said P1 P1plan 1
     ++ (bytes "<rect x=\"982\" y=\"946\" width=\"416\" height=\"48\"/>\n"
     ++ (bytes "<path class=\"edge\" d=\"M150 946h1248v48h-1248z\"/>\n"
     ++ (bytes "<path class=\"grid\" d=\"M150 898h1248v96h-1248z\"/>\n" ++ bytes "<text class=\"end\" x=\"140\" y=\"955\">cell 2</text>\n")))))
-unfolding with_zeros first_of in_turn any reaches clash_in decimal digits_of spoken slot_wide channel_high mark_lines band_lines meets marked_as run_begins run_past
+unfolding with_zeros first_of in_turn any reaches clash_in decimal digits_of spoken slot_wide channel_high mark_lines band_lines meets marked_as run_begins
+    run_past
 band-said = refl
 
 -- the numbers over the slots of P1; and at 128 slots each eighth has one

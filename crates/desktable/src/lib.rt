@@ -1,1 +1,2 @@
 // The examples of the desk table stand in specs/ and proofs/.
+#![tactic(auto)]

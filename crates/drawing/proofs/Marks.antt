@@ -85,7 +85,8 @@ module _ (s : Site) (t : List ℕ) (sizes : Sized s) where
       → Gives tail (kind mark i channel) (run_marks s t mark i channel s.slots)
   runs-read tail mark own i channel l m =
       gives-joined tail _ _ s.slots (λ slot k.
-      own (across_of s slot) (down_of s i channel) ((run_past s t mark i channel slot - slot) * slot_wide s) (channel_high s) (run_begins s t mark i channel slot)
+      own (across_of s slot) (down_of s i channel) ((run_past s t mark i channel slot - slot) * slot_wide s) (channel_high s)
+      (run_begins s t mark i channel slot)
       (omega (arith, across-most s sizes slot (omega arith)))
       (omega (arith, down-most s sizes i channel l m))
       (omega (arith, across-most s sizes (run_past s t mark i channel slot - slot) (omega (arith, past-most mark i channel slot k))))

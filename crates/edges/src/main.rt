@@ -1,58 +1,46 @@
 // The planner at its edges. P1 and P2 on a table of 24 bytes, of which the last six are not the site's and hold 7; then the largest site on a table of
 // 65,536 bytes and of one byte less, and sites of 33 cells, 129 slots and 17 channels.
-use libc::STDOUT_FILENO;
+#![tactic(auto)]
+
 use planner::PlanAnswer;
 use site::{Fault, Site};
+use std::io::Print;
+
+// A part of the output.
+fn put(rt: &HostRuntime, text: &[u8]) {
+    let _ = rt.write_all(text);
+}
 
 // A fault's number.
-fn refused(f: Fault) {
+fn refused(rt: &HostRuntime, f: Fault) {
     match f {
-        Fault::Fine => {
-            io::write_all(STDOUT_FILENO, b"0");
-        }
-        Fault::Size => {
-            io::write_all(STDOUT_FILENO, b"1");
-        }
-        Fault::Rule => {
-            io::write_all(STDOUT_FILENO, b"24");
-        }
-        Fault::Load(_) => {
-            io::write_all(STDOUT_FILENO, b"2");
-        }
-        Fault::Reach(_) => {
-            io::write_all(STDOUT_FILENO, b"3");
-        }
-        Fault::Blocked(_) => {
-            io::write_all(STDOUT_FILENO, b"20");
-        }
+        Fault::Fine => put(rt, b"0"),
+        Fault::Size => put(rt, b"1"),
+        Fault::Rule => put(rt, b"24"),
+        Fault::Load(_) => put(rt, b"2"),
+        Fault::Reach(_) => put(rt, b"3"),
+        Fault::Blocked(_) => put(rt, b"20"),
     }
 }
 
 // The cell that no room was found for, and how many fragments it is short.
-fn short(cell: usize, fragments: usize) {
-    io::write_all(STDOUT_FILENO, b"5 ");
-    io::print_decimal(STDOUT_FILENO, cell as u64);
-    io::write_all(STDOUT_FILENO, b" ");
-    io::print_decimal(STDOUT_FILENO, fragments as u64);
+fn short(rt: &HostRuntime, cell: usize, fragments: usize) {
+    let _ = print!(rt; "5 {cell} {fragments}");
 }
 
 // The answer's number and values, and a line feed.
-fn say(a: PlanAnswer) {
+fn say(rt: &HostRuntime, a: PlanAnswer) {
     match a {
-        PlanAnswer::Done => {
-            io::write_all(STDOUT_FILENO, b"0");
-        }
-        PlanAnswer::TableShort => {
-            io::write_all(STDOUT_FILENO, b"4");
-        }
-        PlanAnswer::NoRoom(cell, fragments) => short(cell, fragments),
-        PlanAnswer::Refused(f) => refused(f),
+        PlanAnswer::Done => put(rt, b"0"),
+        PlanAnswer::TableShort => put(rt, b"4"),
+        PlanAnswer::NoRoom(cell, fragments) => short(rt, cell, fragments),
+        PlanAnswer::Refused(f) => refused(rt, f),
     }
-    io::write_all(STDOUT_FILENO, b"\n");
+    put(rt, b"\n");
 }
 
 // The first 24 bytes of a table, a digit each.
-fn show(table: &[u8]) {
+fn show(rt: &HostRuntime, table: &[u8]) {
     let mut text = [0u8; 25];
     for i in 0..24 {
         if i < table.len() {
@@ -60,7 +48,7 @@ fn show(table: &[u8]) {
         }
     }
     text[24] = 10;
-    io::write_all(STDOUT_FILENO, &text);
+    put(rt, &text);
 }
 
 // P1, with another load in cell 2.
@@ -89,35 +77,35 @@ fn sized(cells: u16, slots: u16, channels: u16) -> Site {
 }
 
 // P1 and P2, one after the other on one table.
-fn desk_runs() {
+fn desk_runs(rt: &HostRuntime) {
     let mut table = [7u8; 24];
-    say(planner::plan(desk(1), &mut table));
-    show(&table);
-    say(planner::plan(desk(2), &mut table));
-    show(&table);
+    say(rt, planner::plan(desk(1), &mut table));
+    show(rt, &table);
+    say(rt, planner::plan(desk(2), &mut table));
+    show(rt, &table);
 }
 
 // The largest site on all but the last byte of a table.
-fn one_less(table: &mut [u8]) {
+fn one_less(rt: &HostRuntime, table: &mut [u8]) {
     if table.len() == 0 {
         return;
     }
     let end = table.len() - 1;
-    say(planner::plan(sized(32, 128, 16), &mut table[..end]));
+    say(rt, planner::plan(sized(32, 128, 16), &mut table[..end]));
 }
 
 // A site of this size on the whole table.
-fn whole(table: &mut [u8], cells: u16, slots: u16, channels: u16) {
-    say(planner::plan(sized(cells, slots, channels), table));
+fn whole(rt: &HostRuntime, table: &mut [u8], cells: u16, slots: u16, channels: u16) {
+    say(rt, planner::plan(sized(cells, slots, channels), table));
 }
 
 // Every run, one line for each answer.
-fn main() {
-    desk_runs();
-    let mut table = io::large_buffer();
-    whole(&mut table, 32, 128, 16);
-    one_less(&mut table);
-    whole(&mut table, 33, 128, 16);
-    whole(&mut table, 32, 129, 16);
-    whole(&mut table, 32, 128, 17);
+fn main(rt: HostRuntime) {
+    desk_runs(&rt);
+    let mut table = [0u8; 65536];
+    whole(&rt, &mut table, 32, 128, 16);
+    one_less(&rt, &mut table);
+    whole(&rt, &mut table, 33, 128, 16);
+    whole(&rt, &mut table, 32, 129, 16);
+    whole(&rt, &mut table, 32, 128, 17);
 }

@@ -16,7 +16,8 @@ use Rattle.lines.specs.Content.{number_read}
 use Rattle.lines.proofs.Match.{starts_is, lost}
 use Rattle.lines.proofs.Steps.{eaten-there}
 use Rattle.lines.proofs.Decimals.{number-accepted}
-use Rattle.editlist.specs.Format.{load_word, reach_word, clear_word, blocked_word, rule_word, slots_word, channels_word, none_word, equals_mark, dash_mark, largest}
+use Rattle.editlist.specs.Format.{load_word, reach_word, clear_word, blocked_word, rule_word, slots_word, channels_word, none_word, equals_mark, dash_mark}
+use Rattle.editlist.specs.Format.{largest}
 use Rattle.editlist.specs.Format.{edit_name, edit_value, edit_fits}
 use Rattle.editlist.specs.Read.{is_text, kind_of, one_read, two_read, when, load_read, reach_typed, clear_read, list_read, rule_read, slots_read, channels_read}
 use Rattle.editlist.specs.Read.{value_read, read_edit}

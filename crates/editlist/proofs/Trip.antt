@@ -3,7 +3,7 @@
 use Prim.Native.Nat.{ℕ, ◌+◌, ◌*◌, ◌-◌, ◌≤◌}
 use mathlib.Core.Bool.{Bool, true, false, ◌&&◌}
 use mathlib.Core.List.{List, [], ◌∷◌, ◌++◌, append-nil}
-use mathlib.Core.Path.{◌≡◌, refl, sym, ap, ◌∙◌}
+use mathlib.Core.Path.{◌≡◌, refl, sym, ◌∙◌}
 use native.Mathlib.Omega.{arith}
 use borrow.Author.Tests.{le-leb, leb-true, eq-eqb}
 use lib.Dec.{ltb, leb}
@@ -16,7 +16,8 @@ use Rattle.lines.specs.Content.{more, scanned, number_read}
 use Rattle.lines.proofs.Numbers.{scanned-end}
 use Rattle.blocklist.proofs.Sides.{after_text, eaten-yes, number_at}
 use Rattle.editlist.specs.Format.{equals_mark, dash_mark, largest, edit_name, edit_value, edit_fits}
-use Rattle.editlist.specs.Read.{is_text, kind_of, one_read, two_read, load_read, reach_typed, clear_read, list_read, rule_read, slots_read, channels_read, read_edit}
+use Rattle.editlist.specs.Read.{is_text, kind_of, one_read, two_read, load_read, reach_typed, clear_read, list_read, rule_read, slots_read, channels_read}
+use Rattle.editlist.specs.Read.{read_edit}
 use Rattle.editlist.specs.declared.Edit.{Edit}
 use Rattle.editlist.specs.declared.Edit.TheVariants.{SetLoad, SetReach, ClearReach, SetRule, SetSlots, SetChannels, Unblock}
 use Rattle.editlist.specs.declared.EditRead.TheVariants.{Done}

@@ -1,9 +1,10 @@
 -- What two words read as, of any bytes at all. A word is read from its first byte, and it is good where it ends with what was read.
-use Rattle.std.specs.Prelude.{ℕ, Bool, true, false, List, [], ◌∷◌, leb, eqb, length}
+use Rattle.std.specs.Prelude.{ℕ, Bool, false, List, [], ◌∷◌, leb, eqb, length}
 use Rattle.laws.specs.Choice.{pick}
 use Rattle.lines.specs.Match.{eaten}
 use Rattle.lines.specs.Content.{number_read}
-use Rattle.editlist.specs.Format.{load_word, reach_word, clear_word, blocked_word, rule_word, slots_word, channels_word, none_word, equals_mark, dash_mark, largest}
+use Rattle.editlist.specs.Format.{load_word, reach_word, clear_word, blocked_word, rule_word, slots_word, channels_word, none_word, equals_mark, dash_mark}
+use Rattle.editlist.specs.Format.{largest}
 use Rattle.editlist.specs.declared.Kind.{Kind}
 use Rattle.editlist.specs.declared.Kind.TheVariants.{Unknown, OfLoad, OfReach, OfClear, OfBlocked, OfRule, OfSlots, OfChannels}
 use Rattle.editlist.specs.declared.Edit.{Edit}

@@ -1,5 +1,7 @@
 // An edit of a site as it is typed, two words: `load 2=12`, `reach 1-2`, `clear 1-2`, `rule 2`, `slots 9`, `channels 3`, `blocked none`; and what it makes of
 // a site. The list of `blocked LIST` is read by crate `blocklist`, with the sizes that the site has by then.
+#![tactic(auto)]
+
 ghost use Rattle.std.specs.Prelude.{◌≡◌};
 ghost use Rattle.editlist.specs.Read.{is_text, kind_of, one_read, two_read, when, load_read, reach_typed, clear_read, list_read, rule_read, slots_read};
 ghost use Rattle.editlist.specs.Read.{channels_read, value_read, read_edit};
@@ -17,7 +19,7 @@ const DASH: u8 = 45;
 const LARGEST: usize = 65535;
 
 // The kinds of edits, by their names.
-#[derive(Drop)]
+#[derive(Clone, Copy)]
 pub enum Kind {
     Unknown,
     OfLoad,
@@ -30,7 +32,7 @@ pub enum Kind {
 }
 
 // One edit, but for a list.
-#[derive(Drop)]
+#[derive(Clone, Copy)]
 pub enum Edit {
     SetLoad(usize, u16),
     SetReach(usize, usize),
@@ -42,7 +44,7 @@ pub enum Edit {
 }
 
 // What two words are: an edit; `blocked` with a list; words whose first is the name of no edit; an edit's name with a word that it does not take.
-#[derive(Drop)]
+#[derive(Clone, Copy)]
 pub enum EditRead {
     Done(Edit),
     Listed,
@@ -51,14 +53,14 @@ pub enum EditRead {
 }
 
 // A number, where it is all of a word.
-#[derive(Drop)]
+#[derive(Clone, Copy)]
 struct One {
     pub value: u16,
     pub good: bool,
 }
 
 // Two numbers with a mark between, where they are all of a word.
-#[derive(Drop)]
+#[derive(Clone, Copy)]
 struct Two {
     pub first: usize,
     pub second: usize,

@@ -63,7 +63,8 @@ module _ (a b c d : ℕ) where
   one_told e =
       let s = no_second a b e in
       let two : (between 194 a 224 && is_second a b) ≡ false = second-no (between 194 a 224) _ s in
-      let three : (between 224 a 240 && (is_second a b && is_third a b c)) ≡ false = second-no (between 224 a 240) _ (ap (λ (x : Bool). x && is_third a b c) s) in
+      let three : (between 224 a 240 && (is_second a b && is_third a b c)) ≡ false = second-no (between 224 a 240) _
+      (ap (λ (x : Bool). x && is_third a b c) s) in
       let four : (between 240 a 245 && (is_second a b && (is_tail c && is_tail d))) ≡ false =
       second-no (between 240 a 245) _ (ap (λ (x : Bool). x && (is_tail c && is_tail d)) s) in
       rw (two, three, four)
@@ -211,7 +212,8 @@ module _ (text u : List ℕ) where
       (⊎_elim
       (λ r. rw r
       (⊎_elim
-      (λ q. rw q (⊎_elim (λ p. rw p (at-end l p q r)) (λ p. rw p (at_byte (length text - 3) (omega arith) p)) (cases (is_tail (get_or text (length text - 3) 0)))))
+      (λ q. rw q (⊎_elim (λ p. rw p (at-end l p q r)) (λ p. rw p (at_byte (length text - 3) (omega arith) p))
+      (cases (is_tail (get_or text (length text - 3) 0)))))
       (λ q. rw q (at_byte (length text - 2) (omega arith) q)) (cases (is_tail (get_or text (length text - 2) 0)))))
       (λ r. rw r (at_byte (length text - 1) (omega arith) r)) (cases (is_tail (get_or text (length text - 1) 0)))))
       (cases (ltb (length text) 3))

@@ -1,4 +1,6 @@
 // A text as text of a page, written into a lent buffer: what is in no letter is a ?, and what a page would take for markup is a reference.
+#![tactic(auto)]
+
 ghost use Rattle.std.specs.Prelude.{◌≡◌, [], ◌∷◌, ◌+◌, ◌*◌, ◌-◌, ◌≤◌, length, get_or, eqb};
 ghost use Rattle.laws.specs.Choice.{pick};
 ghost use Rattle.phrases.specs.Put.{Put};

@@ -1,9 +1,9 @@
 -- The faults of a table, computed. Three cells, two positions, the second blocked; 1 and 2 clash, and 2 and 3; loads 1, 1, 0; everyone is reserved everywhere.
 -- Assumes nothing.
 use mathlib.Core.Path.{◌≡◌, refl}
-use mathlib.Core.Bool.{Bool, true}
+use mathlib.Core.Bool.{true}
 use mathlib.Core.List.{[], ◌∷◌}
-use Prim.Native.Nat.{ℕ, ◌+◌, ◌-◌, ◌/◌}
+use Prim.Native.Nat.{◌+◌, ◌-◌, ◌/◌}
 use lib.Dec.{eqb}
 use Rattle.laws.specs.Sum.{sum}
 use Rattle.theory.specs.Net.{Net}

@@ -75,7 +75,8 @@ module _ (s : Net) (res : Reserved) where
           true≢false (sym (both_is _ _ z.1 z.0) ∙ first-before (λ c. s.clash a c && res c k) (a + 1) s.cells c (omega arith) q)) in
           true≢false (sym (both_is _ _ y.0 (lt-ltb (second_at s res k a) s.cells (omega arith))) ∙ e))
 
-  with-front : (k a : ℕ) → a < s.cells → clashes_at s res k a ≡ true → (d : TableVerdict) → front_or d (clashes_with s res k a) ≡ clash k a (second_at s res k a)
+  with-front : (k a : ℕ) → a < s.cells → clashes_at s res k a ≡ true → (d : TableVerdict) → front_or d (clashes_with s res k a) ≡ clash k a
+      (second_at s res k a)
   unfolding clashes_at
   with-front k a l e d =
       let x = both (res a k) (ltb (second_at s res k a) s.cells) e in

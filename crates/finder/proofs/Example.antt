@@ -57,8 +57,10 @@ found =
     ∷ find_answer five 18 (lent five) ∷ find_answer five 17 (lent five) ∷ []
 
 find-answers : found ≡ Greedy ∷ Renumbered ∷ Full 5 ∷ Searched 13 ∷ NotKnown 12 ∷ FullSearched 18 ∷ NotKnown 17 ∷ []
-unfolding two p4 full six five site lent first_of sum any part list_of forbid marked fill run best_of taken_by after_tries or_next look_at onward seek opens_from
-    fragments_from word_of up_to size_ok rule_ok row_bad extra_load bad_row extra_blocked fault_of reaches clash_in last missing odd fit give_numbers numbering mutual_in
+unfolding two p4 full six five site lent first_of sum any part list_of forbid marked fill run best_of taken_by after_tries or_next look_at onward seek
+    opens_from
+    fragments_from word_of up_to size_ok rule_ok row_bad extra_load bad_row extra_blocked fault_of reaches clash_in last missing odd fit give_numbers numbering
+    mutual_in
     heaviest_in found_else found_of find_answer
 find-answers = refl
 
@@ -70,14 +72,17 @@ find-tables :
     ∷ (replicate 10 0 ++ 9 ∷ [])
     ∷ []
 unfolding p4 full six five site lent first_of sum any part list_of forbid marked fill run best_of taken_by after_tries or_next look_at onward seek opens_from
-    fragments_from word_of up_to size_ok rule_ok row_bad extra_load bad_row extra_blocked fault_of reaches clash_in last missing odd fit give_numbers numbering mutual_in
+    fragments_from word_of up_to size_ok rule_ok row_bad extra_load bad_row extra_blocked fault_of reaches clash_in last missing odd fit give_numbers numbering
+    mutual_in
     heaviest_in lay_out bytes_of found_else found_of find_table
 find-tables = refl
 
 -- cells 1 and 3, and 2 and 3, clash; 1 and 2 do not; cell 3 alone has room; cell 4 is not the site's, and adds nothing to the load of 1 and 3
 abbrev sets : List OverFullAnswer
-sets = over_full_answer full 5 ∷ over_full_answer full 6 ∷ over_full_answer full 7 ∷ over_full_answer full 4 ∷ over_full_answer full 13 ∷ over_full_answer full 0 ∷ []
+sets = over_full_answer full 5 ∷ over_full_answer full 6 ∷ over_full_answer full 7 ∷ over_full_answer full 4 ∷ over_full_answer full 13
+    ∷ over_full_answer full 0 ∷ []
 
 over-answers : sets ≡ over.Over 2 ∷ over.Over 2 ∷ over.Within 3 ∷ over.Within 1 ∷ over.Within 2 ∷ over.Within 0 ∷ []
-unfolding full site first_of sum any word_of up_to size_ok rule_ok row_bad extra_load bad_row extra_blocked fault_of reaches clash_in mutual_in over_full over_full_answer
+unfolding full site first_of sum any word_of up_to size_ok rule_ok row_bad extra_load bad_row extra_blocked fault_of reaches clash_in mutual_in over_full
+    over_full_answer
 over-answers = refl

@@ -166,7 +166,8 @@ module _ (s : Site) (limit : ℕ) (t : List ℕ) where
   laid-long : (qs : List Spot) → length (lay_out (positions s) qs (replicate (size s) 0)) ≡ size s
   laid-long qs = lay-length (positions s) qs (replicate (size s) 0) ∙ length-replicate {A = ℕ} (size s) 0
 
-  plan-of : (x : Found) → FoundMeans (net_of s) limit x → is_plan (finding_answer limit x) ≡ true → Valid (net_of s) (reserved (positions s) (finding_leaves s x t))
+  plan-of : (x : Found) → FoundMeans (net_of s) limit x → is_plan (finding_answer limit x) ≡ true → Valid (net_of s)
+      (reserved (positions s) (finding_leaves s x t))
   plan-of (greedily p) m h =
       valid-agree (net_of s) (reserved (positions s) p) (reserved (positions s) (p ++ drop (size s) t))
       (λ i k l w. kept (positions s) p (drop (size s) t) s.cells (planned-size (net_of s) p m.0) i k l w) m.1
@@ -251,7 +252,8 @@ module _ (s : Site) (limit : ℕ) (t : List ℕ) where
   -- ---- not known
 
   abbrev NotFound : ℕ → Type 0
-  NotFound n = NoNumbering (net_of s) × NoneOver (net_of s) × (((n ≡ limit) × (limit < tries_of (search_of (net_of s)))) ⊎ ((n ≡ 0) × (too_large (net_of s) ≡ true)))
+  NotFound n = NoNumbering (net_of s) × NoneOver (net_of s) ×
+      (((n ≡ limit) × (limit < tries_of (search_of (net_of s)))) ⊎ ((n ≡ 0) × (too_large (net_of s) ≡ true)))
 
   unknown-of : (n : ℕ) (x : Found) → FoundMeans (net_of s) limit x → finding_answer limit x ≡ NotKnown n → NotFound n
   unknown-of n (greedily p) m h = absurd (let z : ◌≡◌ {A = ℕ} 0 1 = cc in omega arith)
@@ -402,7 +404,8 @@ module _ (s : Site) (limit : ℕ) (t : List ℕ) where
   pub not_written : is_verdict (find_answer s limit t) ≡ false → find_table s limit t ≡ t
   unfolding find_answer find_table
   not_written h =
-      not-wrote limit (is_fine (fault_of s)) (ltb (length t) (size s)) (found_of (net_of s) limit) (fault_of s) t _ h (all-verdicts limit (found_of (net_of s) limit))
+      not-wrote limit (is_fine (fault_of s)) (ltb (length t) (size s)) (found_of (net_of s) limit) (fault_of s) t _ h
+      (all-verdicts limit (found_of (net_of s) limit))
 
   -- bytes past IN are never written
   table-long : (x : Found) → FoundMeans (net_of s) limit x → length (finding_table s.cells (positions s) x) ≡ size s

@@ -2,6 +2,8 @@
 //
 // What it costs: the greedy planner; where that finds no room, the heaviest set of cells that clash with one another; then the numbering, and the plan of the
 // renumbered site in 2,048 words of local room; then the search, up to the limit.
+#![tactic(auto)]
+
 ghost use Rattle.std.specs.Prelude.{◌≡◌, ◌++◌, ◌*◌, ◌≤◌, length, drop};
 ghost use Rattle.theory.specs.Net.{room};
 ghost use Rattle.laws.specs.Bits.{bit_at};
@@ -29,7 +31,7 @@ use wordforms::lay_row;
 
 // What `find` answers. A plan: the greedy one, that of the renumbered site, or one by search, with its tries. None: these cells are over, the renumbered site
 // has no room, or the search is exhausted, with its tries. Not known, with the tries made. 4, the table is short; or what is wrong with the record.
-#[derive(Drop)]
+#[derive(Clone, Copy)]
 pub enum FindAnswer {
     Greedy,
     Renumbered,
@@ -43,7 +45,7 @@ pub enum FindAnswer {
 }
 
 // Whether a set of cells is over, with the load of those that the site has, or what is wrong with the record.
-#[derive(Drop)]
+#[derive(Clone, Copy)]
 pub enum OverFullAnswer {
     Over(usize),
     Within(usize),

@@ -24,22 +24,8 @@ use Rattle.renumbering.specs.Renumbers.{Renumbers, renumbered, Symmetric}
 use Rattle.renumbering.proofs.Renumber.{numbers-renumber, numbered-class}
 use Rattle.tries.specs.Search.{searched}
 use Rattle.search.specs.Search.{too_large}
-use Rattle.finding.specs.Found.{
-  Found,
-  greedily,
-  over_by,
-  renumbered_plan,
-  full_renumbered,
-  by_search,
-  unsearched,
-  found_anew,
-  found_sought,
-  found_numbered,
-  heaviest_over,
-  found_else,
-  found_by,
-  found_of,
-}
+use Rattle.finding.specs.Found.{Found, greedily, over_by, renumbered_plan, full_renumbered, by_search, unsearched, found_anew, found_numbered, heaviest_over}
+use Rattle.finding.specs.Found.{found_else, found_by, found_of}
 use Rattle.finding.specs.Means.{NoneOver}
 use Rattle.finding.proofs.Over.{none_over}
 use Rattle.finding.proofs.Right.{no-plan}

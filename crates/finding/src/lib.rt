@@ -1,1 +1,2 @@
 // What `find` finds for a problem stands in specs/ and proofs/.
+#![tactic(auto)]

@@ -43,7 +43,8 @@ lines-said :
     ∷ bytes "full (cell 2): it needs 3 channel-slots, and the site has 2\n" ∷ bytes "full (cell 2): it needs 2 channel-slots, and the site has 1 open\n"
     ∷ bytes "full (searched, 18 tries): no plan exists\n" ∷ bytes "not known (10 tries): the search stopped there\n"
     ∷ bytes "not known (0 tries): over 64 open positions or 24 fragments, which is too many to search\n" ∷ []
-unfolding last_lines find_lines spoken decimal digits_of first_of sum several_in later_phrase later_said needs_phrase unknown_phrase find_said up_to size_ok rule_ok row_bad
+unfolding last_lines find_lines spoken decimal digits_of first_of sum several_in later_phrase later_said needs_phrase unknown_phrase find_said up_to size_ok
+    rule_ok row_bad
     extra_load bad_row extra_blocked fault_of reaches clash_in
 lines-said = refl
 

@@ -1,1 +1,2 @@
 // What `duggfrask find` says of a site, and that it is true, stands in specs/ and proofs/.
+#![tactic(auto)]

@@ -1,10 +1,12 @@
 // A lent list of flow records, taken apart: its first 16 flows, in an array that is passed by value.
+#![tactic(auto)]
+
 ghost use Rattle.std.specs.Prelude.{◌≡◌, ◌<◌, ◌≤◌, length};
 ghost use Rattle.flowlist.specs.List.{flow_at, no_flows, with_flow, gathered, few};
 
 // A flow as it is handed in: its cell by number, its burst in fragments, its period in slots, its repeats, and what it is worth.
 #[repr(C)]
-#[derive(Drop)]
+#[derive(Clone, Copy)]
 pub struct Flow {
     pub cell: u16,
     pub burst: u16,
@@ -14,7 +16,7 @@ pub struct Flow {
 }
 
 // At most 16 flows, and zeros after them.
-#[derive(Drop)]
+#[derive(Clone, Copy)]
 pub struct FlowList {
     pub list: [Flow; 16],
     pub count: usize,

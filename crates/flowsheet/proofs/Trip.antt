@@ -160,7 +160,8 @@ module _ (fs : List Flow) where
     bad-after r less some bad = sheet-read r ∙ no_line-law (15 - n) (omega arith) (gathered-count fs n)
       where
         no_line-law : (m : ℕ) → 16 - n ≡ suc m → (gathered fs n).count ≡ n → flows_from (16 - n) (gathered fs n) r ≡ bad_flows (line_number n)
-        no_line-law m e c = ap (λ (i : ℕ). flows_from i (gathered fs n) r) e ∙ stop-here m (gathered fs n) r some bad ∙ ap (λ (i : ℕ). bad_flows (line_number i)) c
+        no_line-law m e c = ap (λ (i : ℕ). flows_from i (gathered fs n) r) e ∙ stop-here m (gathered fs n) r some bad ∙ ap
+            (λ (i : ℕ). bad_flows (line_number i)) c
 
     -- A line after the sixteenth flow's is 18, whatever stands in it.
     pub seventeenth : (r : List ℕ) → n ≡ 16 → at_end r ≡ false → read_flows (flow_sheet (flow_at fs) n ++ r) ≡ too_many

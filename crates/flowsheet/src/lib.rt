@@ -1,4 +1,6 @@
 // The sheet of flows, read: a first line, then a line for each flow, at most 16 of them.
+#![tactic(auto)]
+
 ghost use Rattle.std.specs.Prelude.{◌≡◌, ◌≤◌, drop};
 ghost use Rattle.flowlist.specs.List.{no_flows};
 ghost use Rattle.flowsheet.specs.Read.{field_read, no_flow, flow_read, bad_flows, too_many, flows_from, read_flows};
@@ -7,7 +9,7 @@ use flowlist::{Flow, FlowList, empty, push};
 use lines::{NOWHERE, Number, eat, eat_text, read_number};
 
 // What the reader answers: the flows are read; the first bad line, from 1; or there are more than 16 flows.
-#[derive(Drop)]
+#[derive(Clone, Copy)]
 pub enum FlowsAnswer {
     Done,
     BadLine(usize),
@@ -15,14 +17,14 @@ pub enum FlowsAnswer {
 }
 
 // The flows, or no flows beside a refusal.
-#[derive(Drop)]
+#[derive(Clone, Copy)]
 pub struct FlowsRead {
     pub flows: FlowList,
     pub answer: FlowsAnswer,
 }
 
 // What a line of a flow says, and the place after it; NOWHERE where it is not of the format.
-#[derive(Drop)]
+#[derive(Clone, Copy)]
 struct FlowRead {
     pub flow: Flow,
     pub next: usize,

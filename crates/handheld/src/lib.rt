@@ -1,6 +1,8 @@
 // One load changes on the handheld: the record is edited where it stands, and the table that is lent with it is planned anew from that cell on.
 // It must be the greedy plan of the unedited site, which is tested in place: there is no second record and no second table.
 // The local room beyond the copy of the record is that of crates `plantest` and `replan`, one after the other: a row and a mask, 4 kilobytes.
+#![tactic(auto)]
+
 ghost use Rattle.std.specs.Prelude.{◌≡◌};
 ghost use Rattle.handheld.specs.Change.{change_of, change_answer, change_site, change_table, changed_of};
 
@@ -9,7 +11,7 @@ use site::{Fault, Site};
 
 // What a change answers: done; 4, the table is short; 26, it is not the plan; 5, a cell's number and how many of its fragments found no room; or what is
 // wrong with the record or the edit.
-#[derive(Drop)]
+#[derive(Clone, Copy)]
 pub enum ChangeAnswer {
     Done,
     TableShort,
@@ -19,7 +21,7 @@ pub enum ChangeAnswer {
 }
 
 // The record after a change, beside the answer. Where the change is refused with anything but 5, it is the record as it was.
-#[derive(Drop)]
+#[derive(Clone, Copy)]
 pub struct Changed {
     pub site: Site,
     pub answer: ChangeAnswer,

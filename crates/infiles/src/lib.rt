@@ -1,4 +1,6 @@
 // The files that a command is given: a site file and a plan file that goes with it, and what is said where one is refused; and the plan file that it writes.
+#![tactic(auto)]
+
 ghost use Rattle.std.specs.Prelude.{◌≡◌, ◌≤◌, length};
 ghost use Rattle.planfile.specs.Read.{plan_table_read};
 ghost use Rattle.sitefile.specs.Read.{read_site};
@@ -10,27 +12,71 @@ use planfile::{PlanRead, PlanWritten};
 use records::ReadAnswer;
 use reply::no;
 use site::Site;
-use verdicts::File;
+use std::fs::File;
+use verdicts::File as Kind;
 
-// The descriptor of the second input.
-pub const SECOND: i32 = 4;
+// The descriptors of the inputs, by their names. The first is standard input where its own is not open; where it is, another may be standard input.
+pub const FIRST: &str = "/dev/fd/8";
+
+pub const SECOND: &str = "/dev/fd/4";
+
+pub const THIRD: &str = "/dev/fd/6";
+
+// How many bytes of an input were read, whether it ended there, and whether it has a descriptor of its own.
+#[derive(Clone, Copy)]
+pub struct InputRead {
+    pub size: usize,
+    pub ended: bool,
+    pub own: bool,
+}
+
+// Reads an input by the name of its descriptor. One that is not open is standard input, if that is no other input's, and else none.
+pub fn read_input(rt: &HostRuntime, name: &str, standard: bool, buffer: &mut [u8]) -> InputRead
+    ensures { result.size ≤ length buffer.new }
+{
+    match File::open(rt, name) {
+        Ok(mut file) => {
+            let taken = reply::take(&mut file, buffer);
+            InputRead {
+                size: taken.size,
+                ended: taken.ended,
+                own: true,
+            }
+        }
+        Err(_) => {
+            if !standard {
+                return InputRead {
+                    size: 0,
+                    ended: false,
+                    own: false,
+                };
+            }
+            let taken = reply::take_standard(rt, buffer);
+            InputRead {
+                size: taken.size,
+                ended: taken.ended,
+                own: false,
+            }
+        }
+    }
+}
 
 // A site file that was refused.
-pub fn refuse(text: &mut [u8], input: &[u8], answer: ReadAnswer)
+pub fn refuse(rt: &HostRuntime, text: &mut [u8], input: &[u8], answer: ReadAnswer)
     requires { 65536 ≤ length text.old }
 {
-    reply::named(FIRST_NAME, input, Input::SiteFile);
-    let end = say_verdicts::put_read(text, 0, File::SiteFile, answer);
-    no(text, end);
+    reply::named(rt, FIRST_NAME, input, Input::SiteFile);
+    let end = say_verdicts::put_read(text, 0, Kind::SiteFile, answer);
+    no(rt, text, end);
 }
 
 // A table as a plan file; whether it was written.
-pub fn give_plan(site: Site, table: &[u8], out: &mut [u8]) -> bool {
+pub fn give_plan(rt: &HostRuntime, site: Site, table: &[u8], out: &mut [u8]) -> bool {
     let written = planfile::write_plan(site, table, out);
     let PlanWritten::Done(size) = written else {
         return false;
     };
-    reply::result(out, size)
+    reply::result(rt, out, size)
 }
 
 // Whether a plan is of the site's size.
@@ -48,6 +94,7 @@ pub fn same_size(site: Site, plan: PlanRead) -> bool
 
 // Reads a plan file, whose name is an argument, into a table; whether it is one and of the site's size. Where it is not, the text is said.
 pub fn read_plan_of(
+    rt: &HostRuntime,
     site: Site,
     name: usize,
     input: &[u8],
@@ -61,15 +108,15 @@ pub fn read_plan_of(
     let plan = planfile::read_plan(input, table);
     let answer = plan.answer;
     let ReadAnswer::Done = answer else {
-        reply::named(name, input, Input::PlanFile);
-        let end = say_verdicts::put_read(text, 0, File::PlanFile, answer);
-        no(text, end);
+        reply::named(rt, name, input, Input::PlanFile);
+        let end = say_verdicts::put_read(text, 0, Kind::PlanFile, answer);
+        no(rt, text, end);
         return false;
     };
     if same_size(site, plan) {
         return true;
     }
-    reply::named(name, input, Input::PlanFile);
+    reply::named(rt, name, input, Input::PlanFile);
     let end = say_verdicts::put_other_plan(
         text,
         0,
@@ -77,19 +124,25 @@ pub fn read_plan_of(
         plan.slots as usize,
         plan.channels as usize,
     );
-    no(text, end);
+    no(rt, text, end);
     false
 }
 
 // A site, and whether the plan that was read into a table goes with it. Where it does not, or one of the two is refused, the text is said.
-#[derive(Drop)]
+#[derive(Clone, Copy)]
 pub struct Pair {
     pub site: Site,
     pub good: bool,
 }
 
 // The site file, and the plan file, which goes into the table.
-pub fn read_pair(input: &[u8], second: &[u8], table: &mut [u8], text: &mut [u8]) -> Pair
+pub fn read_pair(
+    rt: &HostRuntime,
+    input: &[u8],
+    second: &[u8],
+    table: &mut [u8],
+    text: &mut [u8],
+) -> Pair
     requires { 65536 ≤ length text.old }
     ensures site { result.site ≡ (read_site input.now).site }
     ensures good { result.good ≡ pair_good input.now second.now table.old }
@@ -99,9 +152,9 @@ pub fn read_pair(input: &[u8], second: &[u8], table: &mut [u8], text: &mut [u8])
     let answer = read.answer;
     let site = read.site;
     let ReadAnswer::Done = answer else {
-        refuse(text, input, answer);
+        refuse(rt, text, input, answer);
         return Pair { site, good: false };
     };
-    let good = read_plan_of(site, SECOND_NAME, second, table, text);
+    let good = read_plan_of(rt, site, SECOND_NAME, second, table, text);
     Pair { site, good }
 }

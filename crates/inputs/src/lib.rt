@@ -1,5 +1,7 @@
 // What a file is, by its first bytes; and the sentence after its name that says so, where another one was asked for. A function of text puts it at `at` and
 // answers where the next byte goes.
+#![tactic(auto)]
+
 ghost use Rattle.std.specs.Prelude.{◌≡◌, ◌+◌, ◌≤◌, length};
 ghost use Rattle.lines.specs.Match.{starts};
 ghost use Rattle.phrases.specs.Put.{Put};
@@ -31,7 +33,7 @@ const ASK_RANGE_SHEET: usize = 7;
 const ASK_FLOW_SHEET: usize = 8;
 
 // The product's files, and any other.
-#[derive(Drop)]
+#[derive(Clone, Copy)]
 pub enum Input {
     SiteFile,
     PlanFile,

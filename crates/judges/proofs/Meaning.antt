@@ -251,4 +251,5 @@ least-no-refusal (outside a b i) n f e = let z : ◌≡◌ {A = ℕ} 0 1 = cc in
 
 pub least-refused : (s : Site) (f : Fault) → least_answer s ≡ least.Refused f ↔ ((f ≡ fault_of s) × (is_fine f ≡ false))
 unfolding least_answer
-least-refused s = passed_on least.Refused (λ f g e. cc) (fault_of s) _ (least-no-refusal (class_verdict (net_of s) (counted s)) (most_demand (net_of s) (counted s)))
+least-refused s = passed_on least.Refused (λ f g e. cc) (fault_of s) _
+    (least-no-refusal (class_verdict (net_of s) (counted s)) (most_demand (net_of s) (counted s)))

@@ -1,6 +1,8 @@
 // The verdicts on a site: the load test, the judge of the chain, the judge of the class, and the least number of open channel-slots that do.
 // All ask the clash rows and the word of the cells that count, those with load above 0.
 // The judges go from one cell of a word to the next without a look at those between.
+#![tactic(auto)]
+
 ghost use Rattle.std.specs.Prelude.{◌≡◌};
 ghost use Rattle.judges.specs.Judges.{load_answer, chain_answer, class_answer, least_answer};
 
@@ -11,7 +13,7 @@ use positions::open_count;
 use site::{Fault, Site};
 
 // The load test's verdict: it holds, or the lowest cell that is over, by number, and by how much.
-#[derive(Drop)]
+#[derive(Clone, Copy)]
 pub enum LoadAnswer {
     Holds,
     Over(usize, usize),
@@ -19,7 +21,7 @@ pub enum LoadAnswer {
 }
 
 // The judge's verdict: chained, or the first triple a, b, c that breaks the chain, by number.
-#[derive(Drop)]
+#[derive(Clone, Copy)]
 pub enum ChainAnswer {
     Chained,
     Broken(usize, usize, usize),
@@ -27,7 +29,7 @@ pub enum ChainAnswer {
 }
 
 // The verdict on the class: the site is nested, or the first cell i and its first two lower clashing cells a < b that do not clash, by number.
-#[derive(Drop)]
+#[derive(Clone, Copy)]
 pub enum ClassAnswer {
     InClass,
     Outside(usize, usize, usize),
@@ -35,7 +37,7 @@ pub enum ClassAnswer {
 }
 
 // How many open channel-slots do: the least number that does, on a nested site; on any other so many are enough, and fewer may be.
-#[derive(Drop)]
+#[derive(Clone, Copy)]
 pub enum LeastAnswer {
     Least(usize),
     Enough(usize),

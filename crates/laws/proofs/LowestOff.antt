@@ -32,7 +32,13 @@ module _ (p : ℕ → Bool) (n d : ℕ) (fits : n ≤ d) (some : word_of p n ≡
   counted : count_trailing_zeros d (word_of p n) ≡ at
   counted =
       let e : d ≡ d - 0 = omega arith in
-      omega (arith, ap (count_trailing_zeros d) (sym (div-one (word_of p n))), zeros-first (word_of p n) d 0, ap (λ (m : ℕ). first_of (bit_at (word_of p n)) m 0) e)
+      omega (
+        arith,
+        ap (count_trailing_zeros d) (sym (div-one (word_of p n))),
+        zeros-first (word_of p n) d 0,
+        ap
+            (λ (m : ℕ). first_of (bit_at (word_of p n)) m 0) e,
+      )
 
   before : (j : ℕ) → j < at → bit_at (word_of p n) j ≡ false
   before j l = first-before (bit_at (word_of p n)) 0 d j zero-le l

@@ -57,7 +57,8 @@ module _ (p : ℕ → Bool) (n k left : ℕ) (is-left : left ≡ word_of (from_o
         same : (j : ℕ) → j < n → (leb (count_trailing_zeros 32 left + 1) j && from_on p k j) ≡ from_on p (count_trailing_zeros 32 left + 1) j
         same j h =
             ⊎_elim
-            (λ e. ap (λ b. leb (count_trailing_zeros 32 left + 1) j && (b && p j)) (le-leb k j (omega (arith, leb-true (count_trailing_zeros 32 left + 1) j e, walk_from))))
+            (λ e. ap (λ b. leb (count_trailing_zeros 32 left + 1) j && (b && p j))
+            (le-leb k j (omega (arith, leb-true (count_trailing_zeros 32 left + 1) j e, walk_from))))
             (λ e. ap (λ b. b && from_on p k j) e ∙ sym (ap (λ b. b && p j) e))
             (cases (leb (count_trailing_zeros 32 left + 1) j))
 

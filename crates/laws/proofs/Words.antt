@@ -162,7 +162,8 @@ bits-eq p x n h e = word-bits x n h ∙ word-eq (bit_at x) p n e
 -- a word shares something with a row exactly where the row has one of its numbers. Bits of the row at n and beyond do no harm.
 pub shares-any : (p : ℕ → Bool) (n row : ℕ) → not (eqb (bit_and (word_of p n) row) 0) ≡ any (λ c. p c && bit_at row c) n
 shares-any p n row =
-    ap (λ (x : ℕ). not (eqb x 0)) (bits-eq (λ c. p c && bit_at row c) (bit_and (word_of p n) row) n (omega (arith, and_le_l (word_of p n) row, word_lt p n)) (λ j h.
+    ap (λ (x : ℕ). not (eqb x 0)) (bits-eq (λ c. p c && bit_at row c) (bit_and (word_of p n) row) n (omega (arith, and_le_l (word_of p n) row, word_lt p n))
+    (λ j h.
     bit-and (word_of p n) row j ∙ ap (λ b. b && bit_at row j) (word-bit p n j h)))
     ∙ ap not (word-empty (λ c. p c && bit_at row c) n)
     ∙ not-not (any (λ c. p c && bit_at row c) n)

@@ -1,6 +1,6 @@
 -- What some bad lines tell, computed: each reason once, and a good sheet tells none. Assumes nothing.
 use Prim.Native.Nat.{ℕ}
-use mathlib.Core.List.{List, [], ◌∷◌, ◌++◌, map}
+use mathlib.Core.List.{List, [], ◌∷◌, ◌++◌}
 use mathlib.Core.Path.{◌≡◌, refl}
 use Rattle.text.specs.Decimal.{digits_of, decimal}
 use Rattle.lines.specs.Match.{starts}
@@ -44,7 +44,8 @@ pub cells_told :
     ∷ []
     ≡ reason_at 4 2 ∷ reason_at 5 4 ∷ reason_at 6 1 ∷ reason_at 7 3 ∷ reason_at 8 0 ∷ reason_at 9 0 ∷ reason_at 10 2 ∷ reason_at 11 2
     ∷ reason_at 12 2 ∷ reason_at 13 3 ∷ reason_at 13 3 ∷ reason_at 14 3 ∷ reason_at 15 5 ∷ reason_at 16 9 ∷ reason_at 1 0 ∷ untold ∷ []
-unfolding fault_of_line head_fault cell_fault head_read head_ok cells_of_line columns_in starts header columns column decimal digits_of after_lines fault_from end_fault
+unfolding fault_of_line head_fault cell_fault head_read head_ok cells_of_line columns_in starts header columns column decimal digits_of after_lines fault_from
+    end_fault
     fault_at content_at number_at is_zero mark_fault lf_at cr_at comma_at empty_at odd_byte is_mark is_word field_after seen_after number_after
 cells_told = refl
 
@@ -57,6 +58,7 @@ pub heads-told :
     ∷ fault_of_line first 1
     ∷ []
     ≡ reason_at 3 0 ∷ reason_at 4 5 ∷ reason_at 8 0 ∷ reason_at 2 0 ∷ untold ∷ []
-unfolding fault_of_line head_fault cell_fault head_read head_ok cells_of_line columns_in starts header columns column decimal digits_of after_lines fault_from end_fault
+unfolding fault_of_line head_fault cell_fault head_read head_ok cells_of_line columns_in starts header columns column decimal digits_of after_lines fault_from
+    end_fault
     fault_at content_at number_at is_zero mark_fault lf_at cr_at comma_at empty_at odd_byte is_mark is_word field_after seen_after number_after
 heads-told = refl

@@ -1,14 +1,14 @@
 -- A reason that is told is there: `because` goes through the tests of one byte, and `shown` through the bytes of the line. Assumes nothing.
 use Prim.Native.Nat.{ℕ, ◌+◌, ◌-◌, ◌≤◌, ◌<◌}
 use mathlib.Core.Path.{◌≡◌, refl, sym, ap, ◌∙◌}
-use mathlib.Core.Bool.{Bool, true, false, not, ◌&&◌, ◌||◌, true≢false}
-use mathlib.Core.List.{List, [], ◌∷◌, ◌++◌}
+use mathlib.Core.Bool.{Bool, true, false, ◌&&◌, ◌||◌, true≢false}
+use mathlib.Core.List.{List, [], ◌∷◌}
 use mathlib.Core.Logic.{◌⊎◌, inl, inr}
 use native.Mathlib.Omega.{arith}
 use native.Mathlib.Nat.{add-zero}
 use lib.Dec.{ltb, leb, eqb}
 use lib.ListN.{length}
-use borrow.Author.Tests.{eqb-true, eqb-false, ltb-true, leb-true, leb-false, eq-eqb, ne_eqb}
+use borrow.Author.Tests.{eqb-true, eqb-false, ltb-true, leb-true, leb-false}
 use Rattle.laws.specs.Choice.{pick}
 use Rattle.laws.specs.Sum.{bit}
 use Rattle.laws.proofs.Choice.{both}
@@ -22,7 +22,7 @@ use Rattle.lines.specs.Content.{head_read}
 use Rattle.cleaning.specs.Clean.{order_mark}
 use Rattle.linefaults.specs.Means.{in_line, commas, last_of, walked, Because, nothing_told, semicolon_there, tab_there, quote_there, blank_there}
 use Rattle.linefaults.specs.Means.{feed_there, zero_there, large_there, number_empty, digit_not, mark_empty, mark_not, fields_few, fields_many}
-use Rattle.linefaults.specs.Means.{lone_there, StandsAt, Shown, stands, ends, LineShown, begins_marked, in_first, after_cells, in_cell-law}
+use Rattle.linefaults.specs.Means.{lone_there, Shown, stands, ends, LineShown, begins_marked, in_first, after_cells, in_cell-law}
 
 -- ---- one byte
 

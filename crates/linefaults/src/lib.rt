@@ -1,4 +1,6 @@
 // Why a line of a range sheet is bad, where that can be told: the first byte of the line that cannot stand there.
+#![tactic(auto)]
+
 ghost use Rattle.std.specs.Prelude.{◌≡◌, ◌+◌, ◌≤◌, ◌<◌, length, drop};
 ghost use Rattle.linefaults.specs.Fault.{reason_at, untold, after_lines, first_field, number_after, seen_after, field_after, is_word};
 ghost use Rattle.linefaults.specs.Fault.{is_mark, odd_byte, empty_at, comma_at};
@@ -14,14 +16,14 @@ const CR: u8 = 13;
 const LF: u8 = 10;
 
 // The reason by its number, and the character or the column where it is; 0 where nothing can be told.
-#[derive(Drop)]
+#[derive(Clone, Copy)]
 pub struct LineFault {
     pub reason: u8,
     pub place: usize,
 }
 
 // Where a byte stands: its column, how many bytes of the field came before it (2 for more than one), their number, and the byte before it.
-#[derive(Drop)]
+#[derive(Clone, Copy)]
 struct Field {
     pub column: usize,
     pub seen: u8,

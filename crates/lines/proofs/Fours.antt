@@ -300,7 +300,8 @@ module _ (r : List ℕ) where
         let g : suc (suc (suc (suc (b - 4)))) ≡ b = omega arith in
         rw (e, g) (omega arith)
 
-    pub four-starts : starts (marks (mark_of_line r) (b - 4) 4) (drop (2 * (b - 4)) r) ≡ true → starts (marks (mark_of_line r) b (n - b)) (drop (2 * b) r) ≡ true
+    pub four-starts : starts (marks (mark_of_line r) (b - 4) 4) (drop (2 * (b - 4)) r) ≡ true → starts (marks (mark_of_line r) b (n - b)) (drop (2 * b) r)
+        ≡ true
         → starts (marks (mark_of_line r) (b - 4) (n - (b - 4))) (drop (2 * (b - 4)) r) ≡ true
     four-starts p q =
         let e : n - (b - 4) ≡ 4 + (n - b) = omega arith in

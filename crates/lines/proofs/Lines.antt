@@ -130,7 +130,8 @@ module _ (n k load : ℕ) (f : ℕ → ℕ) (r : List ℕ) (few : load < 100000)
 
     pub row_written : (x : ℕ) → x < 2 ^ n → ((i : ℕ) → i < n → f i ≡ x / 2 ^ i % 2) → row_of_line n k (cell_line n k load f ++ r) ≡ x
     unfolding row_of_line
-    row_written x l same = bits-weigh (mark_of_line (marks_of_line k (cell_line n k load f ++ r))) n 0 x l (λ i h. rw (zero-add i) (mark-written i h ∙ same i h))
+    row_written x l same = bits-weigh (mark_of_line (marks_of_line k (cell_line n k load f ++ r))) n 0 x l
+        (λ i h. rw (zero-add i) (mark-written i h ∙ same i h))
 
 -- a line that is well is there
 pub line-there : (n k : ℕ) (r : List ℕ) → line_ok n k r ≡ true → (load_of_line k r ≤ 65535) × (r ≡ line_in n k r ++ drop (length (line_in n k r)) r)

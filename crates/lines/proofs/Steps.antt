@@ -45,7 +45,8 @@ row_step f b n h l =
     rw (e, g) (omega arith)
 
 module _ (s : List ℕ) (at : ℕ) where
-  two-more : (i : ℕ) → at + 2 * i + 1 < length s → drop (2 * i) (drop at s) ≡ get_or s (at + 2 * i) 0 ∷ get_or s (at + 2 * i + 1) 0 ∷ drop (2 * suc i) (drop at s)
+  two-more : (i : ℕ) → at + 2 * i + 1 < length s → drop (2 * i) (drop at s) ≡ get_or s (at + 2 * i) 0 ∷ get_or s (at + 2 * i + 1) 0 ∷ drop (2 * suc i)
+      (drop at s)
   two-more i h =
       let e : at + 2 * suc i ≡ suc (suc (at + 2 * i)) = omega arith in
       drop-drop (2 * i) at s
@@ -65,7 +66,8 @@ module _ (s : List ℕ) (at : ℕ) where
   one-step i m h = rw (two-more i h, mark-here i)
 
   pub ok_step : (b n : ℕ) → 0 < b → b ≤ n → at + 2 * (b - 1) + 1 < length s →
-      mark_ok (get_or s (at + 2 * (b - 1)) 0) (get_or s (at + 2 * (b - 1) + 1) 0) (starts (marks (mark_of_line (drop at s)) b (n - b)) (drop (2 * b) (drop at s)))
+      mark_ok (get_or s (at + 2 * (b - 1)) 0) (get_or s (at + 2 * (b - 1) + 1) 0)
+      (starts (marks (mark_of_line (drop at s)) b (n - b)) (drop (2 * b) (drop at s)))
       ≡ starts (marks (mark_of_line (drop at s)) (b - 1) (n - (b - 1))) (drop (2 * (b - 1)) (drop at s))
   ok_step b n h l m =
       let e : n - (b - 1) ≡ suc (n - b) = omega arith in
@@ -223,14 +225,16 @@ module _ (s : List ℕ) (at n k : ℕ) (short : length s < nowhere) where
             ∙ ap (λ (i : ℕ). pick (leb (load_of_line k (drop at s)) 65535) i nowhere)
             (ap (λ (i : ℕ). eaten s i (decimal (load_of_line k (drop at s)))) label_at ∙ eaten-append s at (label k) _ (omega arith))
 
-        line-is : line_in n k (drop at s) ≡ (label k ++ decimal (load_of_line k (drop at s))) ++ (marks (mark_of_line (marks_of_line k (drop at s))) 0 n ++ crlf)
+        line-is : line_in n k (drop at s) ≡ (label k ++ decimal (load_of_line k (drop at s))) ++
+            (marks (mark_of_line (marks_of_line k (drop at s))) 0 n ++ crlf)
         unfolding line_in cell_line
         line-is = simp append_assoc
 
         pub no_load : v.next ≡ nowhere → no_line ≡ line_read s at n k
         no_load e = go (leb (load_of_line k (drop at s)) 65535) refl (sym next-is ∙ e)
           where
-            go : (t : Bool) → leb (load_of_line k (drop at s)) 65535 ≡ t → pick t (eaten s at (label k ++ decimal (load_of_line k (drop at s)))) nowhere ≡ nowhere
+            go : (t : Bool) → leb (load_of_line k (drop at s)) 65535 ≡ t → pick t (eaten s at (label k ++ decimal (load_of_line k (drop at s)))) nowhere
+                ≡ nowhere
                 → no_line ≡ line_read s at n k
             go true p q = line-lost s at n k short (ap (eaten s at) line-is ∙ eaten-lost s at _ _ (omega arith) q)
             go false p q = line-over s at n k short (leb-false _ _ p)

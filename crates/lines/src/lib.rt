@@ -1,4 +1,6 @@
 // Texts, numbers and lines of a range sheet, met at a place of the input. A cursor is a place; after what is not there it is NOWHERE, where nothing stands.
+#![tactic(auto)]
+
 ghost use Rattle.std.specs.Prelude.{◌≡◌, [], ◌∷◌, ◌+◌, ◌-◌, ◌*◌, ◌≤◌, ◌<◌, length, drop, get_or, eqb};
 ghost use Rattle.text.specs.Decimal.{decimal};
 ghost use Rattle.lines.specs.Match.{eaten};
@@ -16,7 +18,7 @@ const CR: u8 = 13;
 const LF: u8 = 10;
 
 // What a line of a cell says, and the place after it; NOWHERE where it is not of the format.
-#[derive(Drop)]
+#[derive(Clone, Copy)]
 pub struct Line {
     pub load: u16,
     pub row: u32,
@@ -93,7 +95,7 @@ fn is_digit(v: usize, d: u8) -> bool
 }
 
 // A number and the place after it; NOWHERE where none stands there that is at most the bound and written without leading zeros.
-#[derive(Drop)]
+#[derive(Clone, Copy)]
 pub struct Number {
     pub value: usize,
     pub next: usize,
@@ -183,7 +185,7 @@ pub fn eat_text(s: &[u8], at: usize, text: &[u8]) -> usize
 }
 
 // The row of some marks, and the place after them.
-#[derive(Drop)]
+#[derive(Clone, Copy)]
 struct Marks {
     pub row: u32,
     pub next: usize,
@@ -348,7 +350,7 @@ pub fn read_line(s: &[u8], at: usize, n: usize, k: usize) -> Line
 }
 
 // How many columns the first line has, and the place after it; no cells, and NOWHERE, where it is not of the format.
-#[derive(Drop)]
+#[derive(Clone, Copy)]
 pub struct Head {
     pub cells: usize,
     pub next: usize,

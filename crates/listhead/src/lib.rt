@@ -1,4 +1,6 @@
 // The head of a site file's listing, written into a lent buffer, and the plan of an accepted site, in a lent table: the lines of the cells are read from it.
+#![tactic(auto)]
+
 ghost use Rattle.std.specs.Prelude.{◌≡◌, ◌≤◌, length};
 ghost use Rattle.std.proofs.lemmas.List.Edits.{sets};
 ghost use Rattle.site.specs.Record.{fault_of};
@@ -14,7 +16,7 @@ use say_listing::{REFUSED, put_line};
 use site::Site;
 
 // What follows the head: where the head ends, how many cell lines there are, and the positions and channels of a row.
-#[derive(Drop)]
+#[derive(Clone, Copy)]
 pub struct Rest {
     pub end: usize,
     pub rows: usize,

@@ -1,4 +1,6 @@
 // The lines of the listing: the four of its head, by the answers that they tell, and that of a planned cell.
+#![tactic(auto)]
+
 ghost use Rattle.std.specs.Prelude.{◌≡◌, ◌+◌, ◌*◌, ◌≤◌, ◌<◌, length};
 ghost use Rattle.theory.specs.Greedy.{row_at};
 ghost use Rattle.phrases.specs.Put.{Put};

@@ -1,5 +1,7 @@
 // The listing of a site file as text, laid into a lent output: the text, or the bytes that it needs. It may be far longer than a local buffer, so its
 // cell lines are made twice, one after the other: first they are measured, then laid.
+#![tactic(auto)]
+
 ghost use Rattle.std.specs.Prelude.{◌≡◌, ◌+◌, ◌*◌, ◌≤◌, ◌<◌, ◌++◌, length};
 ghost use Rattle.std.proofs.lemmas.List.Edits.{sets};
 ghost use Rattle.records.specs.Write.{written, laid_over};

@@ -1,5 +1,7 @@
 // Loads of cells: which cells have one, and what the loads of a word's cells come to. A sum of few loads goes from one cell of a word to the next without a
 // look at those between.
+#![tactic(auto)]
+
 ghost use Rattle.std.specs.Prelude.{◌≡◌, ◌≤◌, ◌<◌, ltb, length, get_or};
 ghost use Rattle.laws.specs.Bits.{bit_at, word_of};
 ghost use Rattle.laws.specs.Choice.{pick};

@@ -63,7 +63,8 @@ module _ (s : Net) (u l : List ℕ) where
   Way f b o (ListShort n) = (f ≡ Fine) × (b ≡ false) × ((t : List ℕ) × ((o ≡ planned t) × (n ≡ number_of s u t) × (too_short l (number_of s u t) ≡ true)))
   Way f b o (Refused g) = is_fine g ≡ false
 
-  by-list : (t : List ℕ) (q : Bool) → too_short l (number_of s u t) ≡ q → Way Fine false (planned t) (pick q (ListShort (number_of s u t)) (Done (number_of s u t)))
+  by-list : (t : List ℕ) (q : Bool) → too_short l (number_of s u t) ≡ q → Way Fine false (planned t)
+      (pick q (ListShort (number_of s u t)) (Done (number_of s u t)))
   by-list t true e = (refl, refl, (t, (refl, refl, e)))
   by-list t false e = (refl, refl, (t, (refl, refl, e)))
 
@@ -146,14 +147,16 @@ module _ (s : Site) (u l : List ℕ) where
   means-done fine long t e room =
       good-answer s u l fine long
       ∙ ap (mend_answer_of (net_of s) u l) e
-      ∙ ap (λ (q : Bool). pick q (ListShort (number_of (net_of s) u t)) (Done (number_of (net_of s) u t))) (le-ltb (length l) (4 * number_of (net_of s) u t) room)
+      ∙ ap (λ (q : Bool). pick q (ListShort (number_of (net_of s) u t)) (Done (number_of (net_of s) u t)))
+      (le-ltb (length l) (4 * number_of (net_of s) u t) room)
 
   pub means-short : fault_of s ≡ Fine → size s ≤ length u → (t : List ℕ) → mend (net_of s) u ≡ planned t → length l < 4 * number_of (net_of s) u t
       → mend_answer s u l ≡ ListShort (number_of (net_of s) u t)
   means-short fine long t e over =
       good-answer s u l fine long
       ∙ ap (mend_answer_of (net_of s) u l) e
-      ∙ ap (λ (q : Bool). pick q (ListShort (number_of (net_of s) u t)) (Done (number_of (net_of s) u t))) (lt-ltb (length l) (4 * number_of (net_of s) u t) over)
+      ∙ ap (λ (q : Bool). pick q (ListShort (number_of (net_of s) u t)) (Done (number_of (net_of s) u t)))
+      (lt-ltb (length l) (4 * number_of (net_of s) u t) over)
 
   -- "then 5": the cell that is named is the first whose row leaves fragments over, and as many as are named
   pub short-means : (c m : ℕ) → mend_answer s u l ≡ NoRoom c m

@@ -32,10 +32,12 @@ module _ (s : Site) (u : List ℕ) where
 
   -- and any list with as much room gives the same
   any-by : (l : List ℕ) → 4 * size s ≤ length l → (o : Outcome)
-      → (mend_answer_of (net_of s) u (list_room s) o ≡ mend_answer_of (net_of s) u l o) × (table_after (net_of s) u (list_room s) o ≡ table_after (net_of s) u l o)
+      → (mend_answer_of (net_of s) u (list_room s) o ≡ mend_answer_of (net_of s) u l o) ×
+      (table_after (net_of s) u (list_room s) o ≡ table_after (net_of s) u l o)
   any-by l h (planned t) =
       let number = number_of (net_of s) u t in
-      rw (le-ltb (length (list_room s)) (4 * number) (room_for t), le-ltb (length l) (4 * number) (omega (arith, room_for t, room_of-law (size s)))) (refl, refl)
+      rw (le-ltb (length (list_room s)) (4 * number) (room_for t), le-ltb (length l) (4 * number) (omega (arith, room_for t, room_of-law (size s))))
+      (refl, refl)
   any-by l h (no_room c m) = (refl, refl)
 
   pub any-room : (l : List ℕ) → 4 * size s ≤ length l → (mend_answer s u (list_room s) ≡ mend_answer s u l) × (mend_table s u (list_room s) ≡ mend_table s u l)

@@ -4,6 +4,8 @@
 // each change (crate `changelist`). Nothing lent is written before the outcome is known. The local room is two bits for each cell and position, 16 kilobytes:
 // no second table. Without a list there are 16 kilobytes more, for the changes of one row. For up to 128 positions it is 1 kilobyte, and 1 more, and for
 // up to 64 half of that.
+#![tactic(auto)]
+
 ghost use Rattle.std.specs.Prelude.{◌≡◌, ◌*◌, ◌≤◌, length};
 ghost use Rattle.site.specs.Record.{positions};
 ghost use Rattle.changelist.specs.Sets.{table_with, AllWithin};
@@ -15,7 +17,7 @@ use standing::Stood;
 
 // What the mender answers: done, with the number of changes; 4, the table is short; 5, a cell's number and how many of its fragments found no room; 13, the
 // list is too short for so many changes; or what is wrong with the record.
-#[derive(Drop)]
+#[derive(Clone, Copy)]
 pub enum MendAnswer {
     Done(usize),
     TableShort,

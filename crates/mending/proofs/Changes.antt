@@ -185,7 +185,8 @@ module _ (is was : Reserved) where
 
 -- only what is reserved counts
 module _ (is is' was was' : Reserved) where
-  pub cell-cong : (i n : ℕ) → ((k : ℕ) → k < n → is i k ≡ is' i k) → ((k : ℕ) → k < n → was i k ≡ was' i k) → cell_changes is was i n ≡ cell_changes is' was' i n
+  pub cell-cong : (i n : ℕ) → ((k : ℕ) → k < n → is i k ≡ is' i k) → ((k : ℕ) → k < n → was i k ≡ was' i k) → cell_changes is was i n
+      ≡ cell_changes is' was' i n
   unfolding cell_changes
   cell-cong i zero h g = refl
   cell-cong i (suc n) h g =

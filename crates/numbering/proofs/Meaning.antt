@@ -137,7 +137,8 @@ module _ (s : Site) where
       pub carry-is : (carry_answer s from to ≡ Carry.Done) × (carry_table s from to ≡ carried (index_at new) (positions s) from to s.cells)
       carry-is = carry-done s from to new old found.fine found.numbers has fits
 
-      pub carried-exactly : Valid (net_of (renumber_of s).site) (reserved (positions s) from) ↔ Valid (net_of s) (reserved (positions s) (carry_table s from to))
+      pub carried-exactly : Valid (net_of (renumber_of s).site) (reserved (positions s) from) ↔ Valid (net_of s)
+          (reserved (positions s) (carry_table s from to))
       carried-exactly =
           rw (found.site, carry-is.1)
           (valid-old s found.fine new old found.numbers from to has fits, valid-new s found.fine new old found.numbers from to has fits)

@@ -2,6 +2,8 @@
 //
 // What it costs: at most 32 rounds over the clash rows (crate `numberrows`); the reach rows of many cells are moved a word at a time.
 // A table is copied row by row, once.
+#![tactic(auto)]
+
 ghost use Rattle.std.specs.Prelude.{◌≡◌, ◌≤◌};
 ghost use Rattle.site.specs.Record.{fault_of};
 ghost use Rattle.site.specs.declared.Fault.TheVariants.{Fine};
@@ -13,7 +15,7 @@ use numberrows::{Numbers, carry_rows, moved_loads, moved_rows, number_cells};
 use site::{Fault, Site};
 
 // What `renumber` answers: done; 23, there is no such numbering; or what is wrong with the record.
-#[derive(Drop)]
+#[derive(Clone, Copy)]
 pub enum RenumberAnswer {
     Done,
     NoNumbering,
@@ -21,7 +23,7 @@ pub enum RenumberAnswer {
 }
 
 // What `carry` answers: done; 23; 4, one of the tables is short; or what is wrong with the record.
-#[derive(Drop)]
+#[derive(Clone, Copy)]
 pub enum CarryAnswer {
     Done,
     NoNumbering,
@@ -31,7 +33,7 @@ pub enum CarryAnswer {
 
 // The site in new numbers; for each old number the new one and for each new number the old one, both from 1 and 0 past the cells; and the answer.
 // Any refusal gives the site as it was given, and numbers all 0.
-#[derive(Drop)]
+#[derive(Clone, Copy)]
 pub struct Renumbered {
     pub site: Site,
     pub new: [u16; 32],

@@ -1,6 +1,8 @@
 // The numbering of cells over their clash rows, arrays in new numbers, and the rows of a table carried back. Sets of cells are words, bit j for cell j.
 //
 // What it costs: at most 32 rounds, and in each the cells that are left are looked at from the highest down, each by the cells that it clashes with.
+#![tactic(auto)]
+
 ghost use Rattle.std.specs.Prelude.{◌≡◌, ◌+◌, ◌*◌, ◌^◌, ◌≤◌, ◌<◌, length, get_or};
 ghost use Rattle.laws.specs.Bits.{bit_at, bit_in, word_of};
 ghost use Rattle.laws.specs.Choice.{pick};
@@ -13,7 +15,7 @@ ghost use Rattle.numberrows.specs.Numbers.{numbers_of, NamesCells, moved_by, mov
 use words::{apart, has};
 
 // The new number of each old cell and the old number of each new one, from 1, 0 past the cells; or none is found, and all are 0.
-#[derive(Drop)]
+#[derive(Clone, Copy)]
 pub struct Numbers {
     pub found: bool,
     pub new: [u16; 32],
@@ -196,7 +198,7 @@ fn copy_row(from: &[u8], to: &mut [u8], a: usize, b: usize, width: usize)
     let end = start + width;
     let to_start = b * width;
     let to_end = to_start + width;
-    bytes::copy(&from[start..end], &mut to[to_start..to_end]);
+    to[to_start..to_end].copy_from_slice(&from[start..end]);
 }
 
 // Carries the rows of a table in new numbers into one in old numbers: row i from the row of its new number.

@@ -1,4 +1,6 @@
 // The one-way reading of a site, under which only two-way ranges clash; and the plans that it would pass, though they are not valid.
+#![tactic(auto)]
+
 ghost use Rattle.std.specs.Prelude.{◌≡◌};
 ghost use Rattle.oneway.specs.TwoWay.{two_way_rows, two_way, is_clash, is_valid, unseen_in};
 

@@ -149,7 +149,8 @@ module _ (row l w r : List ℕ) (m : ℕ) (fits : 2 * m ≤ length l) (e : w ≡
 
   pub blocks-plain : r ≡ sets l 0 (list_of (word_in (in_row row)) (2 * m))
   blocks-plain =
-      sets-next (block_word row) (plain_word w) (word_in (in_row row)) (2 * m) l w r fits e d (λ j h _. plain_at (j / 2) (j % 2) j (omega arith) (omega arith) h)
+      sets-next (block_word row) (plain_word w) (word_in (in_row row)) (2 * m) l w r fits e d
+      (λ j h _. plain_at (j / 2) (j % 2) j (omega arith) (omega arith) h)
 
 -- ---- a short row
 

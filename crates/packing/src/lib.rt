@@ -1,4 +1,6 @@
 // A row of bytes packed into words of 64 positions: position k is bit k % 64 of word k / 64. By blocks of 128 positions, each first in the order of a block.
+#![tactic(auto)]
+
 ghost use Rattle.std.specs.Prelude.{◌≡◌, ◌+◌, ◌-◌, ◌*◌, ◌^◌, ◌≤◌, ◌<◌, length, get_or};
 ghost use Rattle.std.proofs.lemmas.List.Edits.{sets};
 ghost use Rattle.laws.specs.Bits.{word_of};

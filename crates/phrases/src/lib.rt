@@ -1,4 +1,6 @@
 // A table of sentences is one byte string, each row ended by a bar. One of its rows is written into a lent buffer.
+#![tactic(auto)]
+
 ghost use Rattle.std.specs.Prelude.{◌≡◌, ◌+◌, ◌*◌, ◌≤◌, length, take, drop};
 ghost use Rattle.phrases.specs.Phrases.{skip, up_to_bar, row_in, part_in, phrase_in};
 ghost use Rattle.phrases.specs.Put.{Put, PutRow};
@@ -6,7 +8,7 @@ ghost use Rattle.phrases.specs.Put.{Put, PutRow};
 use speech::say;
 
 // What is to be said: nothing, or a row of a table, counted from 0, with four values.
-#[derive(Drop)]
+#[derive(Clone, Copy)]
 pub enum Phrase {
     Silent,
     Row(usize, usize, usize, usize, usize),

@@ -2,7 +2,6 @@
 use Prim.Native.Nat.{ℕ}
 use mathlib.Core.Bool.{Bool, true, false}
 use mathlib.Core.Path.{◌≡◌, refl}
-use mathlib.Core.List.{List, [], ◌∷◌}
 use Rattle.laws.specs.Search.{first_of}
 use Rattle.faults.specs.Faults.{in_turn}
 use Rattle.text.specs.Decimal.{digits_of, decimal}

@@ -139,7 +139,8 @@ marks-stop word false false true = refl
 marks-stop word false false false = tt
 
 marks-read : (word : ℕ) (c b z : Bool)
-    → numbers_told (phrase place_lines (clash_mark c) ++ phrase place_lines (pick b (Row place_blocked_row 0 0 0 0) (pick z (Row idle_row 0 0 0 0) Silent))) ≡ []
+    → numbers_told (phrase place_lines (clash_mark c) ++ phrase place_lines (pick b (Row place_blocked_row 0 0 0 0) (pick z (Row idle_row 0 0 0 0) Silent)))
+    ≡ []
 unfolding place_lines spoken numbers_from
 marks-read word true true z = refl
 marks-read word true false true = refl

@@ -1,7 +1,7 @@
 -- What a table that can be judged has at a position, and that what the code finds there is the place. Assumes nothing.
 --     ready-size  every row is there
 --     place_is    the clashes of a position are those of its word
-use Prim.Native.Nat.{ℕ, ◌*◌, ◌≤◌}
+use Prim.Native.Nat.{ℕ, ◌≤◌}
 use mathlib.Core.Path.{◌≡◌, sym, ap, ◌∙◌}
 use mathlib.Core.Bool.{Bool, true}
 use mathlib.Core.List.{List}

@@ -1,5 +1,7 @@
 // What a place of a plan shows: the cells that send there, whether two of them clash, and whether it is blocked. Its text, and its line for a spreadsheet, are
 // written into a lent buffer. A function `put_..` puts its text at `at` and answers where the next byte goes.
+#![tactic(auto)]
+
 ghost use Rattle.std.specs.Prelude.{◌≡◌, true, ◌+◌, ◌≤◌, ◌<◌, length};
 ghost use Rattle.laws.specs.Bits.{bit_in};
 ghost use Rattle.site.specs.Record.{positions};
@@ -40,7 +42,7 @@ const SPREAD_BLOCKED: usize = 4;
 const SPREAD_BOTH: usize = 5;
 
 // What a place shows: the cells as a word, bit i for the cell at index i.
-#[derive(Drop)]
+#[derive(Clone, Copy)]
 pub struct PlaceShown {
     pub cells: u32,
     pub clash: bool,

@@ -64,7 +64,8 @@ bits-ones t (suc c) k x h same =
     omega arith
 
 -- four bytes
-pub ones-four : (t : List ℕ) (k : ℕ) → ones t k 4 ≡ one (get_or t k 0) + 2 * one (get_or t (k + 1) 0) + 4 * one (get_or t (k + 2) 0) + 8 * one (get_or t (k + 3) 0)
+pub ones-four : (t : List ℕ) (k : ℕ) → ones t k 4 ≡ one (get_or t k 0) + 2 * one (get_or t (k + 1) 0) + 4 * one (get_or t (k + 2) 0) + 8 * one
+    (get_or t (k + 3) 0)
 unfolding ones
 ones-four t k =
     let a : k + 1 ≡ suc k = omega arith in

@@ -1,7 +1,7 @@
 -- The plan reader's blocks. A byte parted into halves, these again, and these once more, are its bits, the lowest first; so three passes over 32 bytes give the
 -- bits of a block. Then the runs of bits that the blocks store, one after the other. Assumes nothing.
 use Prim.Native.Nat.{ℕ, zero, suc, ◌+◌, ◌-◌, ◌*◌, ◌/◌, ◌%◌, ◌^◌, ◌≤◌, ◌<◌}
-use mathlib.Core.Path.{◌≡◌, refl, sym, ap, ap₂, ◌∙◌}
+use mathlib.Core.Path.{◌≡◌, sym, ap, ap₂, ◌∙◌}
 use mathlib.Core.List.{List}
 use native.Mathlib.Omega.{arith}
 use lib.Dec.{eqb}
@@ -85,7 +85,8 @@ module _ (s : List ℕ) (j : ℕ) (fours twos : List ℕ) (first : fours ≡ set
   two : (q : ℕ) → q < 128 → get_or twos (0 + q) 0 ≡ half_of 2 fours 0 q
   two q h =
       let e : 0 + q ≡ q = omega arith in
-      ap₂ (λ (l : List ℕ) (k : ℕ). get_or l k 0) second e ∙ sets-at (half_of 2 fours 0) 128 (replicate 128 0) q h (omega (arith, length-replicate {A = ℕ} 128 0))
+      ap₂ (λ (l : List ℕ) (k : ℕ). get_or l k 0) second e ∙ sets-at (half_of 2 fours 0) 128 (replicate 128 0) q h
+      (omega (arith, length-replicate {A = ℕ} 128 0))
 
   bit-here : (q : ℕ) → q < 256 → half_of 1 twos 0 q ≡ bit_of s (8 * j + q)
   bit-here q h =

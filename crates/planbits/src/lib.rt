@@ -1,4 +1,6 @@
 // The bits of a plan: a file byte holds the bits of eight table bytes. Packed and unpacked by blocks of 32 file bytes, and the rest by file byte.
+#![tactic(auto)]
+
 ghost use Rattle.std.specs.Prelude.{◌≡◌, [], ◌∷◌, ◌+◌, ◌-◌, ◌*◌, ◌%◌, ◌^◌, ◌≤◌, ◌<◌, length, take};
 ghost use Rattle.std.proofs.lemmas.List.Edits.{sets};
 ghost use Rattle.laws.specs.Part.{Below, list_of};

@@ -8,29 +8,29 @@ use records::ReadAnswer;
 use site::Site;
 
 // The status of an answer, after its words.
-fn put_status(status: u8) {
+fn put_status(rt: &HostRuntime, status: u8) {
     if status == 0 {
-        reply::fine();
+        reply::fine(rt);
         return;
     }
     if status == 3 {
-        reply::unknown();
+        reply::unknown(rt);
         return;
     }
-    reply::no(b"", 0);
+    reply::no(rt, b"", 0);
 }
 
 // The rule of a site, and each clash that a third cell makes, by first cell; whether all of it was written.
-fn put_air(site: Site, text: &mut [u8]) -> bool
+fn put_air(rt: &HostRuntime, site: Site, text: &mut [u8]) -> bool
     requires { 65536 ≤ length text.old }
 {
     let end = say_rule::put_rule(text, 0, site);
-    if !reply::result(text, end) {
+    if !reply::result(rt, text, end) {
         return false;
     }
     for a in 0..32 {
         let end = say_rule::put_thirds(text, 0, site, a);
-        if !reply::result(text, end) {
+        if !reply::result(rt, text, end) {
             return false;
         }
     }
@@ -38,42 +38,42 @@ fn put_air(site: Site, text: &mut [u8]) -> bool
 }
 
 // What is found for a site: with the tries that are asked for, or with those of `why`.
-pub fn found(site: Site, table: &mut [u8]) -> FindAnswer {
-    if os::arg_count() <= NUMBERS {
+pub fn found(rt: &HostRuntime, site: Site, table: &mut [u8]) -> FindAnswer {
+    if arguments::count(rt) <= NUMBERS {
         return say_find::find_why(site, table);
     }
-    finder::find(site, tries(), table)
+    finder::find(site, tries(rt), table)
 }
 
 // A plan of a site by any proved way, and a line that says by which; or why there is none, or that it is not known.
-fn find(input: &[u8], table: &mut [u8], out: &mut [u8], text: &mut [u8])
+fn find(rt: &HostRuntime, input: &[u8], table: &mut [u8], out: &mut [u8], text: &mut [u8])
     requires { 65536 ≤ length text.old }
 {
     let read = sitefile::read_site(input);
     let answer = read.answer;
     let site = read.site;
     let ReadAnswer::Done = answer else {
-        refuse(text, input, answer);
+        refuse(rt, text, input, answer);
         return;
     };
-    let reply = found(site, table);
+    let reply = found(rt, site, table);
     let end = say_find::put_find(text, 0, site, reply);
     let status = say_find::status(reply);
     if status != 0 {
-        reply::message(text, end);
-        put_status(status);
+        reply::message(rt, text, end);
+        put_status(rt, status);
         return;
     }
-    if !give_plan(site, table, out) {
-        reply::unwritten();
+    if !give_plan(rt, site, table, out) {
+        reply::unwritten(rt);
         return;
     }
-    reply::message(text, end);
-    reply::fine();
+    reply::message(rt, text, end);
+    reply::fine(rt);
 }
 
 // The verdicts on a site, in English, that it has no numbering where it has none, its rule, and the last word.
-fn why(input: &[u8], table: &mut [u8], text: &mut [u8])
+fn why(rt: &HostRuntime, input: &[u8], table: &mut [u8], text: &mut [u8])
     requires in_bounds { 65536 ≤ length table.old }
     requires in_bounds_2 { 65536 ≤ length text.old }
 {
@@ -81,39 +81,45 @@ fn why(input: &[u8], table: &mut [u8], text: &mut [u8])
     let answer = read.answer;
     let site = read.site;
     let ReadAnswer::Done = answer else {
-        refuse(text, input, answer);
+        refuse(rt, text, input, answer);
         return;
     };
     let end = say_why::put_why(site, table, text);
     let end = say_numbering::put_anew(text, end, site);
-    if !reply::result(text, end) {
-        reply::unwritten();
+    if !reply::result(rt, text, end) {
+        reply::unwritten(rt);
         return;
     }
-    if !put_air(site, text) {
-        reply::unwritten();
+    if !put_air(rt, site, text) {
+        reply::unwritten(rt);
         return;
     }
     let found = say_find::find_why(site, table);
     let end = say_find::put_last_line(text, 0, found);
-    if !reply::result(text, end) {
-        reply::unwritten();
+    if !reply::result(rt, text, end) {
+        reply::unwritten(rt);
         return;
     }
-    put_status(say_find::status(found));
+    put_status(rt, say_find::status(found));
 }
 
 // Does what the command says, if it is one of these; whether it is.
-pub fn find_commands(input: &[u8], table: &mut [u8], out: &mut [u8], text: &mut [u8]) -> bool
+pub fn find_commands(
+    rt: &HostRuntime,
+    input: &[u8],
+    table: &mut [u8],
+    out: &mut [u8],
+    text: &mut [u8],
+) -> bool
     requires in_bounds { 65536 ≤ length table.old }
     requires in_bounds_2 { 65536 ≤ length text.old }
 {
-    if is(b"find") {
-        find(input, table, out, text);
+    if is(rt, b"find") {
+        find(rt, input, table, out, text);
         return true;
     }
-    if is(b"why") {
-        why(input, table, text);
+    if is(rt, b"why") {
+        why(rt, input, table, text);
         return true;
     }
     false

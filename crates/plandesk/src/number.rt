@@ -9,32 +9,32 @@ use reply::no;
 use site::Site;
 
 // A site in new numbers: the site file, and the text, a line for each cell. The lines are a part of the result: where they can't be written it is none.
-fn put_renumbered(site: Site, out: &mut [u8], text: &[u8], end: usize) {
+fn put_renumbered(rt: &HostRuntime, site: Site, out: &mut [u8], text: &[u8], end: usize) {
     let written = sitefile::write_site(site, out);
     let Written::Done(size) = written else {
-        reply::unwritten();
+        reply::unwritten(rt);
         return;
     };
-    if !reply::result(out, size) {
-        reply::unwritten();
+    if !reply::result(rt, out, size) {
+        reply::unwritten(rt);
         return;
     }
-    if !reply::message(text, end) {
-        reply::unwritten();
+    if !reply::message(rt, text, end) {
+        reply::unwritten(rt);
         return;
     }
-    reply::fine();
+    reply::fine(rt);
 }
 
 // Numbers the cells of a site anew.
-fn renumber(input: &[u8], out: &mut [u8], text: &mut [u8])
+fn renumber(rt: &HostRuntime, input: &[u8], out: &mut [u8], text: &mut [u8])
     requires { 65536 ≤ length text.old }
 {
     let read = sitefile::read_site(input);
     let answer = read.answer;
     let site = read.site;
     let ReadAnswer::Done = answer else {
-        refuse(text, input, answer);
+        refuse(rt, text, input, answer);
         return;
     };
     let renumbered = numbering::renumber(site);
@@ -43,14 +43,15 @@ fn renumber(input: &[u8], out: &mut [u8], text: &mut [u8])
     let moved = renumbered.site;
     let end = say_numbering::put_renumber(text, 0, new, found);
     let RenumberAnswer::Done = found else {
-        no(text, end);
+        no(rt, text, end);
         return;
     };
-    put_renumbered(moved, out, text, end);
+    put_renumbered(rt, moved, out, text, end);
 }
 
 // Carries a plan of the renumbered site back into the old numbers.
 fn carry(
+    rt: &HostRuntime,
     input: &[u8],
     second: &[u8],
     from: &mut [u8],
@@ -60,7 +61,7 @@ fn carry(
 )
     requires { 65536 ≤ length text.old }
 {
-    let pair = read_pair(input, second, from, text);
+    let pair = read_pair(rt, input, second, from, text);
     if !pair.good {
         return;
     }
@@ -68,18 +69,19 @@ fn carry(
     let carried = numbering::carry(site, from, table);
     let end = say_numbering::put_carry(text, 0, carried);
     let CarryAnswer::Done = carried else {
-        no(text, end);
+        no(rt, text, end);
         return;
     };
-    if !give_plan(site, table, out) {
-        reply::unwritten();
+    if !give_plan(rt, site, table, out) {
+        reply::unwritten(rt);
         return;
     }
-    reply::fine();
+    reply::fine(rt);
 }
 
 // Does what the command says, if it is one of these; whether it is.
 pub fn number_commands(
+    rt: &HostRuntime,
     input: &[u8],
     second: &[u8],
     old: &mut [u8],
@@ -89,12 +91,12 @@ pub fn number_commands(
 ) -> bool
     requires { 65536 ≤ length text.old }
 {
-    if is(b"renumber") {
-        renumber(input, out, text);
+    if is(rt, b"renumber") {
+        renumber(rt, input, out, text);
         return true;
     }
-    if is(b"carry") {
-        carry(input, second, old, table, out, text);
+    if is(rt, b"carry") {
+        carry(rt, input, second, old, table, out, text);
         return true;
     }
     false

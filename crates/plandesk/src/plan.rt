@@ -19,35 +19,35 @@ use site::Site;
 const SHOWN: usize = 5;
 
 // Plans a site: the plan file, and a line that says what was planned.
-fn plan(input: &[u8], table: &mut [u8], out: &mut [u8], text: &mut [u8])
+fn plan(rt: &HostRuntime, input: &[u8], table: &mut [u8], out: &mut [u8], text: &mut [u8])
     requires { 65536 ≤ length text.old }
 {
     let read = sitefile::read_site(input);
     let answer = read.answer;
     let site = read.site;
     let ReadAnswer::Done = answer else {
-        refuse(text, input, answer);
+        refuse(rt, text, input, answer);
         return;
     };
     let planned = planner::plan(site, table);
     let end = say_verdicts::put_plan(text, 0, site, planned);
     let PlanAnswer::Done = planned else {
-        no(text, end);
+        no(rt, text, end);
         return;
     };
-    if !give_plan(site, table, out) {
-        reply::unwritten();
+    if !give_plan(rt, site, table, out) {
+        reply::unwritten(rt);
         return;
     }
-    reply::message(text, end);
-    reply::fine();
+    reply::message(rt, text, end);
+    reply::fine(rt);
 }
 
 // Checks a plan file: valid, or the first thing wrong.
-fn check(input: &[u8], second: &[u8], table: &mut [u8], text: &mut [u8])
+fn check(rt: &HostRuntime, input: &[u8], second: &[u8], table: &mut [u8], text: &mut [u8])
     requires { 65536 ≤ length text.old }
 {
-    let pair = read_pair(input, second, table, text);
+    let pair = read_pair(rt, input, second, table, text);
     if !pair.good {
         return;
     }
@@ -55,33 +55,42 @@ fn check(input: &[u8], second: &[u8], table: &mut [u8], text: &mut [u8])
     let verdict = checker::check(site, table);
     let end = say_verdicts::put_check(text, 0, site, verdict);
     let CheckAnswer::Valid = verdict else {
-        no(text, end);
+        no(rt, text, end);
         return;
     };
-    yes(text, end);
+    yes(rt, text, end);
 }
 
 // A mended plan: the plan file, the text so far, and each change. The changes are a part of the result: where they can't be written it is none.
-fn put_mended(site: Site, old: &[u8], table: &[u8], out: &mut [u8], text: &mut [u8], end: usize)
+fn put_mended(
+    rt: &HostRuntime,
+    site: Site,
+    old: &[u8],
+    table: &[u8],
+    out: &mut [u8],
+    text: &mut [u8],
+    end: usize,
+)
     requires { 65536 ≤ length text.old }
 {
-    if !give_plan(site, table, out) {
-        reply::unwritten();
+    if !give_plan(rt, site, table, out) {
+        reply::unwritten(rt);
         return;
     }
-    if !reply::message(text, end) {
-        reply::unwritten();
+    if !reply::message(rt, text, end) {
+        reply::unwritten(rt);
         return;
     }
-    if !put_all_changes(old, table, text, site, false) {
-        reply::unwritten();
+    if !put_all_changes(rt, old, table, text, site, false) {
+        reply::unwritten(rt);
         return;
     }
-    reply::fine();
+    reply::fine(rt);
 }
 
 // Mends a plan. It is read twice: one table is mended, and the other keeps what it was.
 fn mend(
+    rt: &HostRuntime,
     input: &[u8],
     second: &[u8],
     old: &mut [u8],
@@ -91,7 +100,7 @@ fn mend(
 )
     requires { 65536 ≤ length text.old }
 {
-    let pair = read_pair(input, second, old, text);
+    let pair = read_pair(rt, input, second, old, text);
     if !pair.good {
         return;
     }
@@ -100,10 +109,10 @@ fn mend(
     let mended = mender::mend_only(site, table);
     let end = say_verdicts::put_mend(text, 0, mended);
     let MendAnswer::Done(_) = mended else {
-        no(text, end);
+        no(rt, text, end);
         return;
     };
-    put_mended(site, old, table, out, text, end);
+    put_mended(rt, site, old, table, out, text, end);
 }
 
 // Whether a plan file is the site's own plan. It has no forbidden marks, so the planner makes the table, with its marks, and the plan file of that has the same
@@ -124,23 +133,31 @@ fn own_plan(site: Site, second: &[u8], table: &mut [u8], out: &mut [u8]) -> bool
 }
 
 // A site and its plan, each as a result of its own.
-fn put_both(site: Site, table: &[u8], out: &mut [u8]) -> bool {
+fn put_both(rt: &HostRuntime, site: Site, table: &[u8], out: &mut [u8]) -> bool {
     let written = sitefile::write_site(site, out);
     let Written::Done(size) = written else {
         return false;
     };
-    if !reply::result(out, size) {
+    if !reply::result(rt, out, size) {
         return false;
     }
     let planned = planfile::write_plan(site, table, out);
     let PlanWritten::Done(length) = planned else {
         return false;
     };
-    reply::second_result(out, length)
+    reply::second_result(rt, out, length)
 }
 
 // The load of a cell changed in a site and in its table: both files, and a line that says what is planned now.
-fn change(site: Site, cell: u16, load: u16, table: &mut [u8], out: &mut [u8], text: &mut [u8])
+fn change(
+    rt: &HostRuntime,
+    site: Site,
+    cell: u16,
+    load: u16,
+    table: &mut [u8],
+    out: &mut [u8],
+    text: &mut [u8],
+)
     requires { 65536 ≤ length text.old }
 {
     let changed = handheld::changed_load(site, cell as usize, load, table);
@@ -148,19 +165,20 @@ fn change(site: Site, cell: u16, load: u16, table: &mut [u8], out: &mut [u8], te
     let new = changed.site;
     let end = say_handheld::put_change(text, 0, cell as usize, load as usize, answer);
     let ChangeAnswer::Done = answer else {
-        no(text, end);
+        no(rt, text, end);
         return;
     };
-    if !put_both(new, table, out) {
-        reply::unwritten();
+    if !put_both(rt, new, table, out) {
+        reply::unwritten(rt);
         return;
     }
-    reply::message(text, end);
-    reply::fine();
+    reply::message(rt, text, end);
+    reply::fine(rt);
 }
 
 // Changes one load of a site and of its plan. A plan that is not the site's own is taken as it was read, and is refused.
 fn load(
+    rt: &HostRuntime,
     input: &[u8],
     second: &[u8],
     cell: u16,
@@ -172,55 +190,71 @@ fn load(
 )
     requires { 65536 ≤ length text.old }
 {
-    let pair = read_pair(input, second, read, text);
+    let pair = read_pair(rt, input, second, read, text);
     if !pair.good {
         return;
     }
     let site = pair.site;
     if own_plan(site, second, table, out) {
-        change(site, cell, load, table, out, text);
+        change(rt, site, cell, load, table, out, text);
         return;
     }
-    change(site, cell, load, read, out, text);
+    change(rt, site, cell, load, read, out, text);
 }
 
 // A search, which is shown while it runs, or not.
-fn sought(site: Site, tries: u64, shown: bool, table: &mut [u8], text: &mut [u8]) -> SearchAnswer
+fn sought(
+    rt: &HostRuntime,
+    site: Site,
+    tries: u64,
+    shown: bool,
+    table: &mut [u8],
+    text: &mut [u8],
+) -> SearchAnswer
     requires { 65536 ≤ length text.old }
 {
     if shown {
-        return crate::searching::search_shown(site, tries, table, text);
+        return crate::searching::search_shown(rt, site, tries, table, text);
     }
     search::search(site, tries, table)
 }
 
 // Searches for a plan of a site: the plan file, and a line that says how the search ended.
-fn search(input: &[u8], tries: u64, shown: bool, table: &mut [u8], out: &mut [u8], text: &mut [u8])
+fn search(
+    rt: &HostRuntime,
+    input: &[u8],
+    tries: u64,
+    shown: bool,
+    table: &mut [u8],
+    out: &mut [u8],
+    text: &mut [u8],
+)
     requires { 65536 ≤ length text.old }
 {
     let read = sitefile::read_site(input);
     let answer = read.answer;
     let site = read.site;
     let ReadAnswer::Done = answer else {
-        refuse(text, input, answer);
+        refuse(rt, text, input, answer);
         return;
     };
-    let found = sought(site, tries, shown, table, text);
+    let found = sought(rt, site, tries, shown, table, text);
     let end = say_search::put_search(text, 0, found);
     let SearchAnswer::Plan(_) = found else {
-        no(text, end);
+        no(rt, text, end);
         return;
     };
-    if !give_plan(site, table, out) {
-        reply::unwritten();
+    if !give_plan(rt, site, table, out) {
+        reply::unwritten(rt);
         return;
     }
-    reply::message(text, end);
-    reply::fine();
+    reply::message(rt, text, end);
+    reply::fine(rt);
 }
 
 // The commands that have a plan beside the site; whether it is one of them.
 fn pair_commands(
+    rt: &HostRuntime,
     input: &[u8],
     second: &[u8],
     old: &mut [u8],
@@ -230,14 +264,14 @@ fn pair_commands(
 ) -> bool
     requires { 65536 ≤ length text.old }
 {
-    if is(b"mend") {
-        mend(input, second, old, table, out, text);
+    if is(rt, b"mend") {
+        mend(rt, input, second, old, table, out, text);
         return true;
     }
-    if is(b"load") {
-        let cell = number(NUMBERS);
-        let new = number(NUMBERS + 1);
-        load(input, second, cell, new, old, table, out, text);
+    if is(rt, b"load") {
+        let cell = number(rt, NUMBERS);
+        let new = number(rt, NUMBERS + 1);
+        load(rt, input, second, cell, new, old, table, out, text);
         return true;
     }
     false
@@ -245,6 +279,7 @@ fn pair_commands(
 
 // Does what the command says, if it is one on a plan; whether it is.
 pub fn plan_commands(
+    rt: &HostRuntime,
     input: &[u8],
     second: &[u8],
     old: &mut [u8],
@@ -254,19 +289,19 @@ pub fn plan_commands(
 ) -> bool
     requires { 65536 ≤ length text.old }
 {
-    if is(b"plan") {
-        plan(input, table, out, text);
+    if is(rt, b"plan") {
+        plan(rt, input, table, out, text);
         return true;
     }
-    if is(b"check") {
-        check(input, second, table, text);
+    if is(rt, b"check") {
+        check(rt, input, second, table, text);
         return true;
     }
-    if is(b"search") {
-        let limit = tries();
-        let shown = number(SHOWN) == 1;
-        search(input, limit, shown, table, out, text);
+    if is(rt, b"search") {
+        let limit = tries(rt);
+        let shown = number(rt, SHOWN) == 1;
+        search(rt, input, limit, shown, table, out, text);
         return true;
     }
-    pair_commands(input, second, old, table, out, text)
+    pair_commands(rt, input, second, old, table, out, text)
 }

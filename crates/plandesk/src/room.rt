@@ -9,7 +9,7 @@ use records::ReadAnswer;
 use site::Site;
 
 // The first line, where no plan is found; whether all of it was written.
-fn put_word(reply: FindAnswer, text: &mut [u8]) -> bool
+fn put_word(rt: &HostRuntime, reply: FindAnswer, text: &mut [u8]) -> bool
     requires { 65536 ≤ length text.old }
 {
     if say_find::status(reply) == 0 {
@@ -17,16 +17,16 @@ fn put_word(reply: FindAnswer, text: &mut [u8]) -> bool
     }
     let word = say_find::put_last(text, 0, reply);
     let end = say_room::put_word_end(text, word, reply);
-    reply::result(text, end)
+    reply::result(rt, text, end)
 }
 
 // The line of each cell, where a plan is found; whether all of it was written.
-fn put_rooms(site: Site, reply: FindAnswer, text: &mut [u8]) -> bool
+fn put_rooms(rt: &HostRuntime, site: Site, reply: FindAnswer, text: &mut [u8]) -> bool
     requires { 65536 ≤ length text.old }
 {
     for i in 0..32 {
         let end = say_room::put_room(text, 0, site, i, reply);
-        if !reply::result(text, end) {
+        if !reply::result(rt, text, end) {
             return false;
         }
     }
@@ -34,39 +34,39 @@ fn put_rooms(site: Site, reply: FindAnswer, text: &mut [u8]) -> bool
 }
 
 // How much more each cell of a site could carry, with all else as it is; and how many slots would do.
-fn tell_room(input: &[u8], table: &mut [u8], text: &mut [u8])
+fn tell_room(rt: &HostRuntime, input: &[u8], table: &mut [u8], text: &mut [u8])
     requires { 65536 ≤ length text.old }
 {
     let read = sitefile::read_site(input);
     let answer = read.answer;
     let site = read.site;
     let ReadAnswer::Done = answer else {
-        refuse(text, input, answer);
+        refuse(rt, text, input, answer);
         return;
     };
-    let reply = found(site, table);
-    if !put_word(reply, text) {
-        reply::unwritten();
+    let reply = found(rt, site, table);
+    if !put_word(rt, reply, text) {
+        reply::unwritten(rt);
         return;
     }
-    if !put_rooms(site, reply, text) {
-        reply::unwritten();
+    if !put_rooms(rt, site, reply, text) {
+        reply::unwritten(rt);
         return;
     }
     let end = say_room::put_size(text, 0, site, reply);
-    if !reply::result(text, end) {
-        reply::unwritten();
+    if !reply::result(rt, text, end) {
+        reply::unwritten(rt);
         return;
     }
-    reply::fine();
+    reply::fine(rt);
 }
 
 // Does what the command says, if it is `room`; whether it is.
-pub fn room_commands(input: &[u8], table: &mut [u8], text: &mut [u8]) -> bool
+pub fn room_commands(rt: &HostRuntime, input: &[u8], table: &mut [u8], text: &mut [u8]) -> bool
     requires { 65536 ≤ length text.old }
 {
-    if is(b"room") {
-        tell_room(input, table, text);
+    if is(rt, b"room") {
+        tell_room(rt, input, table, text);
         return true;
     }
     false

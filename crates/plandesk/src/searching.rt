@@ -36,7 +36,13 @@ fn next(step: u64, limit: u64) -> u64
 }
 
 // The search with this limit. What was not decided by a smaller one is said on the way.
-pub fn search_shown(site: Site, limit: u64, table: &mut [u8], text: &mut [u8]) -> SearchAnswer
+pub fn search_shown(
+    rt: &HostRuntime,
+    site: Site,
+    limit: u64,
+    table: &mut [u8],
+    text: &mut [u8],
+) -> SearchAnswer
     requires { 1000 ≤ length text.old }
     ensures answer { result ≡ search_answer site limit table.old }
     ensures table { table.new ≡ search_table site limit table.old }
@@ -48,7 +54,7 @@ pub fn search_shown(site: Site, limit: u64, table: &mut [u8], text: &mut [u8]) -
             return reply;
         }
         let end = say_search::put_on(text, 0, step);
-        reply::message(text, end);
+        reply::message(rt, text, end);
         step = next(step, limit);
     }
     search::search(site, limit, table)

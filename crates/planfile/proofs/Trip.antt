@@ -58,7 +58,8 @@ pub packed-bits : (r : List ℕ) (n : ℕ) → length r ≡ n → bits_from (pac
 packed-bits r n l =
     ext_get_or 0 (bits_from (packed_from r 0 (bytes_for n)) 0 n) (map one r) (length-bits (packed_from r 0 (bytes_for n)) n 0 ∙ sym (length-map r one ∙ l)) at
   where
-    at : (k : ℕ) → k < length (bits_from (packed_from r 0 (bytes_for n)) 0 n) → get_or (bits_from (packed_from r 0 (bytes_for n)) 0 n) k 0 ≡ get_or (map one r) k 0
+    at : (k : ℕ) → k < length (bits_from (packed_from r 0 (bytes_for n)) 0 n) → get_or (bits_from (packed_from r 0 (bytes_for n)) 0 n) k 0 ≡ get_or
+        (map one r) k 0
     at k h =
         let g : k < n = rw (length-bits (packed_from r 0 (bytes_for n)) n 0) at h in
         bits_at (packed_from r 0 (bytes_for n)) n 0 k g
@@ -173,7 +174,8 @@ module _ (i a f : ℕ) (t : List ℕ) where
     plan-good : first_reason (open_reasons B) ≡ Done
     plan-good =
         let n : 2 + length P ≡ 2 + bytes_for (entries_of_head B) = ap (λ (k : ℕ). 2 + k) p-length ∙ ap (λ (k : ℕ). 2 + bytes_for k) (sym entries-back) in
-        record-back B (plan_at B) 4 P [] plan-here (Exact (2 + bytes_for (entries_of_head B))) (rw n (exact-true (2 + bytes_for (entries_of_head B)) (omega arith)))
+        record-back B (plan_at B) 4 P [] plan-here (Exact (2 + bytes_for (entries_of_head B)))
+        (rw n (exact-true (2 + bytes_for (entries_of_head B)) (omega arith)))
 
     content-good : (u : List ℕ) → entries i a f ≤ length u → first_reason (content_reasons B u) ≡ Done
     unfolding first_reason

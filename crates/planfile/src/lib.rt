@@ -1,4 +1,6 @@
 // The plan file, read and written: a head, and one bit for each cell and position, which crate planbits packs and unpacks.
+#![tactic(auto)]
+
 ghost use Rattle.std.specs.Prelude.{◌≡◌, length};
 ghost use Rattle.site.specs.Record.{entries};
 ghost use Rattle.records.specs.Bits.{bytes_for};
@@ -14,7 +16,7 @@ use records::{
 use site::{Fault, Site};
 
 // What a plan read gives: I, T and F, or three zeros beside a refusal.
-#[derive(Drop)]
+#[derive(Clone, Copy)]
 pub struct PlanRead {
     pub cells: u16,
     pub slots: u16,
@@ -23,7 +25,7 @@ pub struct PlanRead {
 }
 
 // What the writer answers: the bytes written; the table is too short; the output is too short, with the bytes needed; or the site's fault.
-#[derive(Drop)]
+#[derive(Clone, Copy)]
 pub enum PlanWritten {
     Done(usize),
     TableShort,

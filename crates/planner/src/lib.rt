@@ -1,5 +1,7 @@
 // The greedy planner over a lent byte table: cells in rising number, and each cell's row filled where it stands. Where there are few positions each row is
 // a word.
+#![tactic(auto)]
+
 ghost use Rattle.std.specs.Prelude.{◌≡◌, not, ◌*◌, ◌^◌, ◌≤◌, ◌<◌, length, get_or};
 ghost use Rattle.laws.specs.Bits.{bit_at, bit_in};
 ghost use Rattle.theory.specs.Greedy.{greedy};
@@ -13,7 +15,7 @@ use shortrows::{open_word, plan_short_row};
 use site::{Fault, Site};
 
 // What the planner answers: done; 4, the table is short; 5, a cell's number and how many of its fragments found no room; or what is wrong with the record.
-#[derive(Drop)]
+#[derive(Clone, Copy)]
 pub enum PlanAnswer {
     Done,
     TableShort,

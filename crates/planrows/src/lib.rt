@@ -2,6 +2,8 @@
 //
 // What it costs: for each earlier clashing row a pass over the stretch in which that row is reserved, and one pass to fill it. Where the marks of the row
 // before can be taken over, that is one pass for all of the rows that they come from.
+#![tactic(auto)]
+
 ghost use Rattle.std.specs.Prelude.{◌≡◌, ◌+◌, ◌*◌, ◌^◌, ◌≤◌, ◌<◌, length, get_or};
 ghost use Rattle.laws.specs.Bits.{bit_in, set_bit};
 ghost use Rattle.laws.specs.Part.{part, put};

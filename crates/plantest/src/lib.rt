@@ -2,6 +2,8 @@
 //
 // What it costs: for each row what it costs to plan it, and one pass to compare it. The local room is a byte for each position, and one more for each where a
 // position is blocked: 4 kilobytes, and for up to 128 positions 256 bytes. There is no second table.
+#![tactic(auto)]
+
 ghost use Rattle.std.specs.Prelude.{◌≡◌, ◌+◌, ◌*◌, ◌≤◌, ◌<◌, length};
 ghost use Rattle.theory.specs.Plan.{is_plan};
 ghost use Rattle.site.specs.Reach.{is_open, net_by};

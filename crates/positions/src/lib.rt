@@ -1,4 +1,6 @@
 // A set of positions as 32 words of 64 bits: position k is bit k % 64 of word k / 64. Counted and searched a word at a time.
+#![tactic(auto)]
+
 ghost use Rattle.std.specs.Prelude.{◌≡◌, false, not, ◌&&◌, ℕ, ◌+◌, ◌^◌, ◌≤◌, ◌<◌, eqb, length};
 ghost use Rattle.laws.specs.Bits.{bit_at};
 ghost use Rattle.laws.specs.Choice.{pick};

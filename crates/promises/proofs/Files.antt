@@ -53,7 +53,8 @@ site-written-read s held out n e =
     let m : length (site_bytes s) ∷ [] ≡ n ∷ [] = sym w.0 ∙ ap (λ (g : Given). g.values) e in
     let count : length (site_bytes s) ≡ n = cc in
     let file : take n (site_out s out) ≡ site_bytes s = rw w.1 (take_at (site_bytes s) (drop (length (site_bytes s)) out) n count) in
-    let is : read_site (take n (site_out s out)) ≡ site_done s = ap read_site file ∙ written_then_read s held ((accepted-number s).0 (site-accepted s out zero)) in
+    let is : read_site (take n (site_out s out)) ≡ site_done s = ap read_site file ∙ written_then_read s held
+    ((accepted-number s).0 (site-accepted s out zero)) in
     (ap (λ (r : SiteRead). read_given r.answer) is, ap (λ (r : SiteRead). r.site) is)
 
 -- an accepted file written again is the same bytes: `write_site` of what `read_site` read

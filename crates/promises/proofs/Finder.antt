@@ -136,7 +136,7 @@ module _ (s : Site) (limit : ℕ) (t : List ℕ) where
       × (((tries ≡ limit) × (limit < tries_for s)) ⊎ ((tries ≡ 0) × (Searchable s → ⊥)))
   unknown tries e =
       let is = find-apart said (NotKnown tries) (find-proper s limit t) refl e in
-      let h = right.not_known s limit t tries is in (
+      let h = right.not_known-law s limit t tries is in (
         h.0,
         h.1,
         right.idle-part s limit t (ap is_verdict is) (ap is_plan is),
@@ -145,16 +145,16 @@ module _ (s : Site) (limit : ℕ) (t : List ℕ) where
 
 pub a-plan-by-any-way : APlanByAnyWay
 a-plan-by-any-way = record {
-  plan_right = λ site limit lent left r says way x e. rw says.table_after_holds (a-plan site limit lent way x (rw says.answer at e));
-  none_right = λ site limit lent left r says way x e. rw says.table_after_holds (a-none site limit lent way x (rw says.answer at e));
+  plan_right = λ site limit lent left r says way x e. rw says.table_after (a-plan site limit lent way x (rw says.answer at e));
+  none_right = λ site limit lent left r says way x e. rw says.table_after (a-none site limit lent way x (rw says.answer at e));
   set_right = λ site limit lent left r says cells e h heavy o full.
       rw (heavy.answer, full.answer) (a-set site limit lent cells (rw says.answer at e));
   never_renumbered = λ site limit lent left r says x e. no-class site limit lent x (rw says.answer at e);
   larger = λ site limit more lent left left' r r' l says says' way x e.
-      rw (says'.answer, says'.table_after_holds, says.answer, says.table_after_holds) (a-larger site limit lent more l way x (rw says.answer at e));
+      rw (says'.answer, says'.table_after, says.answer, says.table_after) (a-larger site limit lent more l way x (rw says.answer at e));
   planner_kept = λ site limit lent left r says planned its plan e.
-      rw (says.answer, says.table_after_holds, plan.table_after_holds) (the-planners site limit lent (rw plan.answer at e));
-  not_known_right = λ site limit lent left r says tries e. rw says.table_after_holds (unknown site limit lent tries (rw says.answer at e));
+      rw (says.answer, says.table_after, plan.table_after) (the-planners site limit lent (rw plan.answer at e));
+  not_known_right = λ site limit lent left r says tries e. rw says.table_after (unknown site limit lent tries (rw says.answer at e));
 }
 
 -- ---- `over_full`

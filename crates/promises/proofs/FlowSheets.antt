@@ -49,7 +49,8 @@ module _ (b : List ℕ) where
   )
 
   -- no flows stand beside a refusal: none are counted, and all 16 places are zeros
-  pub flows-refused-none : (flows_given (read_flows b).answer ≡ done → ⊥) → ((read_flows b).flows.count ≡ 0) × ((read_flows b).flows.list ≡ replicate 16 zero_flow)
+  pub flows-refused-none : (flows_given (read_flows b).answer ≡ done → ⊥) → ((read_flows b).flows.count ≡ 0) ×
+      ((read_flows b).flows.list ≡ replicate 16 zero_flow)
   unfolding no_flows
   flows-refused-none n =
       let e = none_beside b (λ q. n (ap flows_given q)) in

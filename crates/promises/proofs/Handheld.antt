@@ -62,9 +62,9 @@ zero-or-five (no_room c m) z = z.1 refl
 -- the table is the plan
 pub is-the-plan : (s : Site) (t : List ℕ) → fault_of s ≡ Fine → size s ≤ length t → table_is_plan s t ≡ true ↔ IsThePlan s t
 is-the-plan s t fine long = (
-  λ e said left says. let m = (plan-means s t fine long).0 e in (ap plan_given (says.answer ∙ m.0), says.table_after_holds ∙ m.1),
+  λ e said left says. let m = (plan-means s t fine long).0 e in (ap plan_given (says.answer ∙ m.0), says.table_after ∙ m.1),
   λ h.
-      let z = h (plan_answer s t) (plan_table s t) (record { answer = refl; table_after_holds = refl }) in
+      let z = h (plan_answer s t) (plan_table s t) (record { answer = refl; table_after = refl }) in
       (plan-means s t fine long).1 ((plan-number s t).0 z.0, z.1),
 )
 
@@ -162,7 +162,7 @@ module _ (s s' : Site) (cell load : ℕ) (t t' : List ℕ) (r : ChangeAnswer) (s
         let made = fresh s cell load t f long is in
         let new_is : edited.site ≡ with_load s (cell - 1) load = edit-site s cell load sets.answer f in (
           says.site_after ∙ made.1 ∙ sym new_is,
-          says.table_after_holds ∙ made.2 ∙ sym (plans.table_after_holds ∙ ap (λ (x : Site). plan_table x t) new_is),
+          says.table_after ∙ made.2 ∙ sym (plans.table_after ∙ ap (λ (x : Site). plan_table x t) new_is),
           ap change_given says.answer ∙ number_is s cell load t (f, long, is)
               ∙ sym (ap plan_given (plans.answer ∙ ap (λ (x : Site). plan_answer x t) new_is)),
         )
@@ -170,7 +170,7 @@ module _ (s s' : Site) (cell load : ℕ) (t t' : List ℕ) (r : ChangeAnswer) (s
     pub five-keeps : (change_given r).number ≡ 5 → (s' ≡ edited.site) × (Idle (size s) t t')
     five-keeps e =
         let k = change-no-room s cell load t (ap (λ a. (change_given a).number) (sym says.answer) ∙ e) in
-        (says.site_after ∙ k.0 ∙ sym (edit-site s cell load sets.answer k.2), says.table_after_holds ∙ k.1)
+        (says.site_after ∙ k.0 ∙ sym (edit-site s cell load sets.answer k.2), says.table_after ∙ k.1)
 
   -- where it is done: the record is the edited one, without a fault, and the table is its plan
   module _ (ok : change_given r ≡ done) where
@@ -180,7 +180,7 @@ module _ (s s' : Site) (cell load : ℕ) (t t' : List ℕ) (r : ChangeAnswer) (s
     pub lower_rows_stay : take ((cell - 1) * positions s) t' ≡ take ((cell - 1) * positions s) t
     lower_rows_stay =
         let p = passed in
-        ap (take ((cell - 1) * positions s)) says.table_after_holds ∙ lower-rows s cell load t p.0.0 p.0.1 p.0.2 p.1
+        ap (take ((cell - 1) * positions s)) says.table_after ∙ lower-rows s cell load t p.0.0 p.0.1 p.0.2 p.1
 
     new-site : s' ≡ with_load s (cell - 1) load
     new-site = let p = passed in says.site_after ∙ (fresh s cell load t p.0.0 p.0.1 p.0.2).1
@@ -189,13 +189,13 @@ module _ (s s' : Site) (cell load : ℕ) (t t' : List ℕ) (r : ChangeAnswer) (s
     new-long =
         let p = passed in
         let e = left-long s cell load t p.0.0 p.0.1 p.0.2 p.1 in
-        let l : length t' ≡ length t = ap length says.table_after_holds ∙ e in
+        let l : length t' ≡ length t = ap length says.table_after ∙ e in
         omega (arith, l, p.0.1)
 
     new-plan : table_is_plan (with_load s (cell - 1) load) t' ≡ true
     new-plan =
         let p = passed in
-        ap (table_is_plan (with_load s (cell - 1) load)) says.table_after_holds ∙ next-good s cell load t p.0.0 p.0.1 p.0.2 p.1
+        ap (table_is_plan (with_load s (cell - 1) load)) says.table_after ∙ next-good s cell load t p.0.0 p.0.1 p.0.2 p.1
 
     pub leaves_the_plan : (LongEnough s' t') × (IsThePlan s' t')
     leaves_the_plan =
@@ -235,9 +235,9 @@ module _ (s s' : Site) (cell load : ℕ) (t t' : List ℕ) (r : ChangeAnswer) (s
             let ok₂ = edited-fine once cell₂ load₂ fine₂ in (
               then.site_after ∙ ap (λ (x : Site). change_site x cell₂ load₂ t') new-site
                   ∙ (fresh once cell₂ load₂ t' fine₂ new-long new-plan).1 ∙ sym twice-is,
-              then.table_after_holds ∙ ap (λ (x : Site). change_table x cell₂ load₂ t') new-site ∙ ap (change_table once cell₂ load₂) says.table_after_holds
+              then.table_after ∙ ap (λ (x : Site). change_table x cell₂ load₂ t') new-site ∙ ap (change_table once cell₂ load₂) says.table_after
                   ∙ two_edits s cell load t p.0.0 p.0.1 p.0.2 p.1 cell₂ load₂ fine₂
-                  ∙ sym (plans.table_after_holds ∙ ap (λ (x : Site). plan_table x t) twice-is),
+                  ∙ sym (plans.table_after ∙ ap (λ (x : Site). plan_table x t) twice-is),
               ap change_given (then.answer ∙ ap (λ (x : Site). change_answer x cell₂ load₂ t') new-site)
                   ∙ number_is once cell₂ load₂ t' (fine₂, new-long, new-plan)
                   ∙ ap plan_given (run-answer twice t' ok₂ new-long ∙ sym (run-answer twice t ok₂ p.0.1))

@@ -63,7 +63,8 @@ least-where s = (
       (judge-is-nested s).1 ((accepted-number s).1 m.0, m.1),
 )
 
-module _ (site : Site) (n : ℕ) (e : least_given (least_answer site) ≡ done_with (n ∷ 0 ∷ [])) (other : Site) (ok : Accepted other) (alike : Alike other site) where
+module _ (site : Site) (n : ℕ) (e : least_given (least_answer site) ≡ done_with (n ∷ 0 ∷ [])) (other : Site) (ok : Accepted other)
+    (alike : Alike other site) where
   nested-too : class_given (class_answer other) ≡ done
   nested-too = (judge-is-nested other).1 (ok, same_class other site alike ((least-means site n).0 ((least-number site n).0 e)).1)
 

@@ -114,7 +114,7 @@ planned-with : (site : Site) (found : Renumbered) → found ≡ renumber_of site
     × (plan_given planned ≡ done → (carry_given carried ≡ done) × (DefinitionOne site to') × (drop (size site) to' ≡ drop (size site) to))
 planned-with site found e h lent left planned long plans to to' carried fits carries =
     let numbers : renumber_given (renumber_of site).answer ≡ done = rw e at h in
-    rw (carries.answer, carries.to_after, plans.answer, plans.table_after_holds, e) (exactly site numbers lent to long fits, back site numbers lent to long fits)
+    rw (carries.answer, carries.to_after, plans.answer, plans.table_after, e) (exactly site numbers lent to long fits, back site numbers lent to long fits)
 
 pub find-the-numbering : FindTheNumbering
 find-the-numbering = record {

@@ -43,7 +43,8 @@ use Rattle.say_refusals.specs.Sentences.{sentence}
 use Rattle.say_refusals.specs.declared.Sentence.{Sentence}
 use Rattle.say_refusals.specs.declared.Sentence.TheVariants.{Refusal}
 use Rattle.verdicts.specs.Lines.{verdict_lines, unchanged_row, mended_row, blocked_row}
-use Rattle.verdicts.specs.Said.{line, reach_named, way_sentence, blocked_sentence, clash_sentence, changes_sentence, fault_said, check_said, plan_said, mend_said}
+use Rattle.verdicts.specs.Said.{line, reach_named, way_sentence, blocked_sentence, clash_sentence, changes_sentence, fault_said, check_said, plan_said}
+use Rattle.verdicts.specs.Said.{mend_said}
 use Rattle.verdicts.specs.Said.{valid_line, planned_line, unchanged_line, mended_line}
 use Rattle.demanded.specs.Numbers.{done}
 use Rattle.demanded.specs.Demands.{Accepted, LongEnough}

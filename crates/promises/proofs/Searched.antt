@@ -99,11 +99,11 @@ module _ (s : Site) (limit : ℕ) (t : List ℕ) where
 
 pub search-where-greedy-gives-up : SearchWhereGreedyGivesUp
 search-where-greedy-gives-up = record {
-  plan_right = λ site limit lent left r says n e. rw says.table_after_holds (a-plan site limit lent n (rw says.answer at e));
+  plan_right = λ site limit lent left r says n e. rw says.table_after (a-plan site limit lent n (rw says.answer at e));
   none_right = λ site limit lent left r says n e. a-none site limit lent n (rw says.answer at e);
   none_exactly = λ site limit lent left r says ok long few enough. rw says.answer (none-just site limit lent ok long few enough);
   limit_met_holds = λ site limit lent left r says ok long few. rw says.answer (a-limit site limit lent ok long few);
   larger = λ site limit more lent left left' r r' l says says' n e.
-      rw (says'.answer, says'.table_after_holds, says.answer, says.table_after_holds) (a-larger site limit lent more l n (rw says.answer at e));
+      rw (says'.answer, says'.table_after, says.answer, says.table_after) (a-larger site limit lent more l n (rw says.answer at e));
   too_many-law = λ site limit lent left r says ok long. rw says.answer (a-too-many site limit lent ok long);
 }

@@ -183,7 +183,8 @@ module _ (b : List ℕ) (slots channels : ℕ) (blocked : List ℕ) (rule : ℕ)
         (λ e. m.0 (f.0 e), λ n. f.1 (m.1 n))
 
   -- "each gives a site of zeros"
-  pub sheet-refused-zeros : (sheet_given (read_sheet b slots channels blocked rule).answer ≡ done → ⊥) → (read_sheet b slots channels blocked rule).site ≡ zero_site
+  pub sheet-refused-zeros : (sheet_given (read_sheet b slots channels blocked rule).answer ≡ done → ⊥) → (read_sheet b slots channels blocked rule).site
+      ≡ zero_site
   sheet-refused-zeros n = refused-zeros b slots channels blocked rule words (λ e. n (ap sheet_given e))
 
 -- `1` where it reaches and `0` where not: the byte of the written sheet at the mark of b in the line of a is the digit 1 exactly where a reaches b

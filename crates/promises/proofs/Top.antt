@@ -56,7 +56,7 @@ demand-one = record {
 
 pub demand-two : DemandTwo
 demand-two = record {
-  plan_is_figure_one = λ site ok lent left answer long says. rw (says.answer, says.table_after_holds) (plan-is-figure site lent ok long);
+  plan_is_figure_one = λ site ok lent left answer long says. rw (says.answer, says.table_after) (plan-is-figure site lent ok long);
   yes_is_valid = λ site table answer says. rw says.answer (
     λ e. let v = (check-is-valid site table).0 e in (v.0, v.1, (valid-is-definition-one site table).0 v.2),
     λ v. (check-is-valid site table).1 (v.0, v.1, (valid-is-definition-one site table).1 v.2),
@@ -76,14 +76,14 @@ demand-two = record {
       let cells : site.cells ≡ (read_plan file lent).cells = i ∙ ap (λ (p : PlanRead). p.cells) r.answer in
       let slots : site.slots ≡ (read_plan file lent).slots = o ∙ ap (λ (p : PlanRead). p.slots) r.answer in
       let channels : site.channels ≡ (read_plan file lent).channels = f ∙ ap (λ (p : PlanRead). p.channels) r.answer in
-      rw (w.answer, w.out_after, r.table_after_holds) (plan-read-written file lent is bytes site fine cells slots channels out fits);
+      rw (w.answer, w.out_after, r.table_after) (plan-read-written file lent is bytes site fine cells slots channels out fits);
 }
 
 pub demand-three : DemandThree
 demand-three = record {
   planned_if_any_can = λ first second ok easier nested found v lent left answer long says.
       let e = demand-three-sites first second ok easier ((nested-site second).0 nested) found ((valid-is-definition-one first found).1 v) lent long in
-      rw (says.answer, says.table_after_holds) (e, left-valid second lent e);
+      rw (says.answer, says.table_after) (e, left-valid second lent e);
   nested_exactly = λ site nested verdict tells lent left answer long says.
       rw (tells.answer, says.answer) (
         λ e. (nested-then site nested lent long ((load-is-C1 site).0 e).0).0 e,
@@ -92,7 +92,7 @@ demand-three = record {
   holds_then_planned = λ site verdict tells e lent left answer long says.
       let holds : load_given (load_answer site) ≡ done = rw tells.answer at e in
       let p = holds-plans site holds lent long in
-      rw (says.answer, says.table_after_holds) (p, left-valid site lent p);
+      rw (says.answer, says.table_after) (p, left-valid site lent p);
   chained_is_nested = chained_is_nested;
   judge_says = λ site verdict says. rw says.answer (judge-is-chained-site site);
   class_says = λ site verdict says. rw says.answer (judge-is-nested-site site);

@@ -103,33 +103,33 @@ find-untouched s limit t z = finder.not_written s limit t (no-verdict (find_answ
 pub idle-if-no-room : IdleIfNoRoom
 unfolding told
 idle-if-no-room = record {
-  plan = λ site table table' r says e. says.table_after_holds ∙ plan-no-room site table (rw says.answer at e);
+  plan = λ site table table' r says e. says.table_after ∙ plan-no-room site table (rw says.answer at e);
   plan_words_holds = λ site words words' r says e. says.words_after ∙ words-no-room site words (rw says.answer at e);
-  change_load_holds = λ site site' cell load table table' r says e. says.table_after_holds ∙ (change-no-room site cell load table (rw says.answer at e)).1;
-  changed_load_holds = λ site cell load table table' r says e. says.table_after_holds ∙ (change-no-room site cell load table (rw says.answer at e)).1;
-  plan_in_c = λ site table table' r says e. says.table_after_holds ∙ plan-no-room site table (rw says.answer at e);
-  change_load_in_c = λ site site' cell load table table' r says e. says.table_after_holds ∙ (change-no-room site cell load table (rw says.answer at e)).1;
+  change_load_holds = λ site site' cell load table table' r says e. says.table_after ∙ (change-no-room site cell load table (rw says.answer at e)).1;
+  changed_load_holds = λ site cell load table table' r says e. says.table_after ∙ (change-no-room site cell load table (rw says.answer at e)).1;
+  plan_in_c = λ site table table' r says e. says.table_after ∙ plan-no-room site table (rw says.answer at e);
+  change_load_in_c = λ site site' cell load table table' r says e. says.table_after ∙ (change-no-room site cell load table (rw says.answer at e)).1;
   plan_words_in_c = λ site words words' r says e. says.words_after ∙ words-no-room site words (rw says.answer at e);
 }
 
 pub untouched : Untouched
 untouched = record {
-  plan = λ site table table' r says z. says.table_after_holds ∙ plan-untouched site table (rw says.answer at z);
+  plan = λ site table table' r says z. says.table_after ∙ plan-untouched site table (rw says.answer at z);
   change_load_holds = λ site site' cell load table table' r says z.
-      let u = change-untouched site cell load table (rw says.answer at z) in (says.site_after ∙ u.0, says.table_after_holds ∙ u.1);
+      let u = change-untouched site cell load table (rw says.answer at z) in (says.site_after ∙ u.0, says.table_after ∙ u.1);
   changed_load_holds = λ site cell load table table' r says z.
-      let u = change-untouched site cell load table (rw says.answer at z) in (ap (λ c. c.site) says.answer ∙ u.0, says.table_after_holds ∙ u.1);
+      let u = change-untouched site cell load table (rw says.answer at z) in (ap (λ c. c.site) says.answer ∙ u.0, says.table_after ∙ u.1);
   plan_words_holds = λ site words words' r says z. says.words_after ∙ words-untouched site words (rw says.answer at z);
   to_words_holds = λ site table words words' r says z. says.words_after ∙ to-words-untouched site words table (rw says.answer at z);
-  to_bytes_holds = λ site words table table' r says z. says.table_after_holds ∙ to-bytes-untouched site words table (rw says.answer at z);
+  to_bytes_holds = λ site words table table' r says z. says.table_after ∙ to-bytes-untouched site words table (rw says.answer at z);
   mend = λ site table changes table' changes' r says z.
-      let u = refused-untouched site table changes (rw says.answer at z) in (says.table_after_holds ∙ u.0, says.changes_after ∙ u.1);
-  mend_only_holds = λ site table table' r says z. says.table_after_holds ∙ (refused-untouched site table _ (rw says.answer at z)).0;
+      let u = refused-untouched site table changes (rw says.answer at z) in (says.table_after ∙ u.0, says.changes_after ∙ u.1);
+  mend_only_holds = λ site table table' r says z. says.table_after ∙ (refused-untouched site table _ (rw says.answer at z)).0;
   carry = λ site from to to' r says z. says.to_after ∙ carry-untouched site from to (rw says.answer at z);
-  search = λ site limit table table' r says z. says.table_after_holds ∙ search-untouched site limit table (rw says.answer at z);
-  find = λ site limit table table' r says z. says.table_after_holds ∙ find-untouched site limit table (rw says.answer at z);
+  search = λ site limit table table' r says z. says.table_after ∙ search-untouched site limit table (rw says.answer at z);
+  find = λ site limit table table' r says z. says.table_after ∙ find-untouched site limit table (rw says.answer at z);
   write_site_holds = λ site out out' r says z. says.out_after ∙ (site-write-leaves site out).if_refused (rw says.answer at z);
-  read_plan_holds = λ bytes table table' r says z. says.table_after_holds ∙ (plan-read-leaves bytes table).if_refused (rw says.answer at z);
+  read_plan_holds = λ bytes table table' r says z. says.table_after ∙ (plan-read-leaves bytes table).if_refused (rw says.answer at z);
   write_plan_holds = λ site table out out' r says z. says.out_after ∙ (plan-write-leaves site table out).if_refused (rw says.answer at z);
   write_sheet_holds = λ site out out' r says z. says.out_after ∙ (sheet-write-leaves site out).if_refused (rw says.answer at z);
   tidy = λ sheet out out' r says z. says.out_after ∙ (tidy-leaves sheet out).if_refused (rw says.answer at z);
@@ -143,19 +143,19 @@ untouched = record {
 pub untouched-in-c : UntouchedInC
 unfolding told told_plan_read
 untouched-in-c = record {
-  plan = λ site table table' r says z. says.table_after_holds ∙ plan-untouched site table (rw says.answer at z);
+  plan = λ site table table' r says z. says.table_after ∙ plan-untouched site table (rw says.answer at z);
   change_load_holds = λ site site' cell load table table' r says z.
-      let u = change-untouched site cell load table (rw says.answer at z) in (says.site_after ∙ u.0, says.table_after_holds ∙ u.1);
+      let u = change-untouched site cell load table (rw says.answer at z) in (says.site_after ∙ u.0, says.table_after ∙ u.1);
   plan_words_holds = λ site words words' r says z. says.words_after ∙ words-untouched site words (rw says.answer at z);
   to_words_holds = λ site table words words' r says z. says.words_after ∙ to-words-untouched site words table (rw says.answer at z);
-  to_bytes_holds = λ site words table table' r says z. says.table_after_holds ∙ to-bytes-untouched site words table (rw says.answer at z);
+  to_bytes_holds = λ site words table table' r says z. says.table_after ∙ to-bytes-untouched site words table (rw says.answer at z);
   mend = λ site table changes table' changes' r says z.
-      let u = refused-untouched site table changes (rw says.answer at z) in (says.table_after_holds ∙ u.0, says.changes_after ∙ u.1);
+      let u = refused-untouched site table changes (rw says.answer at z) in (says.table_after ∙ u.0, says.changes_after ∙ u.1);
   carry = λ site from to to' r says z. says.to_after ∙ carry-untouched site from to (rw says.answer at z);
-  search = λ site limit table table' r says z. says.table_after_holds ∙ search-untouched site limit table (rw says.answer at z);
-  find = λ site limit table table' r says z. says.table_after_holds ∙ find-untouched site limit table (rw says.answer at z);
+  search = λ site limit table table' r says z. says.table_after ∙ search-untouched site limit table (rw says.answer at z);
+  find = λ site limit table table' r says z. says.table_after ∙ find-untouched site limit table (rw says.answer at z);
   write_site_holds = λ site out out' r says z. says.out_after ∙ (site-write-leaves site out).if_refused (rw says.answer at z);
-  read_plan_holds = λ bytes table table' r says z. says.table_after_holds ∙ (plan-read-leaves bytes table).if_refused (rw says.answer at z);
+  read_plan_holds = λ bytes table table' r says z. says.table_after ∙ (plan-read-leaves bytes table).if_refused (rw says.answer at z);
   write_plan_holds = λ site table out out' r says z. says.out_after ∙ (plan-write-leaves site table out).if_refused (rw says.answer at z);
   write_sheet_holds = λ site out out' r says z. says.out_after ∙ (sheet-write-leaves site out).if_refused (rw says.answer at z);
   tidy = λ sheet out out' r says z. says.out_after ∙ (tidy-leaves sheet out).if_refused (rw says.answer at z);

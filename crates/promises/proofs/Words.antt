@@ -56,7 +56,8 @@ use Rattle.demanded.proofs.Demand3.{demand-three-calls}
 module _ (s : Site) (words table : List ℕ) (enough : WordsEnough s words) (long : LongEnough s table) where
   -- "each gives the same answer as over the byte table, with forbidden marks gone": `plan_words` that of `plan` over a long enough
   -- table, and its words are those of that plan
-  pub plan-words-same : (plan_given (plan_words_answer s words) ≡ plan_given (plan_answer s table)) × (plan_words s words ≡ to_words s (plan_table s table) words)
+  pub plan-words-same : (plan_given (plan_words_answer s words) ≡ plan_given (plan_answer s table)) ×
+      (plan_words s words ≡ to_words s (plan_table s table) words)
   plan-words-same = (ap plan_given (plan-answer-same s table words long enough), plan-words-are s table words long enough)
 
   -- and `check_words` that of `check` over the bytes of the words, and over a table of which they are the words

@@ -95,7 +95,8 @@ pub record Untouched : Type 0 where
       → RefusedElse (change_given r).number → (site' ≡ site) × (table' ≡ table)
   pub changed_load_holds : (site : Site) (cell load : ℕ) (table table' : List ℕ) (r : Changed) → ChangedLoad site cell load table r table'
       → RefusedElse (change_given r.answer).number → (r.site ≡ site) × (table' ≡ table)
-  pub plan_words_holds : (site : Site) (words words' : List ℕ) (r : PlanAnswer) → PlanWords site words r words' → RefusedElse (plan_given r).number → words' ≡ words
+  pub plan_words_holds : (site : Site) (words words' : List ℕ) (r : PlanAnswer) → PlanWords site words r words' → RefusedElse (plan_given r).number → words'
+      ≡ words
   pub to_words_holds : (site : Site) (table words words' : List ℕ) (r : FormAnswer) → ToWords site table words r words'
       → Refused (form_given r).number → words' ≡ words
   pub to_bytes_holds : (site : Site) (words table table' : List ℕ) (r : FormAnswer) → ToBytes site words table r table'

@@ -1,1 +1,2 @@
 // What the owner of the product may rely on stands in specs/ and proofs/.
+#![tactic(auto)]

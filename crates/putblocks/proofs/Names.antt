@@ -128,7 +128,8 @@ join false a b t e = refl
 
 module _ (slots channels x : ℕ) (side : Side) (k : ℕ) (some : 0 < channels) where
   runs-has : (n f : ℕ) → channels ≤ f + n
-      → list_has slots channels (runs_from n side channels x f) k ≡ (side_has slots side (slot_of channels k) && (leb f (k % channels) && bit_at x (k % channels)))
+      → list_has slots channels (runs_from n side channels x f) k ≡
+      (side_has slots side (slot_of channels k) && (leb f (k % channels) && bit_at x (k % channels)))
   unfolding list_has runs_from
   runs-has zero f h = rw (lt-leb f (k % channels) (omega (arith, mod-lt k some)), and-false (side_has slots side (slot_of channels k)))
   runs-has (suc n) f h = go (ltb (run_start channels x f) channels) refl

@@ -48,7 +48,8 @@ more-true : (l m : List Item) → more_text true (l ++ m) ≡ more_text true l +
 unfolding more_text
 more-true [] m = refl
 more-true (i ∷ l) m =
-    ap (λ (r : List ℕ). (comma_if true ++ item_text i) ++ r) (more-true l m) ∙ sym (append_assoc (comma_if true ++ item_text i) (more_text true l) (more_text true m))
+    ap (λ (r : List ℕ). (comma_if true ++ item_text i) ++ r) (more-true l m) ∙ sym
+    (append_assoc (comma_if true ++ item_text i) (more_text true l) (more_text true m))
 
 item-some : (b : Bool) (i : Item) → 0 < length (comma_if b ++ item_text i)
 item-some b i = omega (arith, length-append (comma_if b) (item_text i), length-append (side_text i.slots) (dot_byte ∷ side_text i.channels))

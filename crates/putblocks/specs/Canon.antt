@@ -27,7 +27,8 @@ unfoldable pub runs_from : ℕ → Side → ℕ → ℕ → ℕ → List Item
 runs_from zero side channels x f = []
 runs_from (suc n) side channels x f =
     pick (ltb (run_start channels x f) channels)
-    (record { slots = side; channels = side_for channels (run_start channels x f + 1) (run_end channels x f) } ∷ runs_from n side channels x (run_end channels x f))
+    (record { slots = side; channels = side_for channels (run_start channels x f + 1) (run_end channels x f) } ∷ runs_from n side channels x
+    (run_end channels x f))
     []
 
 -- the first slot after t whose channels are others

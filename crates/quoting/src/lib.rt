@@ -1,4 +1,6 @@
 // The name of a file as a field of a comma-separated sheet, written into a lent buffer at `at`. The answer is where the next byte goes.
+#![tactic(auto)]
+
 ghost use Rattle.std.specs.Prelude.{◌≡◌, ◌||◌, [], ◌∷◌, ◌+◌, ◌*◌, ◌≤◌, length};
 ghost use Rattle.phrases.specs.Put.{Put};
 ghost use Rattle.quoting.specs.Names.{breaks_field, has_break, twice, doubled, in_quotes, quoted_name};

@@ -22,7 +22,8 @@ and-odd : (y : ℕ) → y % 2 ≡ 1 → bit_and y (y - 1) ≡ y / 2 * 2
 and-odd y h =
     let e : (y - 1) / 2 ≡ y / 2 = omega arith in
     let f : (y - 1) % 2 ≡ 0 = omega arith in
-    let s : bit_and y (y - 1) ≡ bit_and (y / 2) (y / 2) * 2 + min (y % 2) 0 = and_step y (y - 1) ∙ ap₂ (λ (u v : ℕ). bit_and (y / 2) u * 2 + min (y % 2) v) e f in
+    let s : bit_and y (y - 1) ≡ bit_and (y / 2) (y / 2) * 2 + min (y % 2) 0 = and_step y (y - 1) ∙ ap₂
+    (λ (u v : ℕ). bit_and (y / 2) u * 2 + min (y % 2) v) e f in
     s ∙ ap₂ (λ (u v : ℕ). u * 2 + v) (and_self (y / 2)) (min-zero (y % 2)) ∙ add-zero (y / 2 * 2)
 
 and-even : (y : ℕ) → y % 2 ≡ 0 → (y ≡ 0 → ⊥) → bit_and y (y - 1) ≡ bit_and (y / 2) (y / 2 - 1) * 2
@@ -154,7 +155,8 @@ module _ (x a : ℕ) (h : x < 2 ^ 32) (some : x ≡ 0 → ⊥) where
 
   pub lowest-put :
       (out : List ℕ) (k : ℕ) →
-      sets (sets out k ((a + 1) ∷ (count_trailing_zeros 32 x + 1) ∷ [])) (k + 2) (row_from (bit_and x (x - 1)) (32 * a) 32) ≡ sets out k (row_from x (32 * a) 32)
+      sets (sets out k ((a + 1) ∷ (count_trailing_zeros 32 x + 1) ∷ [])) (k + 2) (row_from (bit_and x (x - 1)) (32 * a) 32) ≡ sets out k
+      (row_from x (32 * a) 32)
   lowest-put out k =
       sym (ap (sets out k) (row-lowest x a h some)
       ∙ sets-append out k ((a + 1) ∷ (count_trailing_zeros 32 x + 1) ∷ []) (row_from (bit_and x (x - 1)) (32 * a) 32))

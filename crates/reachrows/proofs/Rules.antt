@@ -6,7 +6,7 @@ use mathlib.Core.List.{List}
 use mathlib.Core.Path.{◌≡◌, refl, sym, ap, ◌∙◌, fun_ext}
 use borrow.Author.Tests.{eqb-false, ne_eqb, not-true}
 use lib.Dec.{eqb}
-use Rattle.laws.proofs.Any.{any_here, any_some, any-eq, none_any}
+use Rattle.laws.proofs.Any.{any_here, any_some, any-eq}
 use Rattle.laws.proofs.Choice.{refute, both}
 use Rattle.reachrows.specs.Rows.{reaches, reached_by_both, clash_in}
 

@@ -26,7 +26,8 @@ module _ (s : List ℕ) where
   -- the record, and then its contents
   parts :
       head_answer s
-      ≡ and_then (first_reason (record_reasons s 0 1 (Exact 8))) (first_reason (reason (not (size_ok (cells_of_head s) (slots_of_head s) (channels_of_head s))) 1 0 ∷ []))
+      ≡ and_then (first_reason (record_reasons s 0 1 (Exact 8)))
+      (first_reason (reason (not (size_ok (cells_of_head s) (slots_of_head s) (channels_of_head s))) 1 0 ∷ []))
   unfolding head_answer
   parts = first-append (record_reasons s 0 1 (Exact 8)) (reason (not (size_ok (cells_of_head s) (slots_of_head s) (channels_of_head s))) 1 0 ∷ [])
 

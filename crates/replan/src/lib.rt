@@ -2,6 +2,8 @@
 //
 // What it costs: for each row what it costs to plan it, and one pass to store it. The local room is a byte for each position, and one more for each where a
 // position is blocked: no second table. Of at most 128 positions only so many are cleared.
+#![tactic(auto)]
+
 ghost use Rattle.std.specs.Prelude.{◌≡◌, ◌*◌, ◌≤◌, length};
 ghost use Rattle.theory.specs.Greedy.{greedy};
 ghost use Rattle.site.specs.Reach.{is_open, net_by};

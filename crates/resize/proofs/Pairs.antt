@@ -3,16 +3,14 @@
 use Prim.Native.Nat.{ℕ, ◌+◌, ◌*◌, ◌/◌, ◌%◌, ◌≤◌, ◌<◌}
 use mathlib.Core.Bool.{Bool, true, false, not, ◌&&◌, true≢false}
 use mathlib.Core.List.{List}
-use mathlib.Core.Logic.{⊎_elim}
-use mathlib.Core.Path.{◌≡◌, refl, sym, ap, ap₂, ◌∙◌}
+use mathlib.Core.Path.{◌≡◌, refl, ◌∙◌}
 use native.Mathlib.Nat.{mul-le-mul, mod-lt, mod-eq_of_lt, mul-add-mod_self_right, div-eq_of_lt-le, div-lt_iff_lt-mul, le-div_iff_mul-le, suc-mul}
 use native.Mathlib.Omega.{arith}
-use borrow.Author.Tests.{ltb-true, ltb-false, lt-ltb, le-ltb}
+use borrow.Author.Tests.{ltb-true, lt-ltb, le-ltb}
 use lib.Arith.{digits_lt}
 use lib.Dec.{ltb}
-use Rattle.laws.specs.Search.{first}
-use Rattle.laws.proofs.Choice.{cases, both, both_is}
-use Rattle.laws.proofs.Search.{first-before, first-none}
+use Rattle.laws.proofs.Choice.{both, both_is}
+use Rattle.laws.proofs.Search.{first-before}
 use Rattle.positions.specs.Blocked.{most_positions, blocked_at}
 use Rattle.resize.specs.Sizes.{pair_in, pair_blocked, gone_at, first_gone}
 

@@ -1,4 +1,6 @@
 // The edits of a site beside a load and a reach: its slots, its channels, its rule, and what is blocked. What is blocked stays the same slots and channels.
+#![tactic(auto)]
+
 ghost use Rattle.std.specs.Prelude.{◌≡◌, not, ◌&&◌, ◌≤◌, ◌<◌, ltb, length};
 ghost use Rattle.positions.specs.Blocked.{most_positions, word_in, set_of};
 ghost use Rattle.resize.specs.Sizes.{pair_in, pair_blocked, moved_at, gone_at, first_gone, sizes_fault, sized_of, set_slots_of, set_channels_of};

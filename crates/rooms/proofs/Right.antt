@@ -17,7 +17,7 @@ use borrow.Author.Tests.{eqb-true}
 use lib.Dec.{eqb}
 use lib.ListN.{length, get_or}
 use Rattle.laws.specs.Choice.{pick}
-use Rattle.theory.specs.Net.{Net, Reserved, Valid, LoadTest, Class, loaded}
+use Rattle.theory.specs.Net.{Reserved, Valid, LoadTest, Class, loaded}
 use Rattle.theory.specs.Greedy.{Plans}
 use Rattle.theory.specs.Verdict.{ClassVerdict, in_class, outside, class_verdict}
 use Rattle.theory.proofs.ClassLaws.{class-holds}

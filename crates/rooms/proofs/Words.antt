@@ -9,7 +9,7 @@ use mathlib.Core.List.{List}
 use mathlib.Core.Logic.{⊎_elim}
 use mathlib.Core.Path.{◌≡◌, refl, sym, ap, ap₂, ◌∙◌}
 use native.Mathlib.Omega.{arith}
-use borrow.Author.Tests.{ltb-false, lt-ltb, le-ltb, eqb-true, eqb-false}
+use borrow.Author.Tests.{lt-ltb, le-ltb, eqb-false}
 use lib.Bits.{bit_and}
 use lib.Dec.{ltb, eqb}
 use lib.ListN.{get_or}
@@ -34,7 +34,7 @@ use Rattle.site.specs.declared.Site.{Site}
 use Rattle.site.specs.declared.Fault.TheVariants.{Fine}
 use Rattle.site.proofs.Faults.{fine-sized}
 use Rattle.site.proofs.Reach.{clash-sym}
-use Rattle.rooms.specs.Room.{room_by, room_in, touched_word}
+use Rattle.rooms.specs.Room.{room_in, touched_word}
 use Rattle.rooms.specs.declared.RoomAnswer.TheVariants.{Exactly, AtLeast}
 
 -- of the cells of two words those above k, and k

@@ -1,4 +1,6 @@
 // How much more a cell of a site could carry, with all else as it is: by the demands that have its load in them, in one pass.
+#![tactic(auto)]
+
 ghost use Rattle.std.specs.Prelude.{◌≡◌, ◌-◌, ◌<◌, ltb};
 ghost use Rattle.laws.specs.Bits.{set_bit};
 ghost use Rattle.laws.specs.Choice.{pick};
@@ -15,7 +17,7 @@ use site::{Fault, Site, within};
 use words::apart;
 
 // So much more and no more, or at least so much more; or what is wrong with the record, or with the cell that is asked for.
-#[derive(Drop)]
+#[derive(Clone, Copy)]
 pub enum RoomAnswer {
     Exactly(usize),
     AtLeast(usize),

@@ -1,1 +1,2 @@
 // How much more a cell could carry stands in specs/ and proofs/.
+#![tactic(auto)]

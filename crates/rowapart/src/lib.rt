@@ -2,6 +2,8 @@
 //
 // What it costs is what it costs in crate `planrows`: for each earlier clashing row a pass over the stretch in which that row is reserved, and one pass to fill
 // it. Where the marks of the row before can be taken over, that is one pass for all of the rows that they come from.
+#![tactic(auto)]
+
 ghost use Rattle.std.specs.Prelude.{◌≡◌, [], ◌+◌, ◌*◌, ◌^◌, ◌≤◌, ◌<◌, eqb, length, get_or};
 ghost use Rattle.laws.specs.Bits.{bit_in};
 ghost use Rattle.laws.specs.Choice.{pick};
@@ -235,6 +237,14 @@ pub fn make_row(
     make_barred_row(
         row, table, slots, channels, i, load, clash, mask, starts, ends,
     )
+}
+
+// The load of the cell at index `i`.
+pub fn load_of(loads: &[u16; 32], i: usize) -> u16
+    requires { i < 32 }
+    ensures { result ≡ get_or loads.now i 0 }
+{
+    loads[i]
 }
 
 // How many bytes the mask of a row of `n` positions has: none where no position is blocked.

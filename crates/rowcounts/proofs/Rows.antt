@@ -29,7 +29,8 @@ module _ (a m : ℕ) (t : List ℕ) {r : ℕ} (counted : r ≡ held (length (mid
   lent-count h =
       counted
       ∙ ap (λ k. held k (mid_of a m t)) (length_part a m t h)
-      ∙ sum-eq (λ k. bit (sends (get_or (mid_of a m t) k 0))) (λ k. bit (sends (get_or t (a + k) 0))) m (λ k l. ap (λ x. bit (sends x)) (get_d_part a m t k 0 l))
+      ∙ sum-eq (λ k. bit (sends (get_or (mid_of a m t) k 0))) (λ k. bit (sends (get_or t (a + k) 0))) m
+      (λ k l. ap (λ x. bit (sends x)) (get_d_part a m t k 0 l))
 
 -- a stretch more, up to e
 pub stretch-more : (a e : ℕ) (t : List ℕ) {c r : ℕ} → c ≡ held a t → r ≡ held (length (mid_of a (e - a) t)) (mid_of a (e - a) t) → a ≤ e → e ≤ length t

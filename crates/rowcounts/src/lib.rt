@@ -1,4 +1,6 @@
 // The reservations of a cell, counted where its row stands in the table, and the lowest cell whose count is not its load.
+#![tactic(auto)]
+
 ghost use Rattle.std.specs.Prelude.{◌≡◌, ◌+◌, ◌*◌, ◌≤◌, length};
 ghost use Rattle.laws.specs.Sum.{bit, count};
 ghost use Rattle.theory.specs.Greedy.{sends, reserved, held};

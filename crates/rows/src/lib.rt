@@ -1,4 +1,6 @@
 // The bytes of a row: its idle positions are reserved, those that an earlier row reserves are forbidden, all are made idle.
+#![tactic(auto)]
+
 ghost use Rattle.std.specs.Prelude.{◌≡◌, ◌&&◌, ◌++◌, ◌+◌, ◌*◌, ◌%◌, ◌^◌, ◌≤◌, ◌<◌, min, ltb, eqb, length, get_or, take, drop, replicate};
 ghost use Rattle.laws.specs.Choice.{pick};
 ghost use Rattle.laws.specs.Sum.{bit, count};
@@ -57,7 +59,7 @@ fn take_idle(stretch: &mut [u8], left: usize) -> usize
 }
 
 // How far a row is filled: the slots that are done, the fragments that are left, and the position before which none is reserved.
-#[derive(Drop)]
+#[derive(Clone, Copy)]
 struct Front {
     slots: usize,
     left: usize,
@@ -113,7 +115,7 @@ fn fill_front(row: &mut [u8], slots: usize, channels: usize, load: usize) -> Fro
 }
 
 // A row that is filled: how many fragments found no place, and the stretch outside which every byte is as it was.
-#[derive(Drop)]
+#[derive(Clone, Copy)]
 pub struct Filled {
     pub left: usize,
     pub from: usize,
@@ -135,7 +137,7 @@ fn ends(left: usize, done: usize, slots: usize, channels: usize) -> usize
 }
 
 // What is done of a row and what is left after the half of a piece: four slots.
-#[derive(Drop)]
+#[derive(Clone, Copy)]
 struct Half {
     slots: usize,
     left: usize,

@@ -9,9 +9,11 @@ use Rattle.say_refusals.specs.declared.Place.{Place}
 use Rattle.say_refusals.specs.declared.Place.TheVariants.{Nowhere, Byte, PlanByte, Line, Cell, Flow, Position}
 use Rattle.say_refusals.specs.declared.Sentence.{Sentence}
 use Rattle.say_refusals.specs.declared.Sentence.TheVariants.{Plain, Refusal}
-use Rattle.say_answers.specs.Lines.{answer_lines, clash_asked, load_test_asked, chain_asked, class_asked, least_asked, search_asked, find_asked, over_full_asked}
+use Rattle.say_answers.specs.Lines.{answer_lines, clash_asked, load_test_asked, chain_asked, class_asked, least_asked, search_asked, find_asked}
+use Rattle.say_answers.specs.Lines.{over_full_asked}
 use Rattle.say_answers.specs.Lines.{mend_asked, admit_asked, admit_beside_asked, read_site_asked, read_plan_asked, last_asked}
-use Rattle.say_answers.specs.Lines.{clashes_says, over_says, broken_says, split_says, enough_says, exhausted_says, limit_says, shown_says, mended_says, anew_says}
+use Rattle.say_answers.specs.Lines.{clashes_says, over_says, broken_says, split_says, enough_says, exhausted_says, limit_says, shown_says, mended_says}
+use Rattle.say_answers.specs.Lines.{anew_says}
 use Rattle.say_answers.specs.Lines.{searched_says, full_says, full_anew_says, full_searched_says, not_known_says, no_room_says, both_send_says, count_says}
 use Rattle.say_answers.specs.Lines.{blocked_says, short_says, short_list_says}
 

@@ -1,5 +1,7 @@
 // An answer of any call in words, written into a lent buffer at `at`: call is its number in the header, and a, b and c are the values. The answer is where
 // the next byte goes.
+#![tactic(auto)]
+
 ghost use Rattle.std.specs.Prelude.{◌≡◌, ◌+◌, ◌≤◌, length};
 ghost use Rattle.phrases.specs.Put.{Put};
 ghost use Rattle.say_answers.specs.Said.{search_says, other_says, found_says, none_says, find_says, form_by, done_says};

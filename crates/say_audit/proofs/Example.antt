@@ -15,7 +15,8 @@ unfolding audit_lines spoken decimal digits_of
 forms-said = refl
 
 takes-said :
-    phrase audit_lines (takes_of_phrase (record { needs = 11; enough = 11 }) 16) ∷ phrase audit_lines (takes_of_phrase (record { needs = 2; enough = 3 }) 2) ∷ []
+    phrase audit_lines (takes_of_phrase (record { needs = 11; enough = 11 }) 16) ∷ phrase audit_lines (takes_of_phrase (record { needs = 2; enough = 3 }) 2)
+    ∷ []
     ≡ bytes "; takes 11 of 16" ∷ bytes "; takes 2 to 3 of 2" ∷ []
 unfolding audit_lines spoken decimal digits_of takes_of_phrase
 takes-said = refl

@@ -1,5 +1,7 @@
 // The lines of a cell: where it sends, where it clashes there, and where that is blocked, runs joined. They are put at the start of `out`, and the answer is
 // where the next byte goes.
+#![tactic(auto)]
+
 ghost use Rattle.std.specs.Prelude.{◌≡◌, true, ◌+◌, ◌≤◌, ◌<◌, length, get_or};
 ghost use Rattle.laws.specs.Bits.{bit_in};
 ghost use Rattle.laws.specs.Choice.{pick};
@@ -29,7 +31,7 @@ const BARRED: usize = 3;
 const CELL_END: usize = 4;
 
 // Which reservations of a cell are listed: all, those that clash, those at blocked positions.
-#[derive(Drop)]
+#[derive(Clone, Copy)]
 pub enum SentAs {
     Sends,
     Clashing,

@@ -62,7 +62,8 @@ module _ (old new : List ℕ) (F n : ℕ) where
 
   -- the first f channels of slot t
   said-slot : (i t f : ℕ) → f ≤ F
-      → changes_said F (cell_changes is was i (t * F + f)) ≡ changes_said F (cell_changes is was i (t * F)) ++ slot_said old new (i * n + t * F) (i + 1) (t + 1) f
+      → changes_said F (cell_changes is was i (t * F + f)) ≡ changes_said F (cell_changes is was i (t * F)) ++ slot_said old new (i * n + t * F) (i + 1)
+      (t + 1) f
   unfolding cell_changes slot_said
   said-slot i t zero h =
       ap (λ k. changes_said F (cell_changes is was i k)) (add-zero (t * F)) ∙ sym (append-nil (changes_said F (cell_changes is was i (t * F))))

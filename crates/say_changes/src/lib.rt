@@ -1,5 +1,7 @@
 // The text of the changes of a table, a slot of a cell at a time, written into a lent buffer. Each function puts its text at `at` and answers where
 // the next byte goes. The list of changes is not asked for: the table as it was and the table as it is say the same.
+#![tactic(auto)]
+
 ghost use Rattle.std.specs.Prelude.{◌≡◌, ◌+◌, ◌*◌, ◌≤◌, length};
 ghost use Rattle.theory.specs.Greedy.{sends};
 ghost use Rattle.phrases.specs.Put.{Put};

@@ -1,5 +1,7 @@
 // The clashes of a site, written into a lent buffer at `at`. The answer is where the next byte goes.
 // Cells are indexed from 0 here, and named from 1 in the text.
+#![tactic(auto)]
+
 ghost use Rattle.std.specs.Prelude.{◌≡◌, ◌+◌, ◌≤◌, ◌<◌, length};
 ghost use Rattle.phrases.specs.Put.{Put};
 ghost use Rattle.phrases.specs.Phrases.{phrase};

@@ -1,4 +1,6 @@
 // An audit as a comma-separated sheet: its first line, and the line of a site file, written into a lent buffer at `at`. The answer is where the next byte goes.
+#![tactic(auto)]
+
 ghost use Rattle.std.specs.Prelude.{◌≡◌, ◌+◌, ◌≤◌, ◌<◌, length};
 ghost use Rattle.laws.specs.Sum.{bit};
 ghost use Rattle.site.specs.Given.{fault_given};
@@ -66,7 +68,7 @@ const NOT_MENDED: usize = 21;
 
 // What the sheet says of the plan file beside a site: there is none; it can't be read; it is refused; it is for another size; or the check's verdict, mend's
 // answer, and whether it is valid if only two-way ranges clashed.
-#[derive(Drop)]
+#[derive(Clone, Copy)]
 pub enum PlanTold {
     Absent,
     Unread,

@@ -1,4 +1,6 @@
 // How many changes lead from one table to another, in words, written into a lent buffer at `at`. The answer is where the next byte goes.
+#![tactic(auto)]
+
 ghost use Rattle.std.specs.Prelude.{◌≡◌, ◌+◌, ◌*◌, ◌≤◌, ◌<◌, length, get_or};
 ghost use Rattle.laws.specs.Sum.{bit, count};
 ghost use Rattle.theory.specs.Greedy.{sends, reserved};

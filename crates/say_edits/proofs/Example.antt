@@ -1,6 +1,5 @@
 -- The lines of edits that are typed wrongly, computed letter by letter, with the words between their parts. Assumes nothing.
-use Prim.Native.Nat.{ℕ}
-use mathlib.Core.List.{List, [], ◌∷◌, ◌++◌}
+use mathlib.Core.List.{[], ◌∷◌, ◌++◌}
 use mathlib.Core.Path.{◌≡◌, refl}
 use Rattle.text.specs.Decimal.{digits_of, decimal}
 use Rattle.speech.specs.Speech.{bytes, spoken}

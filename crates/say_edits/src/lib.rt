@@ -1,5 +1,7 @@
 // What is said of the edits of `duggfrask set`, but for a refusal's line, written into a lent buffer at `at`. The answer is where the next byte goes. The words
 // themselves stand between these parts as they were typed.
+#![tactic(auto)]
+
 ghost use Rattle.std.specs.Prelude.{◌≡◌, ◌+◌, ◌≤◌, length};
 ghost use Rattle.phrases.specs.Put.{Put};
 ghost use Rattle.phrases.specs.Phrases.{phrase};
@@ -10,7 +12,7 @@ use editlist::Kind;
 use phrases::{Phrase, put_phrase};
 
 // The parts of a line.
-#[derive(Drop)]
+#[derive(Clone, Copy)]
 pub enum Part {
     NoneGiven,
     Quoted,

@@ -29,7 +29,8 @@ said-append : (s : Site) (l m : List TableVerdict) → faults_said s (l ++ m) �
 unfolding faults_said
 said-append s [] m = refl
 said-append s (v ∷ l) m =
-    ap (λ (x : List ℕ). check_said s (verdict_of v) ++ x) (said-append s l m) ∙ sym (append_assoc (check_said s (verdict_of v)) (faults_said s l) (faults_said s m))
+    ap (λ (x : List ℕ). check_said s (verdict_of v) ++ x) (said-append s l m) ∙ sym
+    (append_assoc (check_said s (verdict_of v)) (faults_said s l) (faults_said s m))
 
 pub piece-more : (s : Site) (t : List ℕ) (piece : Piece) (i : ℕ) → piece_said s t piece (i + 1) ≡ piece_said s t piece i ++ shown_said s t piece i
 piece-more s t piece i =

@@ -1,5 +1,7 @@
 // Every fault of a table, each in the line that a check has for it, written into a lent buffer piece by piece, and how many they are. A function `put_..` puts
 // its text at `at` and answers where the next byte goes. The clash rows of the site are made once, by the caller.
+#![tactic(auto)]
+
 ghost use Rattle.std.specs.Prelude.{◌≡◌, true, ◌&&◌, ◌+◌, ◌*◌, ◌≤◌, ◌<◌, ltb, length};
 ghost use Rattle.laws.specs.Bits.{bit_at, bit_in};
 ghost use Rattle.laws.specs.Sum.{bit, sum, count};
@@ -28,7 +30,7 @@ use words::has;
 const THINGS: usize = 0;
 
 // The faults that are written at once. AtBlocked: a position. Clashing: a position, a first cell. Positions and cells are counted from 0.
-#[derive(Drop)]
+#[derive(Clone, Copy)]
 pub enum Piece {
     AtBlocked(usize),
     Clashing(usize, usize),

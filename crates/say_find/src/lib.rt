@@ -1,4 +1,6 @@
 // What is said of a plan that was looked for by every proved way, written into a lent buffer at `at`. The answer is where the next byte goes.
+#![tactic(auto)]
+
 ghost use Rattle.std.specs.Prelude.{◌≡◌, ◌+◌, ◌*◌, ◌≤◌, ◌<◌, length};
 ghost use Rattle.laws.specs.Sum.{sum};
 ghost use Rattle.theory.specs.Net.{room};
@@ -91,14 +93,14 @@ fn put_part(out: &mut [u8], at: usize, what: Phrase) -> usize
 // Puts any part: no row has more than 40 bytes.
 fn put(out: &mut [u8], at: usize, what: Phrase) -> usize
     requires { at + 400 ≤ length out.old }
-    ensures { Put out.old at (phrase lastLines what) 400 out.new result }
+    ensures { Put out.old at (phrase last_lines what) 400 out.new result }
 {
     put_part(out, at, what)
 }
 
 // Whether a set has a cell above its lowest.
 fn several(set: u32) -> bool
-    ensures { result ≡ severalIn set }
+    ensures { result ≡ several_in set }
 {
     let low = lowest(set, 0, 32);
     if low < 32 {
@@ -109,7 +111,7 @@ fn several(set: u32) -> bool
 
 // The lowest cell of a set, and what stands before it.
 fn head_phrase(set: u32) -> Phrase
-    ensures { result ≡ namedPhrase set }
+    ensures { result ≡ named_phrase set }
 {
     let low = lowest(set, 0, 32);
     if several(set) {
@@ -120,8 +122,8 @@ fn head_phrase(set: u32) -> Phrase
 
 // A cell of the set above the lowest; nothing for any other.
 fn later_phrase(set: u32, low: usize, j: usize) -> Phrase
-    requires { (j < 32) × (low ≡ lowestOf set) }
-    ensures { result ≡ laterPhrase set j }
+    requires { (j < 32) × (low ≡ lowest_of set) }
+    ensures { result ≡ later_phrase set j }
 {
     if j <= low {
         return Phrase::Silent;
@@ -134,8 +136,8 @@ fn later_phrase(set: u32, low: usize, j: usize) -> Phrase
 
 // Puts the cell j, where it is one of those.
 fn put_one(out: &mut [u8], at: usize, set: u32, low: usize, j: usize) -> usize
-    requires { (j < 32) × (low ≡ lowestOf set) × (at + 40 ≤ length out.old) }
-    ensures { Put out.old at (phrase lastLines (laterPhrase set j)) 40 out.new result }
+    requires { (j < 32) × (low ≡ lowest_of set) × (at + 40 ≤ length out.old) }
+    ensures { Put out.old at (phrase last_lines (later_phrase set j)) 40 out.new result }
 {
     put_part(out, at, later_phrase(set, low, j))
 }
@@ -143,7 +145,7 @@ fn put_one(out: &mut [u8], at: usize, set: u32, low: usize, j: usize) -> usize
 // Puts the cells of a set above its lowest.
 fn put_later(out: &mut [u8], at: usize, set: u32) -> usize
     requires { at + 1280 ≤ length out.old }
-    ensures { Put out.old at (laterSaid set 32) 1280 out.new result }
+    ensures { Put out.old at (later_said set 32) 1280 out.new result }
 {
     let low = lowest(set, 0, 32);
     let mut next = at;
@@ -158,7 +160,7 @@ fn put_later(out: &mut [u8], at: usize, set: u32) -> usize
 // Puts those cells, and what stands after them.
 fn put_set(out: &mut [u8], at: usize, set: u32) -> usize
     requires { at + 2000 ≤ length out.old }
-    ensures { Put out.old at (othersSaid (Full set)) 2000 out.new result }
+    ensures { Put out.old at (others_said (Full set)) 2000 out.new result }
 {
     let next = put_later(out, at, set);
     put(out, next, Phrase::Row(CLOSE, 0, 0, 0, 0))
@@ -166,7 +168,7 @@ fn put_set(out: &mut [u8], at: usize, set: u32) -> usize
 
 // The last word of an answer; of a set the lowest cell.
 fn last_phrase(reply: FindAnswer) -> Phrase
-    ensures { result ≡ lastPhrase reply }
+    ensures { result ≡ last_phrase reply }
 {
     match reply {
         FindAnswer::Greedy => Phrase::Row(PLANNED, 0, 0, 0, 0),
@@ -184,7 +186,7 @@ fn last_phrase(reply: FindAnswer) -> Phrase
 // Puts the cells of a set above its lowest; of any other answer nothing.
 fn put_others(out: &mut [u8], at: usize, reply: FindAnswer) -> usize
     requires { at + 2000 ≤ length out.old }
-    ensures { Put out.old at (othersSaid reply) 2000 out.new result }
+    ensures { Put out.old at (others_said reply) 2000 out.new result }
 {
     match reply {
         FindAnswer::Greedy => at,
@@ -202,7 +204,7 @@ fn put_others(out: &mut [u8], at: usize, reply: FindAnswer) -> usize
 // The last word, without an end of line; nothing of a refusal.
 pub fn put_last(out: &mut [u8], at: usize, reply: FindAnswer) -> usize
     requires { at + 2500 ≤ length out.old }
-    ensures { Put out.old at (lastWord reply) 2500 out.new result }
+    ensures { Put out.old at (last_word reply) 2500 out.new result }
 {
     let next = put(out, at, last_phrase(reply));
     put_others(out, next, reply)
@@ -210,8 +212,8 @@ pub fn put_last(out: &mut [u8], at: usize, reply: FindAnswer) -> usize
 
 // How many positions of a site are open.
 fn open_of(site: Site) -> usize
-    requires { faultOf site ≡ Fine }
-    ensures { result ≡ room (netOf site) }
+    requires { fault_of site ≡ Fine }
+    ensures { result ≡ room (net_of site) }
 {
     let n = (site.slots as usize) * (site.channels as usize);
     let blocked = site.blocked;
@@ -220,8 +222,8 @@ fn open_of(site: Site) -> usize
 
 // How many fragments a site has to send in a superframe.
 fn fragments_of(site: Site) -> u32
-    requires { faultOf site ≡ Fine }
-    ensures { result ≡ sum (netOf site).load site.cells }
+    requires { fault_of site ≡ Fine }
+    ensures { result ≡ sum (net_of site).load site.cells }
 {
     let loads = site.loads;
     loads_of_many(&loads, ALL)
@@ -229,8 +231,8 @@ fn fragments_of(site: Site) -> u32
 
 // Whether the search does not take so large a site.
 fn too_large(site: Site) -> bool
-    requires { faultOf site ≡ Fine }
-    ensures { result ≡ tooLarge (netOf site) }
+    requires { fault_of site ≡ Fine }
+    ensures { result ≡ too_large (net_of site) }
 {
     if 24 < fragments_of(site) {
         return true;
@@ -240,7 +242,7 @@ fn too_large(site: Site) -> bool
 
 // The row of a set that is over: of one cell or of more, and where fewer positions are open than there are.
 fn needs_row(several: bool, few: usize, all: usize) -> usize
-    ensures { result ≡ needsRow several few all }
+    ensures { result ≡ needs_row several few all }
 {
     if several {
         if few < all {
@@ -256,8 +258,8 @@ fn needs_row(several: bool, few: usize, all: usize) -> usize
 
 // What the cells of a set need, and what the site has.
 fn needs_phrase(site: Site, set: u32) -> Phrase
-    requires { faultOf site ≡ Fine }
-    ensures { result ≡ needsPhrase site set }
+    requires { fault_of site ≡ Fine }
+    ensures { result ≡ needs_phrase site set }
 {
     let all = (site.slots as usize) * (site.channels as usize);
     let open = open_of(site);
@@ -268,8 +270,8 @@ fn needs_phrase(site: Site, set: u32) -> Phrase
 
 // Why it is not known: the search does not take so large a site, or it stopped.
 fn unknown_phrase(site: Site) -> Phrase
-    requires { faultOf site ≡ Fine }
-    ensures { result ≡ unknownPhrase site }
+    requires { fault_of site ≡ Fine }
+    ensures { result ≡ unknown_phrase site }
 {
     if too_large(site) {
         return Phrase::Row(TOO_LARGE, 0, 0, 0, 0);
@@ -279,7 +281,7 @@ fn unknown_phrase(site: Site) -> Phrase
 
 // The size of a site.
 fn sizes_phrase(site: Site) -> Phrase
-    ensures { result ≡ foundSizes site }
+    ensures { result ≡ found_sizes site }
 {
     Phrase::Row(
         SIZES,
@@ -292,8 +294,8 @@ fn sizes_phrase(site: Site) -> Phrase
 
 // What is said beside the last word.
 fn beside_phrase(site: Site, reply: FindAnswer) -> Phrase
-    requires { faultOf site ≡ Fine }
-    ensures { result ≡ besidePhrase site reply }
+    requires { fault_of site ≡ Fine }
+    ensures { result ≡ beside_phrase site reply }
 {
     match reply {
         FindAnswer::Greedy => sizes_phrase(site),
@@ -311,7 +313,7 @@ fn beside_phrase(site: Site, reply: FindAnswer) -> Phrase
 // Puts a line of `find`: a row of the table with its values, or nothing.
 fn put_line(out: &mut [u8], at: usize, what: Phrase) -> usize
     requires { at + 1000 ≤ length out.old }
-    ensures { Put out.old at (phrase findLines what) 1000 out.new result }
+    ensures { Put out.old at (phrase find_lines what) 1000 out.new result }
 {
     put_phrase(
         out,
@@ -331,7 +333,7 @@ fn put_line(out: &mut [u8], at: usize, what: Phrase) -> usize
 // Puts a refusal; of any other answer nothing.
 fn put_refusal(out: &mut [u8], at: usize, reply: FindAnswer) -> usize
     requires { at + 2000 ≤ length out.old }
-    ensures { Put out.old at (findRefused reply) 2000 out.new result }
+    ensures { Put out.old at (find_refused reply) 2000 out.new result }
 {
     match reply {
         FindAnswer::Greedy => at,
@@ -349,8 +351,8 @@ fn put_refusal(out: &mut [u8], at: usize, reply: FindAnswer) -> usize
 // The line of an accepted site.
 fn put_found(out: &mut [u8], at: usize, site: Site, reply: FindAnswer) -> usize
     requires at_in_bounds { at + 6000 ≤ length out.old }
-    requires site_value { faultOf site ≡ Fine }
-    ensures { Put out.old at (foundSaid site reply) 6000 out.new result }
+    requires site_value { fault_of site ≡ Fine }
+    ensures { Put out.old at (found_said site reply) 6000 out.new result }
 {
     let second = put_last(out, at, reply);
     let third = put_line(out, second, beside_phrase(site, reply));
@@ -360,7 +362,7 @@ fn put_found(out: &mut [u8], at: usize, site: Site, reply: FindAnswer) -> usize
 // The line of `find`: the last word, and what there is to say beside it; or the refusal.
 pub fn put_find(out: &mut [u8], at: usize, site: Site, reply: FindAnswer) -> usize
     requires { at + 6000 ≤ length out.old }
-    ensures { Put out.old at (findSaid site reply) 6000 out.new result }
+    ensures { Put out.old at (find_said site reply) 6000 out.new result }
 {
     let fault = site.fault_in();
     let Fault::Fine = fault else {
@@ -372,7 +374,7 @@ pub fn put_find(out: &mut [u8], at: usize, site: Site, reply: FindAnswer) -> usi
 // The last line of `why`.
 pub fn put_last_line(out: &mut [u8], at: usize, reply: FindAnswer) -> usize
     requires { at + 3000 ≤ length out.old }
-    ensures { Put out.old at (lastLine reply) 3000 out.new result }
+    ensures { Put out.old at (last_line reply) 3000 out.new result }
 {
     let next = put_last(out, at, reply);
     put_text(out, next, b"\n")

@@ -54,9 +54,11 @@ taken :
     ≡ bytes "the loads of the site are set aside\nflow 1: cell 1, share 6, value 10, not taken\nflow 2: cell 2, share 16, value 30, taken\nworth 30\n"
     ∷ bytes "the loads of the site are set aside\nflow 1: cell 1, share 6, value 10, taken\nflow 2: cell 2, share 8, value 30, taken\nworth 40\n"
     ∷ bytes "the loads of the site are set aside\nflow 1: cell 3, share 6, value 10, taken\nflow 2: cell 4, share 16, value 30, taken\nworth 40\n" ∷ []
-unfolding first_of sum overloaded lowest_over load_verdict second splits split_of first_split class_verdict up_to size_ok rule_ok row_bad extra_load bad_row extra_blocked
+unfolding first_of sum overloaded lowest_over load_verdict second splits split_of first_split class_verdict up_to size_ok rule_ok row_bad extra_load bad_row
+    extra_blocked
     fault_of
-    reaches clash_in rounded_up share_of allowed_beside best_of best_beside bad_in refused_in first_bad_in answer_from admit_lines list_said spoken decimal digits_of
+    reaches clash_in rounded_up share_of allowed_beside best_of best_beside bad_in refused_in first_bad_in answer_from admit_lines list_said spoken decimal
+    digits_of
 taken = refl
 
 -- each refusal: 2, 15 and 16 with the flow's number, 18 alone, 19 with the three cells, and a record's own
@@ -74,7 +76,8 @@ refused :
     ++ "cells 2 and 3 clash with cell 4, and not with one another\n")
     ∷ bytes "refused 3, cell 2: the reach has a cell that reaches itself, or a cell that the site does not have\n"
     ∷ []
-unfolding first_of sum second splits split_of first_split class_verdict up_to size_ok rule_ok row_bad extra_load bad_row extra_blocked fault_of reaches clash_in rounded_up
+unfolding first_of sum second splits split_of first_split class_verdict up_to size_ok rule_ok row_bad extra_load bad_row extra_blocked fault_of reaches clash_in
+    rounded_up
     share_of
     bad_in refused_in first_bad_in answer_from nineteen_lines nineteen_said refusal_meanings refusal_heads meaning refused_line spoken decimal digits_of
 refused = refl
@@ -89,8 +92,10 @@ beside :
     ∷ besides (site_of 2 16 1 (4 ∷ 13 ∷ []) (2 ∷ []) [] 1) (pair (flow 1 3 8 1 10) (flow 2 4 8 1 30)) 2 ∷ []
     ≡ bytes "on top of the loads of the site\nflow 1: cell 1, share 6, value 10, not taken\nflow 2: cell 2, share 8, value 30, taken\nworth 30\n"
     ∷ bytes "refused 5, cell 2: no room for 1 of its fragments; duggfrask why says what that means\n" ∷ []
-unfolding first_of sum overloaded lowest_over load_verdict second splits split_of first_split class_verdict up_to size_ok rule_ok row_bad extra_load bad_row extra_blocked
+unfolding first_of sum overloaded lowest_over load_verdict second splits split_of first_split class_verdict up_to size_ok rule_ok row_bad extra_load bad_row
+    extra_blocked
     fault_of
-    reaches clash_in rounded_up share_of allowed_beside best_of best_beside bad_in refused_in first_bad_in answer_from beside_in admit_lines list_said spoken decimal digits_of
+    reaches clash_in rounded_up share_of allowed_beside best_of best_beside bad_in refused_in first_bad_in answer_from beside_in admit_lines list_said spoken
+    decimal digits_of
     verdict_lines
 beside = refl

@@ -140,7 +140,8 @@ module _ (start : Net) (s : Site) (f : ℕ → Flow) (n : ℕ) where
       went (fault_of s) (ltb 16 n) (is_nested (class_verdict (net_of s) everyone)) (settled_on start s f n bad)
       (settled-not (ltb bad n) (refused_in s.cells s.slots (f bad) (bad + 1)) _ (refused-not s.cells s.slots (f bad) (bad + 1))) e
 
-  names-split : answer_from start s f n ≡ NotNested → (a b i : ℕ) × FirstSplits (net_of s) everyone a b i × (nineteen_said s ≡ split_line (a + 1) (b + 1) (i + 1))
+  names-split : answer_from start s f n ≡ NotNested → (a b i : ℕ) × FirstSplits (net_of s) everyone a b i ×
+      (nineteen_said s ≡ split_line (a + 1) (b + 1) (i + 1))
   unfolding nineteen_said
   names-split e =
       let p = parts e in

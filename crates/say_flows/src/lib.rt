@@ -1,4 +1,6 @@
 // The text of an admission, written into a lent buffer. Each function puts its text at `at` and answers where the next byte goes.
+#![tactic(auto)]
+
 ghost use Rattle.std.specs.Prelude.{◌≡◌, ◌+◌, ◌*◌, ◌≤◌, ◌<◌, length, get_or};
 ghost use Rattle.laws.specs.Bits.{bit_at};
 ghost use Rattle.laws.specs.Choice.{pick};
@@ -53,7 +55,7 @@ fn put(out: &mut [u8], at: usize, what: Phrase) -> usize
 // A site that is not nested, and the three cells that show it.
 fn put_split(out: &mut [u8], at: usize, a: usize, b: usize, i: usize) -> usize
     requires { at + 2000 ≤ length out.old }
-    ensures { Put out.old at (splitLine a b i) 2000 out.new result }
+    ensures { Put out.old at (split_line a b i) 2000 out.new result }
 {
     put_phrase(
         out,

@@ -1,4 +1,6 @@
 // What is said of a sheet of flows that was read, written into a lent buffer at `at`. The answer is where the next byte goes.
+#![tactic(auto)]
+
 ghost use Rattle.std.specs.Prelude.{◌≡◌, ◌+◌, ◌≤◌, length};
 ghost use Rattle.phrases.specs.Put.{Put};
 ghost use Rattle.say_flowsheet.specs.Said.{flow_sheet_said};

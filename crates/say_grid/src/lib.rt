@@ -1,5 +1,7 @@
 // A plan by channels and slots, a line at a time, and how many slots fit a width. A function `put_..` puts its text at `at` and answers where the next byte
 // goes.
+#![tactic(auto)]
+
 ghost use Rattle.std.specs.Prelude.{◌≡◌, true, ◌&&◌, ◌+◌, ◌*◌, ◌-◌, ◌≤◌, ◌<◌, leb, length};
 ghost use Rattle.laws.specs.Bits.{bit_in};
 ghost use Rattle.laws.specs.Most.{greater};

@@ -8,7 +8,8 @@ use Rattle.speech.specs.Speech.{bytes, spoken}
 use Rattle.phrases.specs.Phrases.{phrase}
 use Rattle.phrases.specs.declared.Phrase.{Phrase}
 use Rattle.phrases.specs.declared.Phrase.TheVariants.{Row}
-use Rattle.say_listing.specs.Lines.{listing_lines, site_row, chain_yes_row, chain_no_row, load_holds_row, load_over_row, plan_done_row, plan_short_row, refused_row}
+use Rattle.say_listing.specs.Lines.{listing_lines, site_row, chain_yes_row, chain_no_row, load_holds_row, load_over_row, plan_done_row, plan_short_row}
+use Rattle.say_listing.specs.Lines.{refused_row}
 use Rattle.say_listing.specs.Lines.{listed, reservations, cell_listed}
 
 abbrev pub line : Phrase → List ℕ

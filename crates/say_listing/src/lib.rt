@@ -1,5 +1,7 @@
 // The lines of the listing, written into a lent buffer: each is a row of one table, and a cell's line is made of rows. Nothing here knows a site: the lines
 // are made of numbers, fixed texts and the bytes of a row of the plan.
+#![tactic(auto)]
+
 ghost use Rattle.std.specs.Prelude.{◌≡◌, ◌+◌, ◌≤◌, ◌<◌, length};
 ghost use Rattle.phrases.specs.Put.{Put};
 ghost use Rattle.phrases.specs.Phrases.{phrase};

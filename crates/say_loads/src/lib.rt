@@ -1,5 +1,7 @@
 // The loads of the range map, written into a lent buffer at `at`: the answer is where the next byte goes. Cells are counted from 0. The clash rows of the
 // site, its room and what the whole height stands for are made once, by the caller.
+#![tactic(auto)]
+
 ghost use Rattle.std.specs.Prelude.{◌≡◌, ◌+◌, ◌≤◌, ◌<◌, length};
 ghost use Rattle.laws.specs.Bits.{bit_in};
 ghost use Rattle.theory.specs.Net.{room};

@@ -56,6 +56,7 @@ ring loads = site_of 4 2 1 (loads ++ replicate 28 0) (2 ∷ 4 ∷ 8 ∷ 1 ∷ re
 anew-said :
     anew_said p4 ∷ anew_said full ∷ anew_said (ring (1 ∷ 1 ∷ 1 ∷ 1 ∷ [])) ∷ anew_said (ring (1 ∷ 1 ∷ 1 ∷ 0 ∷ [])) ∷ []
     ≡ [] ∷ [] ∷ bytes "no numbering of all its cells, idle ones too, is nested\n" ∷ [] ∷ []
-unfolding p4 full ring first_of sum any second splits split_of first_split class_verdict class_answer word_of up_to size_ok rule_ok row_bad extra_load bad_row extra_blocked
+unfolding p4 full ring first_of sum any second splits split_of first_split class_verdict class_answer word_of up_to size_ok rule_ok row_bad extra_load bad_row
+    extra_blocked
     fault_of reaches clash_in last missing odd fit give_numbers numbering numbering_of renumber_of spoken anew_lines anew_said
 anew-said = refl

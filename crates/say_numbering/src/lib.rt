@@ -1,5 +1,7 @@
 // What is said of a numbering of cells, of a plan carried back from one, and of a site by its numbering, written into a lent buffer at `at`. The answer is
 // where the next byte goes.
+#![tactic(auto)]
+
 ghost use Rattle.std.specs.Prelude.{◌≡◌, ◌+◌, ◌≤◌, length};
 ghost use Rattle.phrases.specs.Put.{Put};
 ghost use Rattle.phrases.specs.Phrases.{phrase};

@@ -1,4 +1,6 @@
 // The head and the end of a picture, written into a lent buffer at `at`: the answer is where the next byte goes.
+#![tactic(auto)]
+
 ghost use Rattle.std.specs.Prelude.{◌≡◌, ◌+◌, ◌≤◌, length};
 ghost use Rattle.site.specs.Means.{Sized};
 ghost use Rattle.phrases.specs.Put.{Put};
@@ -43,9 +45,9 @@ fn put_head_row(out: &mut [u8], at: usize, what: Phrase) -> usize
           .dugg .edge{fill:none;stroke:#999;stroke-width:1}\n.dugg rect{shape-rendering:crispEdges}\n|\
           .dugg .grid{fill:url(#dugg-grid);stroke:#000;stroke-width:2}\n|\
           .dugg .box{fill:none;stroke:#000;stroke-width:2}\n|\
-          </style>\n<defs>\n<pattern id=\"dugg-bold\" width=\"8\" height=\"8\" patternUnits=\"userSpaceOnUse\">\n|\
-          <path d=\"M0 0h8v8h-8z\"/>\n|\
-          <path d=\"M-2 2l4 -4M0 8l8 -8M6 10l4 -4\" stroke=\"#fa0\" stroke-width=\"3\"/></pattern>\n|\
+          </style>\n<defs>\n<pattern id=\"dugg-bold\" width=\"16\" height=\"16\" patternUnits=\"userSpaceOnUse\">\n|\
+          <path d=\"M0 0h16v16h-16z\" fill=\"#d50\"/>\n|\
+          <path d=\"M0 0l16 16M0 16l16 -16\" stroke=\"#fff\" stroke-width=\"5\"/></pattern>\n|\
           <pattern id=\"dugg-grid\" x=\"150\" width=\"@2\" height=\"9\" patternUnits=\"userSpaceOnUse\">\n|\
           <path d=\"M0 0v9\" stroke=\"#999\" stroke-width=\"1\"/></pattern>\n|\
           <marker id=\"dugg-tip\" viewBox=\"0 0 10 10\" refX=\"9\" refY=\"5\" markerWidth=\"5\" markerHeight=\"5\" |\

@@ -1,5 +1,7 @@
 // The range map of a site, written into a lent buffer at `at`: the answer is where the next byte goes. Cells are counted from 0. The clash rows of the site
 // are made once, by the caller, and so is the word of the heaviest clash.
+#![tactic(auto)]
+
 ghost use Rattle.std.specs.Prelude.{◌≡◌, ◌&&◌, not, ◌+◌, ◌-◌, ◌*◌, ◌≤◌, ◌<◌, ltb, length};
 ghost use Rattle.laws.specs.Bits.{bit_at, bit_in};
 ghost use Rattle.site.specs.Means.{Sized};

@@ -1,5 +1,7 @@
 // The text of a refusal, written into a lent buffer: the number, the place, and what the number means. And what an answer says: a phrase of its crate's own
 // table, or a refusal. Each function puts its text at `at` and answers where the next byte goes.
+#![tactic(auto)]
+
 ghost use Rattle.std.specs.Prelude.{◌≡◌, ◌+◌, ◌≤◌, length};
 ghost use Rattle.phrases.specs.Put.{Put};
 ghost use Rattle.say_refusals.specs.Said.{meaning_phrase, meaning, head_phrase, head, refused_line};
@@ -26,7 +28,7 @@ const POSITION: usize = 6;
 
 // Where something is wrong: at a byte of the site file or of the plan file, counted from 0; in a line of a sheet, at a cell or at a flow, counted from 1; at a
 // position, counted from 0.
-#[derive(Drop)]
+#[derive(Clone, Copy)]
 pub enum Place {
     Nowhere,
     Byte(usize),
@@ -38,7 +40,7 @@ pub enum Place {
 }
 
 // What an answer says: a phrase of a table, or a refusal by its number and place.
-#[derive(Drop)]
+#[derive(Clone, Copy)]
 pub enum Sentence {
     Plain(Phrase),
     Refusal(usize, Place),
@@ -95,7 +97,7 @@ fn put_meaning(out: &mut [u8], at: usize, number: usize) -> usize
 
 // The phrase of a number and a place.
 fn head_phrase(number: usize, place: Place) -> Phrase
-    ensures { result ≡ headPhrase number place }
+    ensures { result ≡ head_phrase number place }
 {
     match place {
         Place::Nowhere => Phrase::Row(ALONE, number, 0, 0, 0),

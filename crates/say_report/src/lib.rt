@@ -1,4 +1,6 @@
 // The page of a report, written into a lent buffer at `at`: its head, and the rows between which its texts stand. The answer is where the next byte goes.
+#![tactic(auto)]
+
 ghost use Rattle.std.specs.Prelude.{◌+◌, ◌*◌, ◌≤◌, length};
 ghost use Rattle.phrases.specs.Put.{Put};
 ghost use Rattle.phrases.specs.Phrases.{phrase};
@@ -48,7 +50,7 @@ fn put(out: &mut [u8], at: usize, what: Phrase) -> usize
 // A row of the page by its number.
 pub fn put_report_row(out: &mut [u8], at: usize, row: usize) -> usize
     requires { at + 3000 ≤ length out.old }
-    ensures { Put out.old at (reportLine row) 3000 out.new result }
+    ensures { Put out.old at (report_line row) 3000 out.new result }
 {
     put(out, at, Phrase::Row(row, 0, 0, 0, 0))
 }
@@ -56,7 +58,7 @@ pub fn put_report_row(out: &mut [u8], at: usize, row: usize) -> usize
 // How the page looks.
 fn put_look(out: &mut [u8], at: usize) -> usize
     requires { at + 1000 ≤ length out.old }
-    ensures { Put out.old at reportLook 1000 out.new result }
+    ensures { Put out.old at report_look 1000 out.new result }
 {
     put_text(
         out,

@@ -3,8 +3,8 @@
 --     cell-true                the line of a cell
 --     open-true, slots-true    the two parts of the line of the size, where something is blocked and where nothing is
 -- Assumes nothing.
-use mathlib.Core.Path.{◌≡◌, refl, sym, ap, ◌∙◌}
-use mathlib.Core.Bool.{Bool, true, false, ◌&&◌, true≢false}
+use mathlib.Core.Path.{◌≡◌, refl, sym, ◌∙◌}
+use mathlib.Core.Bool.{true, false, true≢false}
 use mathlib.Core.List.{List}
 use mathlib.Core.Logic.{⊎_elim}
 use Prim.Native.Nat.{ℕ, ◌+◌, ◌-◌, ◌≤◌, ◌<◌}
@@ -13,11 +13,10 @@ use lib.Dec.{ltb, eqb}
 use lib.ListN.{length}
 use borrow.Author.Tests.{ltb-true, ltb-false, eqb-true, eqb-false}
 use Rattle.laws.specs.Bits.{bit_at}
-use Rattle.laws.specs.Choice.{pick}
 use Rattle.laws.proofs.Choice.{cases, both}
 use Rattle.theory.specs.Net.{LoadTest, loaded, room}
 use Rattle.theory.specs.Full.{weight}
-use Rattle.theory.specs.Greedy.{reserved, Plans}
+use Rattle.theory.specs.Greedy.{reserved}
 use Rattle.theory.specs.Verdict.{most_demand}
 use Rattle.theory.proofs.Exact.{planned-valid}
 use Rattle.theory.proofs.LoadLaws.{most-demand-test}
@@ -38,7 +37,7 @@ use Rattle.rooms.specs.declared.RoomAnswer.{RoomAnswer}
 use Rattle.rooms.specs.declared.RoomAnswer.TheVariants as room
 use Rattle.rooms.proofs.Right.{room-planned, room-nothing, room-exact, room-less, same-with}
 use Rattle.why.specs.Said.{open_of, least_number, fewest, some_blocked}
-use Rattle.why.specs.Means.{Planned, NoPlan, AllOpen, AtLeastSlots, WillDo, set}
+use Rattle.why.specs.Means.{Planned, AllOpen, AtLeastSlots, WillDo, set}
 use Rattle.why.proofs.Numbers.{itself, at_least, fewer-slots, slots-exact}
 use Rattle.why.proofs.Truth.{least-does, all_so}
 use Rattle.phrases.specs.declared.Phrase.{Phrase}
@@ -111,7 +110,8 @@ module _ (s : Site) (fine : fault_of s ≡ Fine) (long : length s.loads ≡ 32) 
         ⊎_elim
         (λ e.
         let off : LoadTest (net_of s) (loaded (net_of s)) → ⊥ =
-        λ h. let a = (most-demand-test (net_of s) (loaded (net_of s))).1 h in let b = ltb-true (room (net_of s)) (most_demand (net_of s) (loaded (net_of s))) e in
+        λ h. let a = (most-demand-test (net_of s) (loaded (net_of s))).1 h in let b = ltb-true (room (net_of s))
+        (most_demand (net_of s) (loaded (net_of s))) e in
         omega arith in
         let none : l ≡ 0 = omega (arith, room-nothing s (i + 1) long (edit-fine i inside) off, few) in
         rw none (plan.0, same-with s (i + 1) long (edit-fine i inside) plan.0 plan.1))

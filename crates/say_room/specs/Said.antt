@@ -1,6 +1,6 @@
 -- What `duggfrask room` says of a site, by what `find` answers of it: "for each cell how much more it could carry with all else as it is (exact in the class,
 -- "at least" elsewhere: say which), and for the site how many slots more or fewer would do."
-use Rattle.std.specs.Prelude.{ℕ, ◌+◌, ◌-◌, Bool, true, false, ◌&&◌, ◌||◌, List, [], ◌∷◌, ◌++◌, ltb, eqb}
+use Rattle.std.specs.Prelude.{ℕ, ◌+◌, ◌-◌, Bool, true, false, ◌&&◌, List, [], ◌++◌, ltb, eqb}
 use Rattle.laws.specs.Choice.{pick}
 use Rattle.site.specs.Record.{load_at}
 use Rattle.site.specs.declared.Site.{Site}
@@ -17,7 +17,8 @@ use Rattle.why.specs.Said.{open_of, least_number, fewest, some_blocked}
 use Rattle.phrases.specs.Phrases.{phrase}
 use Rattle.phrases.specs.declared.Phrase.{Phrase}
 use Rattle.phrases.specs.declared.Phrase.TheVariants.{Silent, Row}
-use Rattle.say_room.specs.Lines.{room_lines, carries_row, no_more_row, carries_least_row, no_cell_row, whether_row, do_slots_row, do_open_row, line_end_row, fewer_row}
+use Rattle.say_room.specs.Lines.{room_lines, carries_row, no_more_row, carries_least_row, no_cell_row, whether_row, do_slots_row, do_open_row, line_end_row}
+use Rattle.say_room.specs.Lines.{fewer_row}
 use Rattle.say_room.specs.Lines.{fewer_than_row, least_slots_row, too_few_row}
 
 -- a plan is found, there is none, it is not known, or it is refused

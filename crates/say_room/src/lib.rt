@@ -1,4 +1,6 @@
 // What is said of the room of a site, written into a lent buffer at `at`. The answer is where the next byte goes.
+#![tactic(auto)]
+
 ghost use Rattle.std.specs.Prelude.{◌≡◌, true, false, ◌+◌, ◌≤◌, ◌<◌, eqb, length};
 ghost use Rattle.laws.specs.Choice.{pick};
 ghost use Rattle.site.specs.Record.{fault_of};

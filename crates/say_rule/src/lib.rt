@@ -1,5 +1,7 @@
 // What is said of a site's rule, and of the clashes that a third cell makes, written into a lent buffer at `at`. The answer is where the next byte goes.
 // Cells are indexed from 0 here, and named from 1 in the text.
+#![tactic(auto)]
+
 ghost use Rattle.std.specs.Prelude.{◌≡◌, not, ◌&&◌, ◌+◌, ◌≤◌, ◌<◌, eqb, length};
 ghost use Rattle.laws.specs.Bits.{bit_at};
 ghost use Rattle.phrases.specs.Put.{Put};

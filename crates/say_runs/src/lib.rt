@@ -1,5 +1,7 @@
 // The runs of a row of numbers, and a cell's slots and channels in words: the row has a word of channels for each slot. A function `put_..` puts its text at
 // `at` and answers where the next byte goes.
+#![tactic(auto)]
+
 ghost use Rattle.std.specs.Prelude.{◌≡◌, ◌&&◌, not, ◌+◌, ◌-◌, ◌/◌, ◌%◌, ◌^◌, ◌≤◌, ◌<◌, eqb, length, get_or};
 ghost use Rattle.laws.specs.Bits.{bit_at};
 ghost use Rattle.laws.specs.Part.{list_of};

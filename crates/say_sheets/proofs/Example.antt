@@ -18,7 +18,7 @@ faults-said :
     ∷ line_fault_said 1 (record { reason = 8; place = 0 })
     ∷ line_fault_said 3 (record { reason = 13; place = 5 })
     ∷ []
-    ≡ bytes "refused 17, line 2: at character 12 stands a semicolon, and fields are parted by commas\n"
+    ≡ bytes "refused 17, line 2: at character 12 stands a semicolon, and a comma belongs there\n"
     ∷ bytes "refused 17, line 1: the line ends in LF alone, and CR LF belongs there\n"
     ∷ bytes "refused 17, line 3: column 5: 0 or 1 belongs there\n"
     ∷ []

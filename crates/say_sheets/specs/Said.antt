@@ -1,5 +1,5 @@
 -- What is said of a bad line, of a tidied sheet, and of a site that was made of a sheet.
-use Rattle.std.specs.Prelude.{ℕ, zero, suc, ◌+◌, Bool, not, List, [], ◌++◌, eqb}
+use Rattle.std.specs.Prelude.{ℕ, zero, suc, ◌+◌, not, List, [], ◌++◌, eqb}
 use Rattle.laws.specs.Choice.{pick}
 use Rattle.laws.specs.Search.{first}
 use Rattle.site.specs.declared.Site.{Site}

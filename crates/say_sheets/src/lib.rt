@@ -1,5 +1,7 @@
 // What is said of a range sheet: why a line is bad, what tidying changed, and the site that was made. Written into a lent buffer at `at`.
 // The answer is where the next byte goes.
+#![tactic(auto)]
+
 ghost use Rattle.std.specs.Prelude.{◌≡◌, not, ◌+◌, ◌≤◌, eqb, length};
 ghost use Rattle.cleaning.specs.Clean.{changes_of};
 ghost use Rattle.phrases.specs.Put.{Put};
@@ -42,8 +44,8 @@ fn put_line_fault(out: &mut [u8], at: usize, line: usize, fault: LineFault) -> u
         b"|refused 17, line @1: the sheet ends before this line\n|\
           refused 17, line @1: a line too many\n|\
           refused 17, line @1: it begins with a byte order mark\n|\
-          refused 17, line @1: at character @2 stands a semicolon, and fields are parted by commas\n|\
-          refused 17, line @1: at character @2 stands a tab, and fields are parted by commas\n|\
+          refused 17, line @1: at character @2 stands a semicolon, and a comma belongs there\n|\
+          refused 17, line @1: at character @2 stands a tab, and a comma belongs there\n|\
           refused 17, line @1: at character @2 stands a quote, and a sheet has none\n|\
           refused 17, line @1: at character @2 stands a blank, and a sheet has none\n|\
           refused 17, line @1: the line ends in LF alone, and CR LF belongs there\n|\
@@ -62,7 +64,7 @@ fn put_line_fault(out: &mut [u8], at: usize, line: usize, fault: LineFault) -> u
 // Why a line is bad, where it can be told; else what 17 means.
 fn put_bad_line(out: &mut [u8], at: usize, sheet: &[u8], line: usize) -> usize
     requires { at + 2000 ≤ length out.old }
-    ensures { Put out.old at (badLineSaid sheet.now line) 2000 out.new result }
+    ensures { Put out.old at (bad_line_said sheet.now line) 2000 out.new result }
 {
     let fault = fault_of_line(sheet, line);
     if fault.reason == 0 {
@@ -74,7 +76,7 @@ fn put_bad_line(out: &mut [u8], at: usize, sheet: &[u8], line: usize) -> usize
 // A sheet that was read, or its refusal.
 pub fn put_sheet_refused(out: &mut [u8], at: usize, sheet: &[u8], reply: SheetAnswer) -> usize
     requires { at + 2000 ≤ length out.old }
-    ensures { Put out.old at (sheetRefusedSaid sheet.now reply) 2000 out.new result }
+    ensures { Put out.old at (sheet_refused_said sheet.now reply) 2000 out.new result }
 {
     match reply {
         SheetAnswer::Done => put_sheet_read(out, at, reply),
@@ -86,7 +88,7 @@ pub fn put_sheet_refused(out: &mut [u8], at: usize, sheet: &[u8], reply: SheetAn
 // Puts a row of the sentences of tidying: a change by its number, its place, and what is said of the sheet.
 fn put(out: &mut [u8], at: usize, what: Phrase) -> usize
     requires { at + 500 ≤ length out.old }
-    ensures { Put out.old at (phrase tidyLines what) 500 out.new result }
+    ensures { Put out.old at (phrase tidy_lines what) 500 out.new result }
 {
     put_phrase(
         out,
@@ -110,7 +112,7 @@ fn put(out: &mut [u8], at: usize, what: Phrase) -> usize
 
 // The line of a change, or the first of several.
 fn place_phrase(c: Tidied) -> Phrase
-    ensures { result ≡ placePhrase c }
+    ensures { result ≡ place_phrase c }
 {
     if c.times == 1 {
         return Phrase::Row(ONCE, c.line, 0, 0, 0);
@@ -121,7 +123,7 @@ fn place_phrase(c: Tidied) -> Phrase
 // A change that tidying made; nothing of one that it did not make.
 fn put_named(out: &mut [u8], at: usize, kind: u8, c: Tidied) -> usize
     requires { at + 1000 ≤ length out.old }
-    ensures { Put out.old at (namedSaid kind c) 1000 out.new result }
+    ensures { Put out.old at (named_said kind c) 1000 out.new result }
 {
     if c.times == 0 {
         return at;
@@ -133,7 +135,7 @@ fn put_named(out: &mut [u8], at: usize, kind: u8, c: Tidied) -> usize
 // The changes that tidying made, in the order of their numbers.
 fn put_changes(out: &mut [u8], at: usize, sheet: &[u8]) -> usize
     requires { at + 8000 ≤ length out.old }
-    ensures { Put out.old at (tidyChangesSaid sheet.now 8) 8000 out.new result }
+    ensures { Put out.old at (tidy_changes_said sheet.now 8) 8000 out.new result }
 {
     let mut next = at;
     let mut done: u8 = 0;
@@ -148,7 +150,7 @@ fn put_changes(out: &mut [u8], at: usize, sheet: &[u8]) -> usize
 // Whether tidying makes a change, by its number less 1.
 fn is_made(sheet: &[u8], done: u8) -> bool
     requires { done ≤ 8 }
-    ensures { result ≡ not (eqb (changesOf sheet.now (done + 1)).times 0) }
+    ensures { result ≡ not (eqb (changes_of sheet.now (done + 1)).times 0) }
 {
     let c = changes_made(sheet, done + 1);
     c.times != 0
@@ -156,7 +158,7 @@ fn is_made(sheet: &[u8], done: u8) -> bool
 
 // The number, less 1, of the first change that tidying makes; 8 where it makes none.
 fn first_change(sheet: &[u8]) -> u8
-    ensures { result ≡ firstChange sheet.now }
+    ensures { result ≡ first_change sheet.now }
 {
     let mut done: u8 = 0;
     while done < KINDS {
@@ -171,7 +173,7 @@ fn first_change(sheet: &[u8]) -> u8
 // What was tidied in a sheet, a line for each thing; or that there was nothing to change.
 fn put_tidied(out: &mut [u8], at: usize, sheet: &[u8]) -> usize
     requires { at + 9000 ≤ length out.old }
-    ensures { Put out.old at (tidiedSaid sheet.now) 9000 out.new result }
+    ensures { Put out.old at (tidied_said sheet.now) 9000 out.new result }
 {
     if first_change(sheet) == KINDS {
         return put(out, at, Phrase::Row(LEFT, 0, 0, 0, 0));
@@ -183,7 +185,7 @@ fn put_tidied(out: &mut [u8], at: usize, sheet: &[u8]) -> usize
 // What tidying answered: what was changed, or the line that can't be tidied.
 pub fn put_tidy(out: &mut [u8], at: usize, sheet: &[u8], reply: TidyAnswer) -> usize
     requires { at + 9000 ≤ length out.old }
-    ensures { Put out.old at (tidySaid sheet.now reply) 9000 out.new result }
+    ensures { Put out.old at (tidy_said sheet.now reply) 9000 out.new result }
 {
     match reply {
         TidyAnswer::Done(_) => put_tidied(out, at, sheet),
@@ -194,7 +196,7 @@ pub fn put_tidy(out: &mut [u8], at: usize, sheet: &[u8], reply: TidyAnswer) -> u
 
 // The sizes of a site and its clashes.
 fn made_phrase(site: Site) -> Phrase
-    ensures { result ≡ madePhrase site }
+    ensures { result ≡ made_phrase site }
 {
     let clashes = clash_count(site);
     let cells = site.cells as usize;
@@ -209,7 +211,7 @@ fn made_phrase(site: Site) -> Phrase
 // What a site is that was made of a sheet.
 pub fn put_made(out: &mut [u8], at: usize, site: Site) -> usize
     requires { at + 700 ≤ length out.old }
-    ensures { Put out.old at (madeSaid site) 700 out.new result }
+    ensures { Put out.old at (made_said site) 700 out.new result }
 {
     put_phrase(
         out,

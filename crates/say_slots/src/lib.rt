@@ -1,5 +1,7 @@
 // The slot map of a plan, written into a lent buffer at `at`: the answer is where the next byte goes. Cells, slots, channels and positions are counted from
 // 0. The clash rows of the site are made once, by the caller.
+#![tactic(auto)]
+
 ghost use Rattle.std.specs.Prelude.{◌≡◌, ◌&&◌, ◌||◌, not, ◌+◌, ◌*◌, ◌%◌, ◌≤◌, ◌<◌, eqb, ltb, length};
 ghost use Rattle.laws.specs.Bits.{bit_at};
 ghost use Rattle.laws.specs.Choice.{pick};

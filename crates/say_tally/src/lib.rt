@@ -1,4 +1,6 @@
 // The tally of an audit: a byte for each site file, what was said of it and of the plan beside it; and the last lines, which count them.
+#![tactic(auto)]
+
 ghost use Rattle.std.specs.Prelude.{◌≡◌, ◌+◌, ◌≤◌, ◌<◌, length};
 ghost use Rattle.phrases.specs.Put.{Put};
 ghost use Rattle.phrases.specs.Phrases.{phrase};
@@ -19,7 +21,7 @@ const PLANS: usize = 2;
 const UNSEEN: usize = 3;
 
 // What is said of the plan beside a site: none stands there; valid; not valid; not valid, and valid if only two-way ranges clashed; refused.
-#[derive(Drop)]
+#[derive(Clone, Copy)]
 pub enum PlanSaid {
     Absent,
     Valid,

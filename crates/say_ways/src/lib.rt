@@ -1,4 +1,6 @@
 // Which sentence a clash has, by which of its two cells reaches the other, and which a number of changes has.
+#![tactic(auto)]
+
 ghost use Rattle.std.specs.Prelude.{◌≡◌};
 ghost use Rattle.verdicts.specs.Said.{reach_named, way_sentence, clash_sentence, changes_sentence};
 

@@ -1,4 +1,6 @@
 // What `duggfrask why` says of a site, written into a lent buffer: one public function, which asks the calls and puts their answers into English.
+#![tactic(auto)]
+
 ghost use Rattle.std.specs.Prelude.{◌≡◌, ◌+◌, ◌*◌, ◌≤◌, ◌<◌, ltb, length};
 ghost use Rattle.laws.specs.Choice.{pick};
 ghost use Rattle.site.specs.Record.{positions, fault_of};
@@ -77,7 +79,7 @@ fn put_line(out: &mut [u8], at: usize, what: Phrase) -> usize
           with @1 slot@a: at least @2 channel@b, and @3 will do\n|\
           with @1 slot@a: at least @2 channel@b\n|\
           with @1 slot@a: more than 16 channels, which no site has\n|\
-          nested: of each cell with a load, the lower such cells that clash with it clash with one another\n|\
+          nested: of each cell, the lower cells that clash with it clash with one another\n|\
           not nested: cells @1 and @2 clash with cell @3, and not with one another\n|",
         what,
     )
@@ -86,14 +88,14 @@ fn put_line(out: &mut [u8], at: usize, what: Phrase) -> usize
 // Puts any line: no row has more than 150 bytes.
 fn put(out: &mut [u8], at: usize, what: Phrase) -> usize
     requires { at + 1500 ≤ length out.old }
-    ensures { Put out.old at (phrase whyLines what) 1500 out.new result }
+    ensures { Put out.old at (phrase why_lines what) 1500 out.new result }
 {
     put_line(out, at, what)
 }
 
 // Nested, or the triple that shows that it is not.
 fn class_phrase(class: ClassAnswer) -> Phrase
-    ensures { result ≡ classPhrase class }
+    ensures { result ≡ class_phrase class }
 {
     match class {
         ClassAnswer::InClass => Phrase::Row(NESTED, 0, 0, 0, 0),
@@ -104,7 +106,7 @@ fn class_phrase(class: ClassAnswer) -> Phrase
 
 // The class of a site that is not chained. A chained site is nested, and nothing is said of that.
 fn nested_phrase(judge: ChainAnswer, class: ClassAnswer) -> Phrase
-    ensures { result ≡ nestedPhrase judge class }
+    ensures { result ≡ nested_phrase judge class }
 {
     match judge {
         ChainAnswer::Chained => Phrase::Silent,
@@ -115,7 +117,7 @@ fn nested_phrase(judge: ChainAnswer, class: ClassAnswer) -> Phrase
 
 // The lowest cell that is over, and what that means.
 fn over_phrase(class: ClassAnswer, cell: usize, excess: usize) -> Phrase
-    ensures { result ≡ overPhrase class cell excess }
+    ensures { result ≡ over_phrase class cell excess }
 {
     match class {
         ClassAnswer::InClass => Phrase::Row(OVER, cell, excess, 0, 0),
@@ -126,7 +128,7 @@ fn over_phrase(class: ClassAnswer, cell: usize, excess: usize) -> Phrase
 
 // The load test: it holds, or who is over.
 fn load_phrase(class: ClassAnswer, reply: LoadAnswer) -> Phrase
-    ensures { result ≡ loadPhrase class reply }
+    ensures { result ≡ load_phrase class reply }
 {
     match reply {
         LoadAnswer::Holds => Phrase::Row(HOLDS, 0, 0, 0, 0),
@@ -137,7 +139,7 @@ fn load_phrase(class: ClassAnswer, reply: LoadAnswer) -> Phrase
 
 // Planned or not, and what a no means.
 fn plan_phrase(l: usize, n: usize, reply: PlanAnswer) -> Phrase
-    ensures { result ≡ planPhrase l n reply }
+    ensures { result ≡ plan_phrase l n reply }
 {
     match reply {
         PlanAnswer::Done => Phrase::Row(PLANNED, 0, 0, 0, 0),
@@ -149,7 +151,7 @@ fn plan_phrase(l: usize, n: usize, reply: PlanAnswer) -> Phrase
 
 // The number that `least` answers.
 pub fn least_number(reply: LeastAnswer) -> usize
-    ensures { result ≡ leastNumber reply }
+    ensures { result ≡ least_number reply }
 {
     match reply {
         LeastAnswer::Least(n) => n,
@@ -170,7 +172,7 @@ fn smaller(n: usize, m: usize) -> usize
 
 // The number of channel-slots that will do: where the site is planned, its own if that is smaller.
 fn will_do(reply: PlanAnswer, n: usize, m: usize) -> usize
-    ensures { result ≡ willDo reply n m }
+    ensures { result ≡ will_do reply n m }
 {
     match reply {
         PlanAnswer::Done => smaller(n, m),
@@ -193,7 +195,7 @@ fn has_row(row: usize, few: usize, all: usize) -> usize
 
 // How many channel-slots it takes, where n of all are open.
 fn takes_phrase(l: usize, u: usize, n: usize, all: usize) -> Phrase
-    ensures { result ≡ takesPhrase l u n all }
+    ensures { result ≡ takes_phrase l u n all }
 {
     if l == u {
         return Phrase::Row(has_row(EXACT, n, all), l, n, 0, 0);
@@ -203,7 +205,7 @@ fn takes_phrase(l: usize, u: usize, n: usize, all: usize) -> Phrase
 
 // What stands before the cells of the heaviest clash.
 fn set_phrase(l: usize) -> Phrase
-    ensures { result ≡ setPhrase l }
+    ensures { result ≡ set_phrase l }
 {
     if 0 < l {
         return Phrase::Row(SET, l, 0, 0, 0);
@@ -214,7 +216,7 @@ fn set_phrase(l: usize) -> Phrase
 // The line of a cell of the set; nothing for any other.
 fn cell_phrase(set: u32, load: usize, j: usize) -> Phrase
     requires { j < 32 }
-    ensures { result ≡ cellPhrase set load j }
+    ensures { result ≡ cell_phrase set load j }
 {
     if has(set, j) {
         return Phrase::Row(CELL, j + 1, load, 0, 0);
@@ -225,7 +227,7 @@ fn cell_phrase(set: u32, load: usize, j: usize) -> Phrase
 // Puts the line of a cell.
 fn put_cell(out: &mut [u8], at: usize, set: u32, load: usize, j: usize) -> usize
     requires { (j < 32) × (at + 200 ≤ length out.old) }
-    ensures { Put out.old at (phrase whyLines (cellPhrase set load j)) 200 out.new result }
+    ensures { Put out.old at (phrase why_lines (cell_phrase set load j)) 200 out.new result }
 {
     put_line(out, at, cell_phrase(set, load, j))
 }
@@ -240,7 +242,7 @@ fn wide(x: u16) -> usize
 // The lines of the cells of the set, of the first so many.
 fn put_cells(out: &mut [u8], at: usize, loads: &[u16; 32], set: u32, cells: usize) -> usize
     requires { (cells ≤ 32) × (at + 200 * cells ≤ length out.old) }
-    ensures { Put out.old at (texts (cellPhrases loads.now set cells)) (200 * cells) out.new result }
+    ensures { Put out.old at (texts (cell_phrases loads.now set cells)) (200 * cells) out.new result }
 {
     let mut next = at;
     let mut j = 0;
@@ -268,7 +270,7 @@ pub fn fewest(n: usize, f: usize) -> usize
 // The row of a size, of the four that begin at `row`, with its values.
 fn size_row(row: usize, most: usize, f: usize, lo: usize, hi: usize) -> Phrase
     requires { row ≤ 18 }
-    ensures { result ≡ sizeRow row most f lo hi }
+    ensures { result ≡ size_row row most f lo hi }
 {
     if most < lo {
         return Phrase::Row(row + 3, f, 0, 0, 0);
@@ -285,7 +287,7 @@ fn size_row(row: usize, most: usize, f: usize, lo: usize, hi: usize) -> Phrase
 // With f of the one, how many of the other make l channel-slots, and u.
 fn size_phrase(row: usize, most: usize, f: usize, l: usize, u: usize) -> Phrase
     requires { (row ≤ 18) × (0 < f) }
-    ensures { result ≡ sizePhrase row most f l u }
+    ensures { result ≡ size_phrase row most f l u }
 {
     size_row(row, most, f, fewest(l, f), fewest(u, f))
 }
@@ -293,8 +295,8 @@ fn size_phrase(row: usize, most: usize, f: usize, l: usize, u: usize) -> Phrase
 // How many slots, and how many channels.
 fn put_sizes(out: &mut [u8], at: usize, site: Site, l: usize, u: usize) -> usize
     requires at_in_bounds { at + 3000 ≤ length out.old }
-    requires site_value { faultOf site ≡ Fine }
-    ensures { Put out.old at (texts (sizesPhrases site l u)) 3000 out.new result }
+    requires site_value { fault_of site ≡ Fine }
+    ensures { Put out.old at (texts (sizes_phrases site l u)) 3000 out.new result }
 {
     let slots = size_phrase(SLOTS, 128, site.channels as usize, l, u);
     let middle = put(out, at, slots);
@@ -305,8 +307,8 @@ fn put_sizes(out: &mut [u8], at: usize, site: Site, l: usize, u: usize) -> usize
 // What is blocked, as a list that can be typed again.
 fn put_list(out: &mut [u8], at: usize, site: Site) -> usize
     requires at_in_bounds { at + 30000 ≤ length out.old }
-    requires site_value { faultOf site ≡ Fine }
-    ensures { Put out.old at (listLine site) 30000 out.new result }
+    requires site_value { fault_of site ≡ Fine }
+    ensures { Put out.old at (list_line site) 30000 out.new result }
 {
     let blocked = site.blocked;
     let list = put_text(out, at, b"blocked: ");

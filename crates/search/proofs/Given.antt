@@ -61,7 +61,8 @@ unfolding search_answer
 search-proper s limit t =
     proper-call search_proper Refused (λ g. refl) (fault_of s) _
     (proper-either search_proper (ltb (length t) (size s)) TableShort (reply_of (net_of s) limit) refl
-    (proper-either search_proper (too_large (net_of s)) TooMany (replied limit (searched (net_of s) limit)) refl (replied-proper limit (searched (net_of s) limit))))
+    (proper-either search_proper (too_large (net_of s)) TooMany (replied limit (searched (net_of s) limit)) refl
+    (replied-proper limit (searched (net_of s) limit))))
 
 -- the numbers and the values, in their order, of an answer of each kind
 abbrev answers : (tries cell row : ℕ) → List SearchAnswer

@@ -59,7 +59,8 @@ was-many limit false short many x f e = absurd (let z : ◌≡◌ {A = ℕ} 1 3 
 module _ (s : Site) (limit : ℕ) (t : List ℕ) where
   pub search-refused : (f : Fault) → search_answer s limit t ≡ Refused f ↔ ((f ≡ fault_of s) × (is_fine f ≡ false))
   unfolding search_answer
-  search-refused = passed_on Refused (λ f g e. cc) (fault_of s) _ (no-refusal limit (ltb (length t) (size s)) (too_large (net_of s)) (searched (net_of s) limit))
+  search-refused = passed_on Refused (λ f g e. cc) (fault_of s) _
+      (no-refusal limit (ltb (length t) (size s)) (too_large (net_of s)) (searched (net_of s) limit))
 
   pub four-means : (search_answer s limit t ≡ TableShort) ↔ ((is_fine (fault_of s) ≡ true) × (length t < size s))
   unfolding search_answer

@@ -18,7 +18,8 @@ use lib.ListN.{length, get_or, set, drop}
 use lib.Seq.{drop-cons, drop-length, get_or-set_same, get_or-set_other}
 use borrow.Author.Tests.{lt-ltb, le-ltb, ltb-false, ltb-true}
 use Rattle.laws.proofs.Choice.{cases, order}
-use Rattle.tries.specs.Search.{Spot, spot_at, taken_by, End, plan_found, none_exists, tries_of, after_tries, or_next, look_at, onward, seek, ended, limit_met, limited}
+use Rattle.tries.specs.Search.{Spot, spot_at, taken_by, End, plan_found, none_exists, tries_of, after_tries, or_next, look_at, onward, seek, ended, limit_met}
+use Rattle.tries.specs.Search.{limited}
 use Rattle.tries.proofs.Ends.{after-else, else-else, else-full, full-else, tries-after}
 use Rattle.search.specs.Hunt.{placed_of, start_of}
 

@@ -9,8 +9,8 @@
 -- Assumes nothing.
 use mathlib.Core.Path.{◌≡◌, refl, sym, ap, ◌∙◌, subst}
 use mathlib.Core.Bool.{Bool, true, false, true≢false, false≢true}
-use mathlib.Core.List.{List, [], ◌∷◌, ◌++◌}
-use mathlib.Core.Logic.{◌⊎◌, inl, inr, ⊎_elim, ◌↔◌}
+use mathlib.Core.List.{List, ◌++◌}
+use mathlib.Core.Logic.{◌⊎◌, ⊎_elim, ◌↔◌}
 use Prim.Native.Nat.{ℕ, ◌+◌, ◌*◌, ◌≤◌, ◌<◌}
 use native.Mathlib.Omega.{arith}
 use lib.Dec.{eqb, ltb}
@@ -20,7 +20,7 @@ use borrow.Author.Tests.{le-ltb}
 use Rattle.laws.specs.Choice.{pick}
 use Rattle.laws.proofs.Choice.{cases}
 use Rattle.laws.proofs.Grid.{inside}
-use Rattle.theory.specs.Net.{Net, Reserved, Valid}
+use Rattle.theory.specs.Net.{Reserved, Valid}
 use Rattle.theory.specs.Greedy.{reserved, planned, greedy}
 use Rattle.theory.proofs.Exact.{valid-agree}
 use Rattle.tries.specs.Search.{Spot, reserved_by, End, plan_found, none_exists, tries_of, search_of, Limited, ended, limit_met, searched}
@@ -33,7 +33,6 @@ use Rattle.site.specs.Record.{positions, size, fault_of, is_fine}
 use Rattle.site.specs.Reach.{net_of}
 use Rattle.site.specs.declared.Site.{Site}
 use Rattle.site.specs.declared.Fault.{Fault}
-use Rattle.site.specs.declared.Fault.TheVariants.{Fine, Size, Load, Reach, Blocked}
 use Rattle.search.specs.Search.{too_large, replied, lay_out, laid_on, search_answer, search_table}
 use Rattle.search.specs.declared.SearchAnswer.{SearchAnswer}
 use Rattle.search.specs.declared.SearchAnswer.TheVariants.{Plan, Full, Limit, TooMany, TableShort, Refused}
@@ -204,7 +203,8 @@ module _ (s : Site) (t : List ℕ) where
       -- ---- the table
 
       -- "on the other two failures the table's site part is idle"
-      pub idle-part : (search_answer s limit t ≡ Full n) ⊎ (search_answer s limit t ≡ Limit n) → search_table s limit t ≡ replicate (size s) 0 ++ drop (size s) t
+      pub idle-part : (search_answer s limit t ≡ Full n) ⊎ (search_answer s limit t ≡ Limit n) → search_table s limit t ≡ replicate (size s) 0 ++ drop
+          (size s) t
       idle-part =
           ⊎_elim
           (λ h. let g = sought (Full n) h refl in

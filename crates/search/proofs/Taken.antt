@@ -40,7 +40,15 @@ module _ (clash : ℕ → ℕ → Bool) (owner at : List ℕ) (c : ℕ) where
       → (i : ℕ) → bit_at (bit_or word (pick with (2 ^ get_or at k 0) 0)) i ≡ keeps clash owner at (k + 1) c i
   keeps-join k word with e h i =
       set-one with word (get_or at k 0) i
-      ∙ rw (h i, e, add-one, keeps-more k i, eqb-sym i (get_or at k 0), and_comm (eqb (get_or at k 0) i) (ltb (get_or owner k 0) c && clash (get_or owner k 0) c))
+      ∙ rw (
+        h i,
+        e,
+        add-one,
+        keeps-more k i,
+        eqb-sym i (get_or at k 0),
+        and_comm (eqb (get_or at k 0) i)
+            (ltb (get_or owner k 0) c && clash (get_or owner k 0) c),
+      )
 
   -- a fragment of the cell itself keeps it from nothing
   pub keeps-own : (k i : ℕ) → get_or owner k 0 ≡ c → keeps clash owner at (suc k) c i ≡ keeps clash owner at k c i

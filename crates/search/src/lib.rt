@@ -1,5 +1,7 @@
 // W13's call: lists the fragments and the open positions, searches on an explicit stack of at most 24 fragments, and writes the plan into the lent table.
 // In the search, open positions are counted by their index, of at most 64, so that the positions that a fragment cannot have are one word.
+#![tactic(auto)]
+
 ghost use Rattle.std.specs.Prelude.{◌≡◌, ◌&&◌, [], ℕ, ◌+◌, ◌-◌, ◌*◌, ◌≤◌, ◌<◌, ltb, length, get_or};
 ghost use Rattle.laws.specs.Bits.{bit_at, bit_in};
 ghost use Rattle.tries.specs.Search.{opens_from, fragments_from, seek, limited};
@@ -13,7 +15,7 @@ use site::{Fault, Site};
 
 // What the search answers: a plan, none exists or limit met, each with the tries made; 25, too many positions or fragments; 4, the table is short; or what is
 // wrong with the record.
-#[derive(Drop)]
+#[derive(Clone, Copy)]
 pub enum SearchAnswer {
     Plan(u64),
     Full(u64),
@@ -24,7 +26,7 @@ pub enum SearchAnswer {
 }
 
 // How a search ends, with the tries made.
-#[derive(Drop)]
+#[derive(Clone, Copy)]
 pub enum HuntEnd {
     Plan(u64),
     Full(u64),
@@ -32,21 +34,21 @@ pub enum HuntEnd {
 }
 
 // An end, and the index of each fragment's open position where it is a plan.
-#[derive(Drop)]
+#[derive(Clone, Copy)]
 pub struct Hunted {
     pub end: HuntEnd,
     pub at: [usize; 24],
 }
 
 // The cell of each fragment; a count of 25 where there are more than 24.
-#[derive(Drop)]
+#[derive(Clone, Copy)]
 struct Fragments {
     count: usize,
     owner: [usize; 24],
 }
 
 // The open positions; a count of 65 where there are more than 64.
-#[derive(Drop)]
+#[derive(Clone, Copy)]
 struct Opens {
     count: usize,
     at: [usize; 64],

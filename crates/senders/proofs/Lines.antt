@@ -231,7 +231,8 @@ module _ (channels : ℕ) (row : List ℕ) (few : length row < 1000) where
           let y = both (leb (a + 1) (slot + 1)) (leb (slot + 1) (run_stop row a)) x.1 in
           sym (run-same row a slot (omega (arith, leb-true (a + 1) (slot + 1) y.0)) (omega (arith, leb-true (slot + 1) (run_stop row a) y.1)))
 
-      tell : (a : ℕ) → a < length row → (at a ≡ 0 → ⊥) → (is_none (named channels (at a)) || some_in (span_has (f + 1)) (named channels (at a))) ≡ bit_at (at a) f
+      tell : (a : ℕ) → a < length row → (at a ≡ 0 → ⊥) → (is_none (named channels (at a)) || some_in (span_has (f + 1)) (named channels (at a))) ≡ bit_at
+          (at a) f
       tell a l some = channels-tell channels (at a) some (words a l) most f channel
 
       no-bit : at slot ≡ 0 → bit_at (at slot) f ≡ true → ⊥

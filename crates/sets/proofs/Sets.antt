@@ -71,7 +71,8 @@ low_word n j = word-eq (λ b. ltb b (n - 64 * j)) (λ b. ltb (64 * j + b) n) 64 
 pub away-word : (set with : List ℕ) (at j : ℕ)
     → word_of (λ b. bit_at (get_or set j 0) b && not (bit_at (get_or with (at + j) 0) b)) 64 ≡ word_in (λ k. in_set set k && not (in_set with (64 * at + k))) j
 away-word set with at j =
-    word-eq (λ b. bit_at (get_or set j 0) b && not (bit_at (get_or with (at + j) 0) b)) (λ b. in_set set (64 * j + b) && not (in_set with (64 * at + (64 * j + b)))) 64
+    word-eq (λ b. bit_at (get_or set j 0) b && not (bit_at (get_or with (at + j) 0) b))
+    (λ b. in_set set (64 * j + b) && not (in_set with (64 * at + (64 * j + b)))) 64
     (λ b h.
     let e : 64 * (at + j) + b ≡ 64 * at + (64 * j + b) = omega arith in
     ap₂ (λ s t. s && not t) (sym (blocked-at set j b h)) (sym (blocked-at with (at + j) b h) ∙ ap (in_set with) e))

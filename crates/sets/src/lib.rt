@@ -1,4 +1,6 @@
 // Sets of positions as words of 64 bits: position k is bit k % 64 of word k / 64. A set is a lent run of w words, as many as its positions take.
+#![tactic(auto)]
+
 ghost use Rattle.std.specs.Prelude.{◌≡◌, ◌&&◌, ◌||◌, not, ◌+◌, ◌-◌, ◌*◌, ◌≤◌, ◌<◌, ltb, length, get_or};
 ghost use Rattle.std.proofs.lemmas.List.Edits.{sets};
 ghost use Rattle.laws.specs.Bits.{bit_at, word_of};

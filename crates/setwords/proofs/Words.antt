@@ -30,7 +30,8 @@ module _ (x y : ℕ) (fits : x < 2 ^ 64) (fits' : y < 2 ^ 64) where
 
 -- the bits that two words do not share, counted
 pub count-unlike : (x y : ℕ) → count (bit_at (bit_xor x y)) 64 ≡ count (λ b. pick (bit_at y b) (not (bit_at x b)) (bit_at x b)) 64
-count-unlike x y = sum-eq (λ b. bit (bit_at (bit_xor x y) b)) (λ b. bit (pick (bit_at y b) (not (bit_at x b)) (bit_at x b))) 64 (λ b l. ap bit (bit-unlike x y b))
+count-unlike x y = sum-eq (λ b. bit (bit_at (bit_xor x y) b)) (λ b. bit (pick (bit_at y b) (not (bit_at x b)) (bit_at x b))) 64
+    (λ b l. ap bit (bit-unlike x y b))
 
 -- the first positions
 pub low-some : (m : ℕ) → m ≤ 64 → 2 ^ m - 1 ≡ word_of (λ b. ltb b m) 64

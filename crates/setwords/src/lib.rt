@@ -1,4 +1,6 @@
 // One word of 64 positions, of a set of positions: what two words share, what either has, what one has and the other has not, and the first of its positions.
+#![tactic(auto)]
+
 ghost use Rattle.std.specs.Prelude.{◌≡◌, ◌&&◌, ◌||◌, not, ltb};
 ghost use Rattle.laws.specs.Bits.{bit_at, word_of};
 ghost use Rattle.laws.specs.Choice.{pick};

@@ -1,5 +1,7 @@
 // The share of a flow (000, inequality 5), with repeats, and the bounds on its queue and its delay. Slots, fragments and repeats are three units:
 // no function here adds one to another.
+#![tactic(auto)]
+
 ghost use Rattle.std.specs.Prelude.{◌≡◌, ◌+◌, ◌*◌, ◌≤◌, ◌<◌};
 ghost use Rattle.site.specs.Record.{up_to};
 ghost use Rattle.shares.specs.Share.{rounded_up, share_of, most_repeats, default_repeats};
@@ -7,15 +9,15 @@ ghost use Rattle.shares.specs.Share.{rounded_up, share_of, most_repeats, default
 use site::within;
 
 // A number of time-slots.
-#[derive(Drop)]
+#[derive(Clone, Copy)]
 pub struct Slots(pub u32);
 
 // A number of fragments.
-#[derive(Drop)]
+#[derive(Clone, Copy)]
 pub struct Fragments(pub u32);
 
 // How many times each fragment is sent.
-#[derive(Drop)]
+#[derive(Clone, Copy)]
 pub struct Repeats(pub u32);
 
 // The most repeats that a flow may ask for.
@@ -25,7 +27,7 @@ const MOST_REPEATS: usize = 4;
 const DEFAULT_REPEATS: u32 = 2;
 
 // The share, the bound on the queue and the bound on the delay; or T is out of range, the burst, the period or the repeats are, the share is above 65,535.
-#[derive(Drop)]
+#[derive(Clone, Copy)]
 pub enum ShareAnswer {
     Done(Fragments, Fragments, Slots),
     OutOfRange,

@@ -232,7 +232,8 @@ module _ (b : List ℕ) (slots channels : ℕ) (blocked : List ℕ) (rule : ℕ)
 
   -- what is accepted is the sheet of the site that is read, and that has no fault
   pub accepted-is : (read_sheet b slots channels blocked rule).answer ≡ Done
-      → SheetOf b slots channels blocked rule (read_sheet b slots channels blocked rule).site × (fault_of (read_sheet b slots channels blocked rule).site ≡ Fine)
+      → SheetOf b slots channels blocked rule (read_sheet b slots channels blocked rule).site ×
+      (fault_of (read_sheet b slots channels blocked rule).site ≡ Fine)
   unfolding bad_sheet
   accepted-is e = go came
     where

@@ -8,7 +8,8 @@ use Rattle.laws.specs.Search.{first_of}
 use Rattle.text.specs.Decimal.{digits_of, decimal}
 use Rattle.lines.specs.Match.{starts}
 use Rattle.lines.specs.Format.{column, columns, header, bits_of, marks, label, cell_line}
-use Rattle.lines.specs.Content.{more, scanned, load_of_line, marks_of_line, mark_of_line, weigh, row_of_line, line_in, line_ok, columns_in, cells_of_line, head_ok}
+use Rattle.lines.specs.Content.{more, scanned, load_of_line, marks_of_line, mark_of_line, weigh, row_of_line, line_in, line_ok, columns_in, cells_of_line}
+use Rattle.lines.specs.Content.{head_ok}
 use Rattle.positions.specs.Blocked.{empty_set}
 use Rattle.site.specs.Record.{site_of, zero_site, up_to, size_ok, rule_ok, row_bad, extra_load, bad_row, extra_blocked, fault_of}
 use Rattle.site.specs.declared.Site.{Site}
@@ -90,7 +91,8 @@ pub sheets-read :
     ∷ []
 unfolding read_sheet head_ok cells_of_line columns_in starts header columns column decimal digits_of body cells_read bad_cell first_of from line_ok
     load_of_line scanned more
-    label line_in cell_line marks_of_line mark_of_line marks row_of_line weigh site_of_sheet loads_of_sheet rows_of_sheet judged fault_of size_ok up_to rule_ok extra_load
+    label line_in cell_line marks_of_line mark_of_line marks row_of_line weigh site_of_sheet loads_of_sheet rows_of_sheet judged fault_of size_ok up_to rule_ok
+    extra_load
     bad_row row_bad
     extra_blocked
 sheets-read = refl

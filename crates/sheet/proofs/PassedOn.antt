@@ -42,7 +42,8 @@ said true false true a b c j f e = let z : ◌≡◌ {A = ℕ} 0 1 = cc in absur
 said true false false a b c j f e = e
 
 -- a refusal after 17 is the fault of the record that the lines make
-pub read_told : (b : List ℕ) (slots channels : ℕ) (blocked : List ℕ) (rule : ℕ) (f : Fault) → (read_sheet b slots channels blocked rule).answer ≡ read.Refused f →
+pub read_told : (b : List ℕ) (slots channels : ℕ) (blocked : List ℕ) (rule : ℕ) (f : Fault) → (read_sheet b slots channels blocked rule).answer
+    ≡ read.Refused f →
     (f ≡ fault_of (site_of_sheet (cells_of_line b) (body b) slots channels blocked rule)) × (f ≡ Fine → ⊥)
 unfolding read_sheet cells_read
 read_told b slots channels blocked rule f e =

@@ -1,4 +1,6 @@
 // The range sheet of the fitters, read into a site and written from one. Slots, channels, the blocked positions and the rule come beside it.
+#![tactic(auto)]
+
 ghost use Rattle.std.specs.Prelude.{◌≡◌, ◌+◌, ◌*◌, ◌≤◌, ◌<◌, length, drop, ltb};
 ghost use Rattle.std.proofs.lemmas.List.Edits.{sets};
 ghost use Rattle.laws.specs.Sum.{bit};
@@ -15,7 +17,7 @@ use records::Written;
 use site::{Fault, Site};
 
 // What a sheet's reader answers: the site is read; the first bad line, from 1; or what is wrong with the record.
-#[derive(Drop)]
+#[derive(Clone, Copy)]
 pub enum SheetAnswer {
     Done,
     BadLine(usize),
@@ -23,7 +25,7 @@ pub enum SheetAnswer {
 }
 
 // The site, or a site of zeros beside the refusal.
-#[derive(Drop)]
+#[derive(Clone, Copy)]
 pub struct SheetRead {
     pub site: Site,
     pub answer: SheetAnswer,

@@ -2,6 +2,8 @@
 // they stand, slot by slot.
 //
 // What it costs: a step for each earlier clashing row, one for each four positions, and one for each position until the load is met.
+#![tactic(auto)]
+
 ghost use Rattle.std.specs.Prelude.{◌≡◌, not, [], ◌∷◌, ◌+◌, ◌*◌, ◌/◌, ◌%◌, ◌^◌, ◌≤◌, ◌<◌, length, get_or, set};
 ghost use Rattle.std.proofs.lemmas.List.Edits.{sets};
 ghost use Rattle.laws.specs.Bits.{bit_at, bit_in, word_of};
@@ -125,7 +127,7 @@ fn free_bit(free: u64, p: usize) -> u8
 }
 
 // A row that is filled: how many fragments found no place, and the position before which every free one is reserved, and from which on none is.
-#[derive(Drop)]
+#[derive(Clone, Copy)]
 struct ShortFilled {
     left: usize,
     to: usize,

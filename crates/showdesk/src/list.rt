@@ -16,12 +16,12 @@ use say_faults::Piece;
 use site::Site;
 
 // The lines of the clashes of a site, by first cell; whether they were written.
-fn put_all_clashes(site: Site, text: &mut [u8]) -> bool
+fn put_all_clashes(rt: &HostRuntime, site: Site, text: &mut [u8]) -> bool
     requires { 65536 ≤ length text.old }
 {
     for a in 0..32 {
         let end = say_clashes::put_clashes(text, 0, site, a);
-        if !result(text, end) {
+        if !result(rt, text, end) {
             return false;
         }
     }
@@ -29,32 +29,38 @@ fn put_all_clashes(site: Site, text: &mut [u8]) -> bool
 }
 
 // Every clash of a site, and how many they are.
-fn clashes(input: &[u8], text: &mut [u8])
+fn clashes(rt: &HostRuntime, input: &[u8], text: &mut [u8])
     requires { 65536 ≤ length text.old }
 {
     let read = sitefile::read_site(input);
     let answer = read.answer;
     let site = read.site;
     let ReadAnswer::Done = answer else {
-        refuse(text, input, answer);
+        refuse(rt, text, input, answer);
         return;
     };
-    if !put_all_clashes(site, text) {
-        reply::unwritten();
+    if !put_all_clashes(rt, site, text) {
+        reply::unwritten(rt);
         return;
     }
     let end = say_clashes::put_clash_count(text, 0, site);
-    yes(text, end);
+    yes(rt, text, end);
 }
 
 // The faults of blocked positions, by position; whether they were written.
-fn put_blocked_faults(site: Site, table: &[u8], clash: [u32; 32], text: &mut [u8]) -> bool
+fn put_blocked_faults(
+    rt: &HostRuntime,
+    site: Site,
+    table: &[u8],
+    clash: [u32; 32],
+    text: &mut [u8],
+) -> bool
     requires { (65536 ≤ length text.old) × (judgeable site table.now ≡ true) × (bit_in clash ≡ clash_of site) }
 {
     let n = (site.slots as usize) * (site.channels as usize);
     for k in 0..n {
         let end = say_faults::put_piece(text, 0, site, table, clash, Piece::AtBlocked(k));
-        if !result(text, end) {
+        if !result(rt, text, end) {
             return false;
         }
     }
@@ -62,13 +68,20 @@ fn put_blocked_faults(site: Site, table: &[u8], clash: [u32; 32], text: &mut [u8
 }
 
 // The clashes at one position, by first cell; whether they were written.
-fn put_clashes_at(site: Site, table: &[u8], clash: [u32; 32], k: usize, text: &mut [u8]) -> bool
+fn put_clashes_at(
+    rt: &HostRuntime,
+    site: Site,
+    table: &[u8],
+    clash: [u32; 32],
+    k: usize,
+    text: &mut [u8],
+) -> bool
     requires { (65536 ≤ length text.old) × (judgeable site table.now ≡ true) × (bit_in clash ≡ clash_of site) × (k < positions site) }
 {
     let cells = site.cells as usize;
     for a in 0..cells {
         let end = say_faults::put_piece(text, 0, site, table, clash, Piece::Clashing(k, a));
-        if !result(text, end) {
+        if !result(rt, text, end) {
             return false;
         }
     }
@@ -76,12 +89,18 @@ fn put_clashes_at(site: Site, table: &[u8], clash: [u32; 32], k: usize, text: &m
 }
 
 // The clashes, by position; whether they were written.
-fn put_clash_faults(site: Site, table: &[u8], clash: [u32; 32], text: &mut [u8]) -> bool
+fn put_clash_faults(
+    rt: &HostRuntime,
+    site: Site,
+    table: &[u8],
+    clash: [u32; 32],
+    text: &mut [u8],
+) -> bool
     requires { (65536 ≤ length text.old) × (judgeable site table.now ≡ true) × (bit_in clash ≡ clash_of site) }
 {
     let n = (site.slots as usize) * (site.channels as usize);
     for k in 0..n {
-        if !put_clashes_at(site, table, clash, k, text) {
+        if !put_clashes_at(rt, site, table, clash, k, text) {
             return false;
         }
     }
@@ -89,39 +108,39 @@ fn put_clash_faults(site: Site, table: &[u8], clash: [u32; 32], text: &mut [u8])
 }
 
 // The wrong counts, and how many faults there are; whether they were written.
-fn put_last(site: Site, table: &[u8], clash: [u32; 32], text: &mut [u8]) -> bool
+fn put_last(rt: &HostRuntime, site: Site, table: &[u8], clash: [u32; 32], text: &mut [u8]) -> bool
     requires { (65536 ≤ length text.old) × (judgeable site table.now ≡ true) × (bit_in clash ≡ clash_of site) }
 {
     let end = say_faults::put_piece(text, 0, site, table, clash, Piece::Miscounts);
-    if !result(text, end) {
+    if !result(rt, text, end) {
         return false;
     }
     let end = say_faults::put_things(text, 0, site, table, clash);
-    result(text, end)
+    result(rt, text, end)
 }
 
 // Every fault of a table, and how many they are; whether they were written.
-fn put_faults(site: Site, table: &[u8], text: &mut [u8]) -> bool
+fn put_faults(rt: &HostRuntime, site: Site, table: &[u8], text: &mut [u8]) -> bool
     requires { 65536 ≤ length text.old }
 {
     if !say_faults::can_judge(site, table) {
         return false;
     }
     let clash = site.clash_rows();
-    if !put_blocked_faults(site, table, clash, text) {
+    if !put_blocked_faults(rt, site, table, clash, text) {
         return false;
     }
-    if !put_clash_faults(site, table, clash, text) {
+    if !put_clash_faults(rt, site, table, clash, text) {
         return false;
     }
-    put_last(site, table, clash, text)
+    put_last(rt, site, table, clash, text)
 }
 
 // Checks a plan file: valid, or everything that is wrong.
-fn check_all(input: &[u8], second: &[u8], table: &mut [u8], text: &mut [u8])
+fn check_all(rt: &HostRuntime, input: &[u8], second: &[u8], table: &mut [u8], text: &mut [u8])
     requires { 65536 ≤ length text.old }
 {
-    let pair = read_pair(input, second, table, text);
+    let pair = read_pair(rt, input, second, table, text);
     if !pair.good {
         return;
     }
@@ -129,48 +148,57 @@ fn check_all(input: &[u8], second: &[u8], table: &mut [u8], text: &mut [u8])
     let verdict = checker::check(site, table);
     let end = say_verdicts::put_check(text, 0, site, verdict);
     if let CheckAnswer::Valid = verdict {
-        yes(text, end);
+        yes(rt, text, end);
         return;
     }
-    if !put_faults(site, table, text) {
-        reply::unwritten();
+    if !put_faults(rt, site, table, text) {
+        reply::unwritten(rt);
         return;
     }
-    no(text, 0);
+    no(rt, text, 0);
 }
 
 // How many changes lead from one table to another, and each of them; whether they were written.
-fn put_diff(site: Site, old: &[u8], new: &[u8], text: &mut [u8]) -> bool
+fn put_diff(rt: &HostRuntime, site: Site, old: &[u8], new: &[u8], text: &mut [u8]) -> bool
     requires { 65536 ≤ length text.old }
 {
     let end = say_diff::put_change_count(text, 0, site, old, new);
-    if !result(text, end) {
+    if !result(rt, text, end) {
         return false;
     }
-    put_all_changes(old, new, text, site, true)
+    put_all_changes(rt, old, new, text, site, true)
 }
 
 // The changes from one plan to another.
-fn diff(input: &[u8], second: &[u8], third: &[u8], old: &mut [u8], new: &mut [u8], text: &mut [u8])
+fn diff(
+    rt: &HostRuntime,
+    input: &[u8],
+    second: &[u8],
+    third: &[u8],
+    old: &mut [u8],
+    new: &mut [u8],
+    text: &mut [u8],
+)
     requires { 65536 ≤ length text.old }
 {
-    let pair = read_pair(input, second, old, text);
+    let pair = read_pair(rt, input, second, old, text);
     if !pair.good {
         return;
     }
     let site = pair.site;
-    if !read_plan_of(site, THIRD_NAME, third, new, text) {
+    if !read_plan_of(rt, site, THIRD_NAME, third, new, text) {
         return;
     }
-    if !put_diff(site, old, new, text) {
-        reply::unwritten();
+    if !put_diff(rt, site, old, new, text) {
+        reply::unwritten(rt);
         return;
     }
-    reply::fine();
+    reply::fine(rt);
 }
 
 // Does what the command says, if it is one that lists; whether it is. A check is one where everything is asked for.
 pub fn list_commands(
+    rt: &HostRuntime,
     input: &[u8],
     second: &[u8],
     third: &[u8],
@@ -180,20 +208,20 @@ pub fn list_commands(
 ) -> bool
     requires { 65536 ≤ length text.old }
 {
-    if is(b"clashes") {
-        clashes(input, text);
+    if is(rt, b"clashes") {
+        clashes(rt, input, text);
         return true;
     }
-    if is(b"diff") {
-        diff(input, second, third, old, table, text);
+    if is(rt, b"diff") {
+        diff(rt, input, second, third, old, table, text);
         return true;
     }
-    if !is(b"check") {
+    if !is(rt, b"check") {
         return false;
     }
-    if number(NUMBERS) != 1 {
+    if number(rt, NUMBERS) != 1 {
         return false;
     }
-    check_all(input, second, table, text);
+    check_all(rt, input, second, table, text);
     true
 }

@@ -17,14 +17,14 @@ use reply::result;
 use site::Site;
 
 // The lines of the range map, by cell; whether they were written.
-fn put_reach(site: Site, clash: [u32; 32], text: &mut [u8]) -> bool
+fn put_reach(rt: &HostRuntime, site: Site, clash: [u32; 32], text: &mut [u8]) -> bool
     requires { (65536 ≤ length text.old) × Sized site × (bit_in clash ≡ clash_of site) }
 {
     let cells = site.cells as usize;
     let mut a = 0;
     while a < cells {
         let end = say_range::put_lines(text, 0, site, clash, a);
-        if !result(text, end) {
+        if !result(rt, text, end) {
             return false;
         }
         a += 1;
@@ -33,25 +33,25 @@ fn put_reach(site: Site, clash: [u32; 32], text: &mut [u8]) -> bool
 }
 
 // A cell of the range map, and its ring; whether they were written.
-fn put_cell_ring(site: Site, heavy: u32, i: usize, text: &mut [u8]) -> bool
+fn put_cell_ring(rt: &HostRuntime, site: Site, heavy: u32, i: usize, text: &mut [u8]) -> bool
     requires { (65536 ≤ length text.old) × Sized site × (i < site.cells) }
 {
     let end = say_range::put_node(text, 0, site, i);
-    if !result(text, end) {
+    if !result(rt, text, end) {
         return false;
     }
     let end = say_range::put_ring(text, 0, site, heavy, i);
-    result(text, end)
+    result(rt, text, end)
 }
 
 // The cells of the range map; whether they were written.
-fn put_cells(site: Site, heavy: u32, text: &mut [u8]) -> bool
+fn put_cells(rt: &HostRuntime, site: Site, heavy: u32, text: &mut [u8]) -> bool
     requires { (65536 ≤ length text.old) × Sized site }
 {
     let cells = site.cells as usize;
     let mut i = 0;
     while i < cells {
-        if !put_cell_ring(site, heavy, i, text) {
+        if !put_cell_ring(rt, site, heavy, i, text) {
             return false;
         }
         i += 1;
@@ -61,6 +61,7 @@ fn put_cells(site: Site, heavy: u32, text: &mut [u8]) -> bool
 
 // The marks of a channel in the band of a cell, one kind after the other; whether they were written.
 fn put_marks(
+    rt: &HostRuntime,
     site: Site,
     table: &[u8],
     clash: [u32; 32],
@@ -73,7 +74,7 @@ fn put_marks(
     let mut mark = 0;
     while mark < 4 {
         let end = say_slots::put_marks(text, 0, site, table, clash, mark, i, channel);
-        if !result(text, end) {
+        if !result(rt, text, end) {
             return false;
         }
         mark += 1;
@@ -83,6 +84,7 @@ fn put_marks(
 
 // A channel in the band of a cell; whether it was written.
 fn put_channel(
+    rt: &HostRuntime,
     site: Site,
     table: &[u8],
     clash: [u32; 32],
@@ -92,21 +94,28 @@ fn put_channel(
 ) -> bool
     requires { (65536 ≤ length text.old) × Drawn site table.now clash × Sized site × (i < site.cells) × (channel < site.channels) }
 {
-    if !put_marks(site, table, clash, i, channel, text) {
+    if !put_marks(rt, site, table, clash, i, channel, text) {
         return false;
     }
     let end = say_slots::put_edge(text, 0, site, i, channel);
-    result(text, end)
+    result(rt, text, end)
 }
 
 // The channels of the band of a cell; whether they were written.
-fn put_channels(site: Site, table: &[u8], clash: [u32; 32], i: usize, text: &mut [u8]) -> bool
+fn put_channels(
+    rt: &HostRuntime,
+    site: Site,
+    table: &[u8],
+    clash: [u32; 32],
+    i: usize,
+    text: &mut [u8],
+) -> bool
     requires { (65536 ≤ length text.old) × Drawn site table.now clash × Sized site × (i < site.cells) }
 {
     let channels = site.channels as usize;
     let mut channel = 0;
     while channel < channels {
-        if !put_channel(site, table, clash, i, channel, text) {
+        if !put_channel(rt, site, table, clash, i, channel, text) {
             return false;
         }
         channel += 1;
@@ -115,28 +124,35 @@ fn put_channels(site: Site, table: &[u8], clash: [u32; 32], i: usize, text: &mut
 }
 
 // The band of a cell; whether it was written.
-fn put_whole_band(site: Site, table: &[u8], clash: [u32; 32], i: usize, text: &mut [u8]) -> bool
+fn put_whole_band(
+    rt: &HostRuntime,
+    site: Site,
+    table: &[u8],
+    clash: [u32; 32],
+    i: usize,
+    text: &mut [u8],
+) -> bool
     requires { (65536 ≤ length text.old) × Drawn site table.now clash × Sized site × (i < site.cells) }
 {
-    if !put_channels(site, table, clash, i, text) {
+    if !put_channels(rt, site, table, clash, i, text) {
         return false;
     }
     let end = say_slots::put_band(text, 0, site, i);
-    if !result(text, end) {
+    if !result(rt, text, end) {
         return false;
     }
     let end = say_slots::put_band_name(text, 0, site, i);
-    result(text, end)
+    result(rt, text, end)
 }
 
 // The bands of the slot map; whether they were written.
-fn put_bands(site: Site, table: &[u8], clash: [u32; 32], text: &mut [u8]) -> bool
+fn put_bands(rt: &HostRuntime, site: Site, table: &[u8], clash: [u32; 32], text: &mut [u8]) -> bool
     requires { (65536 ≤ length text.old) × Drawn site table.now clash × Sized site }
 {
     let cells = site.cells as usize;
     let mut i = 0;
     while i < cells {
-        if !put_whole_band(site, table, clash, i, text) {
+        if !put_whole_band(rt, site, table, clash, i, text) {
             return false;
         }
         i += 1;
@@ -145,7 +161,14 @@ fn put_bands(site: Site, table: &[u8], clash: [u32; 32], text: &mut [u8]) -> boo
 }
 
 // The bars of the loads; whether they were written.
-fn put_bars(site: Site, clash: [u32; 32], free: usize, scale: usize, text: &mut [u8]) -> bool
+fn put_bars(
+    rt: &HostRuntime,
+    site: Site,
+    clash: [u32; 32],
+    free: usize,
+    scale: usize,
+    text: &mut [u8],
+) -> bool
     requires in_bounds { (65536 ≤ length text.old) × Sized site × (bit_in clash ≡ clash_of site) }
     requires free_value { (free ≡ room (net_of site)) × (scale ≡ bar_scale site) × (scale ≤ 4294967295) }
 {
@@ -153,7 +176,7 @@ fn put_bars(site: Site, clash: [u32; 32], free: usize, scale: usize, text: &mut 
     let mut i = 0;
     while i < cells {
         let end = say_loads::put_bar(text, 0, site, clash, free, scale, i);
-        if !result(text, end) {
+        if !result(rt, text, end) {
             return false;
         }
         i += 1;
@@ -162,80 +185,80 @@ fn put_bars(site: Site, clash: [u32; 32], free: usize, scale: usize, text: &mut 
 }
 
 // The loads, against the room; whether they were written.
-fn put_loads(site: Site, clash: [u32; 32], free: usize, text: &mut [u8]) -> bool
+fn put_loads(rt: &HostRuntime, site: Site, clash: [u32; 32], free: usize, text: &mut [u8]) -> bool
     requires { (65536 ≤ length text.old) × Sized site × (bit_in clash ≡ clash_of site) × (free ≡ room (net_of site)) }
 {
     let scale = say_loads::bar_scale(site, clash, free);
-    if !put_bars(site, clash, free, scale, text) {
+    if !put_bars(rt, site, clash, free, scale, text) {
         return false;
     }
     let end = say_loads::put_room_line(text, 0, site, free, scale);
-    result(text, end)
+    result(rt, text, end)
 }
 
 // The head of the picture, and how the site is; whether they were written.
-fn put_top(site: Site, free: usize, text: &mut [u8]) -> bool
+fn put_top(rt: &HostRuntime, site: Site, free: usize, text: &mut [u8]) -> bool
     requires { (65536 ≤ length text.old) × Sized site × (free ≡ room (net_of site)) }
 {
     let end = say_picture::put_picture_head(text, 0, site);
-    if !result(text, end) {
+    if !result(rt, text, end) {
         return false;
     }
     let end = say_picture::put_facts(text, 0, site, free);
-    result(text, end)
+    result(rt, text, end)
 }
 
 // The lines and cells of the range map; whether they were written.
-fn put_range(site: Site, clash: [u32; 32], heavy: u32, text: &mut [u8]) -> bool
+fn put_range(rt: &HostRuntime, site: Site, clash: [u32; 32], heavy: u32, text: &mut [u8]) -> bool
     requires { (65536 ≤ length text.old) × Sized site × (bit_in clash ≡ clash_of site) }
 {
-    if !put_reach(site, clash, text) {
+    if !put_reach(rt, site, clash, text) {
         return false;
     }
-    put_cells(site, heavy, text)
+    put_cells(rt, site, heavy, text)
 }
 
 // The head of the picture, the range map and the loads; whether they were written.
-fn put_upper(site: Site, clash: [u32; 32], heavy: u32, text: &mut [u8]) -> bool
+fn put_upper(rt: &HostRuntime, site: Site, clash: [u32; 32], heavy: u32, text: &mut [u8]) -> bool
     requires { (65536 ≤ length text.old) × Sized site × (bit_in clash ≡ clash_of site) }
 {
     let free = say_loads::open_slots(site);
-    if !put_top(site, free, text) {
+    if !put_top(rt, site, free, text) {
         return false;
     }
-    if !put_range(site, clash, heavy, text) {
+    if !put_range(rt, site, clash, heavy, text) {
         return false;
     }
-    put_loads(site, clash, free, text)
+    put_loads(rt, site, clash, free, text)
 }
 
 // The slot map and the end of the picture; whether they were written.
-fn put_lower(site: Site, table: &[u8], clash: [u32; 32], text: &mut [u8]) -> bool
+fn put_lower(rt: &HostRuntime, site: Site, table: &[u8], clash: [u32; 32], text: &mut [u8]) -> bool
     requires { (65536 ≤ length text.old) × Drawn site table.now clash × Sized site }
 {
     let end = say_slots::put_numbers(text, 0, site);
-    if !result(text, end) {
+    if !result(rt, text, end) {
         return false;
     }
-    if !put_bands(site, table, clash, text) {
+    if !put_bands(rt, site, table, clash, text) {
         return false;
     }
     let end = say_picture::put_picture_tail(text, 0, site);
-    result(text, end)
+    result(rt, text, end)
 }
 
 // The whole picture; whether it was written.
-pub fn draw(site: Site, table: &[u8], heavy: u32, text: &mut [u8]) -> bool
+pub fn draw(rt: &HostRuntime, site: Site, table: &[u8], heavy: u32, text: &mut [u8]) -> bool
     requires { 65536 ≤ length text.old }
 {
     if !say_faults::can_judge(site, table) {
         return false;
     }
     let clash = site.clash_rows();
-    if !put_upper(site, clash, heavy, text) {
+    if !put_upper(rt, site, clash, heavy, text) {
         return false;
     }
-    put_lower(site, table, clash, text)
+    put_lower(rt, site, table, clash, text)
 }
 
 // The word of the heaviest clash; none of a site at fault.
@@ -248,72 +271,78 @@ fn heaviest_word(site: Site) -> u32 {
 }
 
 // Draws a site and the plan in the table; whether it was written.
-fn put_picture(site: Site, table: &[u8], text: &mut [u8]) -> bool
+fn put_picture(rt: &HostRuntime, site: Site, table: &[u8], text: &mut [u8]) -> bool
     requires { 65536 ≤ length text.old }
 {
     let heavy = heaviest_word(site);
-    draw(site, table, heavy, text)
+    draw(rt, site, table, heavy, text)
 }
 
 // A plan that was given, valid or not. Where it is not, the first thing that is wrong is said besides.
-fn picture_given(input: &[u8], second: &[u8], table: &mut [u8], text: &mut [u8])
+fn picture_given(rt: &HostRuntime, input: &[u8], second: &[u8], table: &mut [u8], text: &mut [u8])
     requires { 65536 ≤ length text.old }
 {
-    let pair = read_pair(input, second, table, text);
+    let pair = read_pair(rt, input, second, table, text);
     if !pair.good {
         return;
     }
     let site = pair.site;
-    if !put_picture(site, table, text) {
-        reply::unwritten();
+    if !put_picture(rt, site, table, text) {
+        reply::unwritten(rt);
         return;
     }
     let verdict = checker::check(site, table);
     let end = say_verdicts::put_check(text, 0, site, verdict);
     let CheckAnswer::Valid = verdict else {
-        reply::message(text, end);
-        reply::fine();
+        reply::message(rt, text, end);
+        reply::fine(rt);
         return;
     };
-    reply::fine();
+    reply::fine(rt);
 }
 
 // A site and the plan that the command plan makes of it. Where it finds no room the table is idle, and its words are said besides: the range map shows why.
-fn picture_plan(input: &[u8], table: &mut [u8], text: &mut [u8])
+fn picture_plan(rt: &HostRuntime, input: &[u8], table: &mut [u8], text: &mut [u8])
     requires { 65536 ≤ length text.old }
 {
     let read = sitefile::read_site(input);
     let answer = read.answer;
     let site = read.site;
     let ReadAnswer::Done = answer else {
-        refuse(text, input, answer);
+        refuse(rt, text, input, answer);
         return;
     };
     let planned = planner::plan(site, table);
-    if !put_picture(site, table, text) {
-        reply::unwritten();
+    if !put_picture(rt, site, table, text) {
+        reply::unwritten(rt);
         return;
     }
     let end = say_verdicts::put_plan(text, 0, site, planned);
     let PlanAnswer::Done = planned else {
-        reply::message(text, end);
-        reply::fine();
+        reply::message(rt, text, end);
+        reply::fine(rt);
         return;
     };
-    reply::fine();
+    reply::fine(rt);
 }
 
 // Does what the command says, if it is the one that draws; whether it is. Argument 4 is 1 where a plan is given.
-pub fn picture_commands(input: &[u8], second: &[u8], table: &mut [u8], text: &mut [u8]) -> bool
+pub fn picture_commands(
+    rt: &HostRuntime,
+    input: &[u8],
+    second: &[u8],
+    table: &mut [u8],
+    text: &mut [u8],
+) -> bool
     requires { 65536 ≤ length text.old }
 {
-    if !is(b"picture") {
+    if !is(rt, b"picture") {
         return false;
     }
-    if number(NUMBERS) == 1 {
-        picture_given(input, second, table, text);
+    if number(rt, NUMBERS) == 1 {
+        picture_given(rt, input, second, table, text);
         return true;
     }
-    picture_plan(input, table, text);
+    picture_plan(rt, input, table, text);
     true
 }

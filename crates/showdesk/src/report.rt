@@ -33,7 +33,7 @@ fn next_piece(text: &[u8]) -> usize
 }
 
 // A text, escaped, piece by piece; whether it was written.
-fn put_pieces(input: &[u8], text: &mut [u8]) -> bool
+fn put_pieces(rt: &HostRuntime, input: &[u8], text: &mut [u8]) -> bool
     requires { 65536 ≤ length text.old }
 {
     let mut from = 0;
@@ -41,7 +41,7 @@ fn put_pieces(input: &[u8], text: &mut [u8]) -> bool
         let rest = &input[from..];
         let n = next_piece(rest);
         let end = put_escaped(text, 0, &rest[..n]);
-        if !result(text, end) {
+        if !result(rt, text, end) {
             return false;
         }
         from += n;
@@ -50,67 +50,67 @@ fn put_pieces(input: &[u8], text: &mut [u8]) -> bool
 }
 
 // A row of the page, or nothing; whether it was written.
-fn put_row(row: u16, text: &mut [u8]) -> bool
+fn put_row(rt: &HostRuntime, row: u16, text: &mut [u8]) -> bool
     requires { 65536 ≤ length text.old }
 {
     if row == 0 {
         return true;
     }
     let end = say_report::put_report_row(text, 0, row as usize);
-    result(text, end)
+    result(rt, text, end)
 }
 
 // A row, the input escaped, a row; whether they were written.
-fn put_part(input: &[u8], text: &mut [u8]) -> bool
+fn put_part(rt: &HostRuntime, input: &[u8], text: &mut [u8]) -> bool
     requires { 65536 ≤ length text.old }
 {
-    if !put_row(number(BEFORE), text) {
+    if !put_row(rt, number(rt, BEFORE), text) {
         return false;
     }
-    if !put_pieces(input, text) {
+    if !put_pieces(rt, input, text) {
         return false;
     }
-    put_row(number(AFTER), text)
+    put_row(rt, number(rt, AFTER), text)
 }
 
 // The head of the page: a name, argument 4, and the size of the site.
-fn head(input: &[u8], text: &mut [u8])
+fn head(rt: &HostRuntime, input: &[u8], text: &mut [u8])
     requires { 65536 ≤ length text.old }
 {
     let read = sitefile::read_site(input);
     let answer = read.answer;
     let site = read.site;
     let ReadAnswer::Done = answer else {
-        refuse(text, input, answer);
+        refuse(rt, text, input, answer);
         return;
     };
     let mut name = [0u8; NAME];
-    let n = os::arg(NUMBERS, &mut name);
+    let n = arguments::put(rt, NUMBERS, &mut name);
     let end = say_report::put_report_head(text, 0, &name[..n], site);
-    reply::yes(text, end);
+    reply::yes(rt, text, end);
 }
 
 // A part of the page.
-fn part(input: &[u8], text: &mut [u8])
+fn part(rt: &HostRuntime, input: &[u8], text: &mut [u8])
     requires { 65536 ≤ length text.old }
 {
-    if !put_part(input, text) {
-        reply::unwritten();
+    if !put_part(rt, input, text) {
+        reply::unwritten(rt);
         return;
     }
-    reply::fine();
+    reply::fine(rt);
 }
 
 // Does what the script says, if it asks for a part of a report; whether it does.
-pub fn report_commands(input: &[u8], text: &mut [u8]) -> bool
+pub fn report_commands(rt: &HostRuntime, input: &[u8], text: &mut [u8]) -> bool
     requires { 65536 ≤ length text.old }
 {
-    if is(b"report-head") {
-        head(input, text);
+    if is(rt, b"report-head") {
+        head(rt, input, text);
         return true;
     }
-    if is(b"report-part") {
-        part(input, text);
+    if is(rt, b"report-part") {
+        part(rt, input, text);
         return true;
     }
     false

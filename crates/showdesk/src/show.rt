@@ -17,17 +17,24 @@ const FORM: usize = 5;
 const GIVEN: usize = 6;
 
 // The lines of a piece, which has so many slots from a slot on; whether they were written.
-fn put_piece(site: Site, table: &[u8], from: usize, many: usize, text: &mut [u8]) -> bool
+fn put_piece(
+    rt: &HostRuntime,
+    site: Site,
+    table: &[u8],
+    from: usize,
+    many: usize,
+    text: &mut [u8],
+) -> bool
     requires { 65536 ≤ length text.old }
 {
     let end = say_grid::put_gap(text);
-    if !result(text, end) {
+    if !result(rt, text, end) {
         return false;
     }
     let lines = site.channels as usize + 1;
     for line in 0..lines {
         let end = say_grid::put_grid_line(text, site, table, line, from, many);
-        if !result(text, end) {
+        if !result(rt, text, end) {
             return false;
         }
     }
@@ -35,11 +42,11 @@ fn put_piece(site: Site, table: &[u8], from: usize, many: usize, text: &mut [u8]
 }
 
 // A plan by channels and slots, in pieces that fit a width; whether it was written.
-fn put_grid(site: Site, table: &[u8], width: usize, text: &mut [u8]) -> bool
+fn put_grid(rt: &HostRuntime, site: Site, table: &[u8], width: usize, text: &mut [u8]) -> bool
     requires { 65536 ≤ length text.old }
 {
     let end = say_grid::put_legend(text);
-    if !result(text, end) {
+    if !result(rt, text, end) {
         return false;
     }
     let slots = site.slots as usize;
@@ -52,7 +59,7 @@ fn put_grid(site: Site, table: &[u8], width: usize, text: &mut [u8]) -> bool
         if slots - from < many {
             return false;
         }
-        if !put_piece(site, table, from, many, text) {
+        if !put_piece(rt, site, table, from, many, text) {
             return false;
         }
         from += many;
@@ -61,28 +68,28 @@ fn put_grid(site: Site, table: &[u8], width: usize, text: &mut [u8]) -> bool
 }
 
 // The lines of a cell; whether they were written.
-fn put_cell(site: Site, table: &[u8], i: usize, text: &mut [u8]) -> bool
+fn put_cell(rt: &HostRuntime, site: Site, table: &[u8], i: usize, text: &mut [u8]) -> bool
     requires { 65536 ≤ length text.old }
 {
     let end = say_cells::put_sender(text, site, table, SentAs::Sends, i);
-    if !result(text, end) {
+    if !result(rt, text, end) {
         return false;
     }
     let end = say_cells::put_sender(text, site, table, SentAs::Clashing, i);
-    if !result(text, end) {
+    if !result(rt, text, end) {
         return false;
     }
     let end = say_cells::put_sender(text, site, table, SentAs::Barred, i);
-    result(text, end)
+    result(rt, text, end)
 }
 
 // A plan by cells; whether it was written.
-fn put_cells(site: Site, table: &[u8], text: &mut [u8]) -> bool
+fn put_cells(rt: &HostRuntime, site: Site, table: &[u8], text: &mut [u8]) -> bool
     requires { 65536 ≤ length text.old }
 {
     let cells = site.cells as usize;
     for i in 0..cells {
-        if !put_cell(site, table, i, text) {
+        if !put_cell(rt, site, table, i, text) {
             return false;
         }
     }
@@ -90,16 +97,16 @@ fn put_cells(site: Site, table: &[u8], text: &mut [u8]) -> bool
 }
 
 // A plan for a spreadsheet, a line for each slot and channel; whether it was written. A site has at most 2,048 positions, and past its own nothing is said.
-fn put_sheet(site: Site, table: &[u8], text: &mut [u8]) -> bool
+fn put_sheet(rt: &HostRuntime, site: Site, table: &[u8], text: &mut [u8]) -> bool
     requires { 65536 ≤ length text.old }
 {
     let end = places::put_spread_head(text);
-    if !result(text, end) {
+    if !result(rt, text, end) {
         return false;
     }
     for k in 0..2048 {
         let end = places::put_spread(text, site, table, k);
-        if !result(text, end) {
+        if !result(rt, text, end) {
             return false;
         }
     }
@@ -107,77 +114,83 @@ fn put_sheet(site: Site, table: &[u8], text: &mut [u8]) -> bool
 }
 
 // A plan in the form that is asked for; whether it was written.
-fn put_shown(site: Site, table: &[u8], text: &mut [u8]) -> bool
+fn put_shown(rt: &HostRuntime, site: Site, table: &[u8], text: &mut [u8]) -> bool
     requires { 65536 ≤ length text.old }
 {
-    let form = number(FORM);
+    let form = number(rt, FORM);
     if form == 1 {
-        return put_cells(site, table, text);
+        return put_cells(rt, site, table, text);
     }
     if form == 2 {
-        return put_sheet(site, table, text);
+        return put_sheet(rt, site, table, text);
     }
-    put_grid(site, table, number(NUMBERS) as usize, text)
+    put_grid(rt, site, table, number(rt, NUMBERS) as usize, text)
 }
 
 // A plan that was given, valid or not. Where it is not, the first thing that is wrong is said besides.
-fn show_given(input: &[u8], second: &[u8], table: &mut [u8], text: &mut [u8])
+fn show_given(rt: &HostRuntime, input: &[u8], second: &[u8], table: &mut [u8], text: &mut [u8])
     requires { 65536 ≤ length text.old }
 {
-    let pair = read_pair(input, second, table, text);
+    let pair = read_pair(rt, input, second, table, text);
     if !pair.good {
         return;
     }
     let site = pair.site;
-    if !put_shown(site, table, text) {
-        reply::unwritten();
+    if !put_shown(rt, site, table, text) {
+        reply::unwritten(rt);
         return;
     }
     let verdict = checker::check(site, table);
     let end = say_verdicts::put_check(text, 0, site, verdict);
     let CheckAnswer::Valid = verdict else {
-        reply::message(text, end);
-        reply::fine();
+        reply::message(rt, text, end);
+        reply::fine(rt);
         return;
     };
-    reply::fine();
+    reply::fine(rt);
 }
 
 // The plan of a site, as the command plan makes it.
-fn show_plan(input: &[u8], table: &mut [u8], text: &mut [u8])
+fn show_plan(rt: &HostRuntime, input: &[u8], table: &mut [u8], text: &mut [u8])
     requires { 65536 ≤ length text.old }
 {
     let read = sitefile::read_site(input);
     let answer = read.answer;
     let site = read.site;
     let ReadAnswer::Done = answer else {
-        refuse(text, input, answer);
+        refuse(rt, text, input, answer);
         return;
     };
     let planned = planner::plan(site, table);
     let end = say_verdicts::put_plan(text, 0, site, planned);
     let PlanAnswer::Done = planned else {
-        no(text, end);
+        no(rt, text, end);
         return;
     };
-    if !put_shown(site, table, text) {
-        reply::unwritten();
+    if !put_shown(rt, site, table, text) {
+        reply::unwritten(rt);
         return;
     }
-    reply::fine();
+    reply::fine(rt);
 }
 
 // Does what the command says, if it is the one that shows a plan; whether it is.
-pub fn show_commands(input: &[u8], second: &[u8], table: &mut [u8], text: &mut [u8]) -> bool
+pub fn show_commands(
+    rt: &HostRuntime,
+    input: &[u8],
+    second: &[u8],
+    table: &mut [u8],
+    text: &mut [u8],
+) -> bool
     requires { 65536 ≤ length text.old }
 {
-    if !is(b"show") {
+    if !is(rt, b"show") {
         return false;
     }
-    if number(GIVEN) == 1 {
-        show_given(input, second, table, text);
+    if number(rt, GIVEN) == 1 {
+        show_given(rt, input, second, table, text);
         return true;
     }
-    show_plan(input, table, text);
+    show_plan(rt, input, table, text);
     true
 }

@@ -5,7 +5,7 @@ use admission::{AdmitAnswer, BesideAnswer};
 use arguments::{NUMBERS, SECOND_NAME, is, number};
 use flowlist::FlowList;
 use flowsheet::FlowsAnswer;
-use infiles::{SECOND, refuse};
+use infiles::refuse;
 use inputs::Input;
 use records::ReadAnswer;
 use reply::{no, yes};
@@ -13,127 +13,128 @@ use shares::{Fragments, Repeats, ShareAnswer, Slots};
 use site::Site;
 
 // Whether no repeats were given.
-fn none_given() -> bool {
-    os::arg_count() <= NUMBERS + 3
+fn none_given(rt: &HostRuntime) -> bool {
+    arguments::count(rt) <= NUMBERS + 3
 }
 
 // The share of a flow; one that says nothing of repeats has the default.
-fn share_of(slots: u16, burst: u16, period: u16) -> ShareAnswer {
+fn share_of(rt: &HostRuntime, slots: u16, burst: u16, period: u16) -> ShareAnswer {
     let t = Slots(slots as u32);
     let c = Fragments(burst as u32);
     let p = Slots(period as u32);
-    if none_given() {
+    if none_given(rt) {
         return shares::share(t, c, p);
     }
-    shares::share_of(t, c, p, Repeats(number(NUMBERS + 3) as u32))
+    shares::share_of(t, c, p, Repeats(number(rt, NUMBERS + 3) as u32))
 }
 
 // The share of a flow, in English. Where no repeats were given, the first line says which were taken.
-fn share(slots: u16, burst: u16, period: u16, text: &mut [u8])
+fn share(rt: &HostRuntime, slots: u16, burst: u16, period: u16, text: &mut [u8])
     requires { 65536 ≤ length text.old }
 {
-    let answer = share_of(slots, burst, period);
+    let answer = share_of(rt, slots, burst, period);
     let ShareAnswer::Done(_, _, _) = answer else {
         let end = say_verdicts::put_share(text, 0, burst as usize, period as usize, answer);
-        no(text, end);
+        no(rt, text, end);
         return;
     };
-    if none_given() {
+    if none_given(rt) {
         let at = say_verdicts::put_repeats(text, 0, shares::default_repeats().0 as usize);
         let end = say_verdicts::put_share(text, at, burst as usize, period as usize, answer);
-        yes(text, end);
+        yes(rt, text, end);
         return;
     }
     let end = say_verdicts::put_share(text, 0, burst as usize, period as usize, answer);
-    yes(text, end);
+    yes(rt, text, end);
 }
 
 // Which of the flows to take, a line for each.
-fn decide(site: Site, flows: FlowList, text: &mut [u8])
+fn decide(rt: &HostRuntime, site: Site, flows: FlowList, text: &mut [u8])
     requires { (65536 ≤ length text.old) × (flows.count ≤ 16) }
 {
     let count = flows.count;
     let answer = admission::decide(site, flows, count);
     let end = say_flows::put_admit(text, 0, site, flows, count, answer);
     let AdmitAnswer::Admitted(_) = answer else {
-        no(text, end);
+        no(rt, text, end);
         return;
     };
-    yes(text, end);
+    yes(rt, text, end);
 }
 
 // The same on top of the loads of the site.
-fn decide_beside(site: Site, flows: FlowList, text: &mut [u8])
+fn decide_beside(rt: &HostRuntime, site: Site, flows: FlowList, text: &mut [u8])
     requires { (65536 ≤ length text.old) × (flows.count ≤ 16) }
 {
     let count = flows.count;
     let answer = admission::decide_beside(site, flows, count);
     let end = say_flows::put_beside(text, 0, site, flows, count, answer);
     let BesideAnswer::Answered(a) = answer else {
-        no(text, end);
+        no(rt, text, end);
         return;
     };
     let AdmitAnswer::Admitted(_) = a else {
-        no(text, end);
+        no(rt, text, end);
         return;
     };
-    yes(text, end);
+    yes(rt, text, end);
 }
 
-// Whether an input was read to its end: one more read finds nothing, and does not fail. A sheet of flows may end after any line,
-// so what a failing read cut off would pass for a shorter sheet; every other file says how long it is.
-fn ended(fd: i32) -> bool {
-    let mut more = [0u8; 1];
-    libc::read(fd, &mut more) == 0
-}
-
-// Which flows of a sheet to take: on top of the loads of the site, or with these set aside.
-fn admit(input: &[u8], second: &[u8], beside: bool, text: &mut [u8])
+// Which flows of a sheet to take: on top of the loads of the site, or with these set aside. A sheet of flows may end after any line, so what a failing read cut
+// off would pass for a shorter sheet: `ended` is whether it was read to its end. Every other file says how long it is.
+fn admit(rt: &HostRuntime, input: &[u8], second: &[u8], ended: bool, beside: bool, text: &mut [u8])
     requires { 65536 ≤ length text.old }
 {
     let read = sitefile::read_site(input);
     let answer = read.answer;
     let site = read.site;
     let ReadAnswer::Done = answer else {
-        refuse(text, input, answer);
+        refuse(rt, text, input, answer);
         return;
     };
     let flows = flowsheet::read_flows(second);
     let said = flows.answer;
     let FlowsAnswer::Done = said else {
-        reply::named(SECOND_NAME, second, Input::FlowSheet);
+        reply::named(rt, SECOND_NAME, second, Input::FlowSheet);
         let end = say_flowsheet::put_flow_sheet(text, 0, said);
-        no(text, end);
+        no(rt, text, end);
         return;
     };
-    if !ended(SECOND) {
+    if !ended {
         no(
+            rt,
             b"duggfrask: the sheet of flows could not be read to its end\n",
             59,
         );
         return;
     }
     if beside {
-        decide_beside(site, flows.flows, text);
+        decide_beside(rt, site, flows.flows, text);
         return;
     }
-    decide(site, flows.flows, text);
+    decide(rt, site, flows.flows, text);
 }
 
 // Does what the command says, if it is one on flows; whether it is.
-pub fn flow_commands(input: &[u8], second: &[u8], text: &mut [u8]) -> bool
+pub fn flow_commands(
+    rt: &HostRuntime,
+    input: &[u8],
+    second: &[u8],
+    ended: bool,
+    text: &mut [u8],
+) -> bool
     requires { 65536 ≤ length text.old }
 {
-    if is(b"share") {
-        let slots = number(NUMBERS);
-        let burst = number(NUMBERS + 1);
-        let period = number(NUMBERS + 2);
-        share(slots, burst, period, text);
+    if is(rt, b"share") {
+        let slots = number(rt, NUMBERS);
+        let burst = number(rt, NUMBERS + 1);
+        let period = number(rt, NUMBERS + 2);
+        share(rt, slots, burst, period, text);
         return true;
     }
-    if is(b"admit") {
-        let beside = number(NUMBERS) == 1;
-        admit(input, second, beside, text);
+    if is(rt, b"admit") {
+        let beside = number(rt, NUMBERS) == 1;
+        admit(rt, input, second, ended, beside, text);
         return true;
     }
     false

@@ -12,99 +12,99 @@ use say_edits::Part;
 use site::{Edited, Fault, Site};
 
 // A site after an edit, and whether it was made; where it was not, the text is said.
-#[derive(Drop)]
+#[derive(Clone, Copy)]
 struct Outcome {
     site: Site,
     good: bool,
 }
 
 // A part of a line, as words.
-fn say(text: &mut [u8], part: Part)
+fn say(rt: &HostRuntime, text: &mut [u8], part: Part)
     requires { 65536 ≤ length text.old }
 {
     let end = say_edits::put_part(text, 0, part);
-    reply::message(text, end);
+    reply::message(rt, text, end);
 }
 
 // The last part of a line of a command that is used wrongly.
-fn say_wrong(text: &mut [u8], part: Part)
+fn say_wrong(rt: &HostRuntime, text: &mut [u8], part: Part)
     requires { 65536 ≤ length text.old }
 {
     let end = say_edits::put_part(text, 0, part);
-    reply::wrong(text, end);
+    reply::wrong(rt, text, end);
 }
 
 // An argument as it was typed.
-fn say_word(i: usize) {
-    let mut word = io::large_buffer();
-    let n = os::arg(i, &mut word);
-    reply::message(&word, n);
+fn say_word(rt: &HostRuntime, i: usize) {
+    let mut word = [0u8; 65536];
+    let n = arguments::put(rt, i, &mut word);
+    reply::message(rt, &word, n);
 }
 
 // An edit's name that is none.
-fn no_edit(name: usize, text: &mut [u8])
+fn no_edit(rt: &HostRuntime, name: usize, text: &mut [u8])
     requires { 65536 ≤ length text.old }
 {
-    say(text, Part::Quoted);
-    say_word(name);
-    say_wrong(text, Part::NoName);
+    say(rt, text, Part::Quoted);
+    say_word(rt, name);
+    say_wrong(rt, text, Part::NoName);
 }
 
 // An edit's name with nothing after it.
-fn no_word(name: usize, kind: Kind, text: &mut [u8])
+fn no_word(rt: &HostRuntime, name: usize, kind: Kind, text: &mut [u8])
     requires { 65536 ≤ length text.old }
 {
-    say(text, Part::After);
-    say_word(name);
-    say(text, Part::Nothing);
-    say_wrong(text, Part::Takes(kind));
+    say(rt, text, Part::After);
+    say_word(rt, name);
+    say(rt, text, Part::Nothing);
+    say_wrong(rt, text, Part::Takes(kind));
 }
 
 // An edit's name with a word that it does not take.
-fn bad_word(name: usize, word: usize, kind: Kind, text: &mut [u8])
+fn bad_word(rt: &HostRuntime, name: usize, word: usize, kind: Kind, text: &mut [u8])
     requires { 65536 ≤ length text.old }
 {
-    say(text, Part::After);
-    say_word(name);
-    say(text, Part::Stands);
-    say_word(word);
-    say(text, Part::Closed);
-    say_wrong(text, Part::Takes(kind));
+    say(rt, text, Part::After);
+    say_word(rt, name);
+    say(rt, text, Part::Stands);
+    say_word(rt, word);
+    say(rt, text, Part::Closed);
+    say_wrong(rt, text, Part::Takes(kind));
 }
 
 // Whether two arguments are an edit; where they are not, the text is said.
-fn edit_good(name: usize, word: usize, count: usize, text: &mut [u8]) -> bool
+fn edit_good(rt: &HostRuntime, name: usize, word: usize, count: usize, text: &mut [u8]) -> bool
     requires { 65536 ≤ length text.old }
 {
-    let mut first = io::large_buffer();
-    let n = os::arg(name, &mut first);
+    let mut first = [0u8; 65536];
+    let n = arguments::put(rt, name, &mut first);
     let kind = editlist::kind_of(&first[..n]);
     if let Kind::Unknown = kind {
-        no_edit(name, text);
+        no_edit(rt, name, text);
         return false;
     }
     if count <= word {
-        no_word(name, kind, text);
+        no_word(rt, name, kind, text);
         return false;
     }
-    let mut second = io::large_buffer();
-    let m = os::arg(word, &mut second);
+    let mut second = [0u8; 65536];
+    let m = arguments::put(rt, word, &mut second);
     let read = editlist::read_edit(&first[..n], &second[..m]);
     if let EditRead::Bad = read {
-        bad_word(name, word, kind, text);
+        bad_word(rt, name, word, kind, text);
         return false;
     }
     true
 }
 
 // Whether the arguments up to the last are edits; where one is not, the text of the first that is wrong is said.
-fn edits_good(count: usize, text: &mut [u8]) -> bool
+fn edits_good(rt: &HostRuntime, count: usize, text: &mut [u8]) -> bool
     requires { 65536 ≤ length text.old }
 {
     let mut name = NUMBERS;
     while name < count {
         let word = name + 1;
-        if !edit_good(name, word, count, text) {
+        if !edit_good(rt, name, word, count, text) {
             return false;
         }
         if count <= word {
@@ -116,25 +116,25 @@ fn edits_good(count: usize, text: &mut [u8]) -> bool
 }
 
 // The words of an edit, before its refusal.
-fn say_edit(name: usize, word: usize, text: &mut [u8])
+fn say_edit(rt: &HostRuntime, name: usize, word: usize, text: &mut [u8])
     requires { 65536 ≤ length text.old }
 {
-    say_word(name);
-    say(text, Part::Blank);
-    say_word(word);
-    say(text, Part::Colon);
+    say_word(rt, name);
+    say(rt, text, Part::Blank);
+    say_word(rt, word);
+    say(rt, text, Part::Colon);
 }
 
 // An edit that is made, or its refusal.
-fn made(edited: Edited, name: usize, word: usize, text: &mut [u8]) -> Outcome
+fn made(rt: &HostRuntime, edited: Edited, name: usize, word: usize, text: &mut [u8]) -> Outcome
     requires { 65536 ≤ length text.old }
 {
     let answer = edited.answer;
     let site = edited.site;
     let Fault::Fine = answer else {
-        say_edit(name, word, text);
+        say_edit(rt, name, word, text);
         let end = say_verdicts::put_fault(text, 0, answer);
-        no(text, end);
+        no(rt, text, end);
         return Outcome { site, good: false };
     };
     Outcome { site, good: true }
@@ -149,45 +149,52 @@ fn from_one(at: usize) -> usize {
 }
 
 // What is blocked, by a list that is read with the sizes that the site has by now.
-fn listed(site: Site, list: &[u8], name: usize, word: usize, text: &mut [u8]) -> Outcome
+fn listed(
+    rt: &HostRuntime,
+    site: Site,
+    list: &[u8],
+    name: usize,
+    word: usize,
+    text: &mut [u8],
+) -> Outcome
     requires { 65536 ≤ length text.old }
 {
     let read = blocklist::read_list(list, site.slots, site.channels);
     let answer = read.answer;
     let blocked = read.blocked;
     if let ListAnswer::Bad(at) = answer {
-        say_edit(name, word, text);
-        say_wrong(text, Part::BadList(from_one(at)));
+        say_edit(rt, name, word, text);
+        say_wrong(rt, text, Part::BadList(from_one(at)));
         return Outcome { site, good: false };
     }
-    made(resize::set_blocked(site, blocked), name, word, text)
+    made(rt, resize::set_blocked(site, blocked), name, word, text)
 }
 
 // The site with one edit made. Words that are none were found before.
-fn edit(site: Site, name: usize, word: usize, text: &mut [u8]) -> Outcome
+fn edit(rt: &HostRuntime, site: Site, name: usize, word: usize, text: &mut [u8]) -> Outcome
     requires { 65536 ≤ length text.old }
 {
-    let mut first = io::large_buffer();
-    let n = os::arg(name, &mut first);
-    let mut second = io::large_buffer();
-    let m = os::arg(word, &mut second);
+    let mut first = [0u8; 65536];
+    let n = arguments::put(rt, name, &mut first);
+    let mut second = [0u8; 65536];
+    let m = arguments::put(rt, word, &mut second);
     match editlist::read_edit(&first[..n], &second[..m]) {
-        EditRead::Done(edit) => made(editlist::make_edit(site, edit), name, word, text),
-        EditRead::Listed => listed(site, &second[..m], name, word, text),
+        EditRead::Done(edit) => made(rt, editlist::make_edit(site, edit), name, word, text),
+        EditRead::Listed => listed(rt, site, &second[..m], name, word, text),
         EditRead::NoEdit => Outcome { site, good: false },
         EditRead::Bad => Outcome { site, good: false },
     }
 }
 
 // The site with all edits made, one after the other.
-fn edits(site: Site, count: usize, text: &mut [u8]) -> Outcome
+fn edits(rt: &HostRuntime, site: Site, count: usize, text: &mut [u8]) -> Outcome
     requires { 65536 ≤ length text.old }
 {
     let mut now = site;
     let mut name = NUMBERS;
     while name < count {
         let word = name + 1;
-        let next = edit(now, name, word, text);
+        let next = edit(rt, now, name, word, text);
         if !next.good {
             return next;
         }
@@ -204,42 +211,42 @@ fn edits(site: Site, count: usize, text: &mut [u8]) -> Outcome
 }
 
 // Edits a site.
-fn set(input: &[u8], out: &mut [u8], text: &mut [u8])
+fn set(rt: &HostRuntime, input: &[u8], out: &mut [u8], text: &mut [u8])
     requires { 65536 ≤ length text.old }
 {
-    let count = os::arg_count();
+    let count = arguments::count(rt);
     if count <= NUMBERS {
-        say_wrong(text, Part::NoneGiven);
+        say_wrong(rt, text, Part::NoneGiven);
         return;
     }
-    if !edits_good(count, text) {
+    if !edits_good(rt, count, text) {
         return;
     }
     let read = sitefile::read_site(input);
     let answer = read.answer;
     let site = read.site;
     let ReadAnswer::Done = answer else {
-        refuse(text, input, answer);
+        refuse(rt, text, input, answer);
         return;
     };
-    let last = edits(site, count, text);
+    let last = edits(rt, site, count, text);
     if !last.good {
         return;
     }
     let written = sitefile::write_site(last.site, out);
     let Written::Done(size) = written else {
-        reply::unwritten();
+        reply::unwritten(rt);
         return;
     };
-    yes(out, size);
+    yes(rt, out, size);
 }
 
 // Does what the command says, if it is `set`; whether it is.
-pub fn set_commands(input: &[u8], out: &mut [u8], text: &mut [u8]) -> bool
+pub fn set_commands(rt: &HostRuntime, input: &[u8], out: &mut [u8], text: &mut [u8]) -> bool
     requires { 65536 ≤ length text.old }
 {
-    if is(b"set") {
-        set(input, out, text);
+    if is(rt, b"set") {
+        set(rt, input, out, text);
         return true;
     }
     false

@@ -15,22 +15,22 @@ use tidying::TidyAnswer;
 const LIST: usize = 7;
 
 // A site as a range sheet.
-fn sheet(input: &[u8], out: &mut [u8], text: &mut [u8])
+fn sheet(rt: &HostRuntime, input: &[u8], out: &mut [u8], text: &mut [u8])
     requires { 65536 ≤ length text.old }
 {
     let read = sitefile::read_site(input);
     let answer = read.answer;
     let site = read.site;
     let ReadAnswer::Done = answer else {
-        refuse(text, input, answer);
+        refuse(rt, text, input, answer);
         return;
     };
     let written = sheet::write_sheet(site, out);
     let Written::Done(size) = written else {
-        reply::unwritten();
+        reply::unwritten(rt);
         return;
     };
-    yes(out, size);
+    yes(rt, out, size);
 }
 
 // Whether a fault is one of the size or of the rule.
@@ -46,25 +46,25 @@ fn of_size(fault: Fault) -> bool {
 }
 
 // The name of a range sheet that is refused. Of a size or a rule the sheet has no part: slots, channels and rule stand beside it, and its cells are 1 to 32.
-fn name_sheet(input: &[u8], answer: SheetAnswer) {
+fn name_sheet(rt: &HostRuntime, input: &[u8], answer: SheetAnswer) {
     if let SheetAnswer::Refused(fault) = answer {
         if of_size(fault) {
             return;
         }
     }
-    reply::named(FIRST_NAME, input, Input::RangeSheet);
+    reply::named(rt, FIRST_NAME, input, Input::RangeSheet);
 }
 
 // The list of blocked positions; where none is given nothing is blocked. One of more than 65,536 bytes is read as empty, which is bad.
-fn listed(slots: u16, channels: u16) -> ListRead {
-    if os::arg_count() <= LIST {
+fn listed(rt: &HostRuntime, slots: u16, channels: u16) -> ListRead {
+    if arguments::count(rt) <= LIST {
         return ListRead {
             blocked: [0u64; 32],
             answer: ListAnswer::Fine,
         };
     }
-    let mut list = io::large_buffer();
-    let n = os::arg(LIST, &mut list);
+    let mut list = [0u8; 65536];
+    let n = arguments::put(rt, LIST, &mut list);
     blocklist::read_list(&list[..n], slots, channels)
 }
 
@@ -78,6 +78,7 @@ fn from_one(at: usize) -> usize {
 
 // A range sheet as a site file, with slots, channels, blocked positions and rule.
 fn sheet_site(
+    rt: &HostRuntime,
     input: &[u8],
     slots: u16,
     channels: u16,
@@ -92,87 +93,96 @@ fn sheet_site(
     let answer = read.answer;
     let site = read.site;
     let SheetAnswer::Done = answer else {
-        name_sheet(input, answer);
+        name_sheet(rt, input, answer);
         let end = say_sheets::put_sheet_refused(text, 0, input, answer);
-        no(text, end);
+        no(rt, text, end);
         return;
     };
     let written = sitefile::write_site(site, out);
     let Written::Done(size) = written else {
-        reply::unwritten();
+        reply::unwritten(rt);
         return;
     };
-    if !reply::result(out, size) {
-        reply::unwritten();
+    if !reply::result(rt, out, size) {
+        reply::unwritten(rt);
         return;
     }
     let end = say_sheets::put_made(text, 0, site);
-    reply::message(text, end);
-    reply::fine();
+    reply::message(rt, text, end);
+    reply::fine(rt);
 }
 
 // A range sheet as a site file, where the list beside it is one.
-fn site(input: &[u8], slots: u16, channels: u16, rule: u16, out: &mut [u8], text: &mut [u8])
+fn site(
+    rt: &HostRuntime,
+    input: &[u8],
+    slots: u16,
+    channels: u16,
+    rule: u16,
+    out: &mut [u8],
+    text: &mut [u8],
+)
     requires { 65536 ≤ length text.old }
 {
-    let list = listed(slots, channels);
+    let list = listed(rt, slots, channels);
     let answer = list.answer;
     let blocked = list.blocked;
     if let ListAnswer::Bad(at) = answer {
         let end = say_verdicts::put_bad_list(text, 0, from_one(at));
-        reply::wrong(text, end);
+        reply::wrong(rt, text, end);
         return;
     }
-    sheet_site(input, slots, channels, blocked, rule, out, text);
+    sheet_site(rt, input, slots, channels, blocked, rule, out, text);
 }
 
 // A sheet as a spreadsheet writes it, tidied, and what was changed. The changes are a part of the result: where they can't be written it is none.
-fn tidy(input: &[u8], out: &mut [u8], text: &mut [u8])
+fn tidy(rt: &HostRuntime, input: &[u8], out: &mut [u8], text: &mut [u8])
     requires { 65536 ≤ length text.old }
 {
     let answer = tidying::tidy(input, out);
     let end = say_sheets::put_tidy(text, 0, input, answer);
     let TidyAnswer::Done(size) = answer else {
-        reply::named(FIRST_NAME, input, Input::RangeSheet);
-        no(text, end);
+        reply::named(rt, FIRST_NAME, input, Input::RangeSheet);
+        no(rt, text, end);
         return;
     };
     if 65536 <= input.len() {
-        reply::named(FIRST_NAME, input, Input::RangeSheet);
+        reply::named(rt, FIRST_NAME, input, Input::RangeSheet);
         no(
+            rt,
             b"refused 17: this has 65,536 bytes or more, and no range sheet has so many\n",
             74,
         );
         return;
     }
-    if !reply::result(out, size) {
-        reply::unwritten();
+    if !reply::result(rt, out, size) {
+        reply::unwritten(rt);
         return;
     }
-    if !reply::message(text, end) {
-        reply::unwritten();
+    if !reply::message(rt, text, end) {
+        reply::unwritten(rt);
         return;
     }
-    reply::fine();
+    reply::fine(rt);
 }
 
 // Does what the command says, if it is one on a sheet; whether it is.
-pub fn sheet_commands(input: &[u8], out: &mut [u8], text: &mut [u8]) -> bool
+pub fn sheet_commands(rt: &HostRuntime, input: &[u8], out: &mut [u8], text: &mut [u8]) -> bool
     requires { 65536 ≤ length text.old }
 {
-    if is(b"sheet") {
-        sheet(input, out, text);
+    if is(rt, b"sheet") {
+        sheet(rt, input, out, text);
         return true;
     }
-    if is(b"site") {
-        let slots = number(NUMBERS);
-        let channels = number(NUMBERS + 1);
-        let rule = number(NUMBERS + 2);
-        site(input, slots, channels, rule, out, text);
+    if is(rt, b"site") {
+        let slots = number(rt, NUMBERS);
+        let channels = number(rt, NUMBERS + 1);
+        let rule = number(rt, NUMBERS + 2);
+        site(rt, input, slots, channels, rule, out, text);
         return true;
     }
-    if is(b"tidy") {
-        tidy(input, out, text);
+    if is(rt, b"tidy") {
+        tidy(rt, input, out, text);
         return true;
     }
     false

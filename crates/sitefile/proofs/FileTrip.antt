@@ -149,7 +149,8 @@ module _ (s : Site) (good : GoodSite s) where
   loads-good : first_reason (loads_reasons B (loads_at B) (cells_of_head B)) ≡ Done
   loads-good =
       let n : 2 + length L ≡ 2 + 2 * cells_of_head B = omega (arith, l-length, cells-back) in
-      record-back B (loads_at B) 2 L (record_of 3 P ++ E) loads-here (Exact (2 + 2 * cells_of_head B)) (rw n (exact-true (2 + 2 * cells_of_head B) (omega arith)))
+      record-back B (loads_at B) 2 L (record_of 3 P ++ E) loads-here (Exact (2 + 2 * cells_of_head B))
+      (rw n (exact-true (2 + 2 * cells_of_head B) (omega arith)))
 
   pairs-back : (at : ℕ) → (first_reason (pair_reasons s.cells at 0 0 P) ≡ Done) × (reach_of_body P ≡ s.reach)
   unfolding pairs_read
@@ -400,7 +401,8 @@ module _ (b : List ℕ) (bytes : Bytes b) (done : site_answer b ≡ Done) where
       let third : record_of 3 (pair_bytes (reach_of_body Y)) ++ block_record (blocked_or b (last_at b)) N ≡ drop (reach_at b) b =
       (λ j. record_of 3 (rows-trip.0 j) ++ last-again j) ∙ record-again b bytes (reach_at b) 3 Pairs _ _ a.reach in
       let second : M ++ drop (reach_at b) b ≡ drop (loads_at b) b =
-      ap (λ (l : List ℕ). record_of 2 l ++ drop (reach_at b) b) loads-bytes ∙ record-again b bytes (loads_at b) 2 (Exact (2 + 2 * cells_of_head b)) _ _ a.loads in
+      ap (λ (l : List ℕ). record_of 2 l ++ drop (reach_at b) b) loads-bytes ∙ record-again b bytes (loads_at b) 2
+      (Exact (2 + 2 * cells_of_head b)) _ _ a.loads in
       ap (λ (l : List ℕ). H ++ (M ++ l)) third
       ∙ ap (λ (l : List ℕ). H ++ l) second
       ∙ a.head.again bytes

@@ -46,4 +46,5 @@ three_reasons s =
 
 abbrev pub three_site : List ℕ → Site
 three_site s =
-    site_of (cells_of_head s) (slots_of_head s) (channels_of_head s) (loads_of_body (body_at s (loads_at s))) (reach_of_body (body_at s (reach_at s))) empty_set 1
+    site_of (cells_of_head s) (slots_of_head s) (channels_of_head s) (loads_of_body (body_at s (loads_at s)))
+    (reach_of_body (body_at s (reach_at s))) empty_set 1

@@ -1,4 +1,6 @@
 // The site file: kinds 1, 2 and 3 of house files, 5 in place of 1 for rule 2, and 6 where something is blocked, read into a site and written from one.
+#![tactic(auto)]
+
 ghost use Rattle.std.specs.Prelude.{◌≡◌, ◌+◌, ◌*◌, ◌≤◌, length, take};
 ghost use Rattle.std.proofs.lemmas.List.Edits.{sets};
 ghost use Rattle.positions.specs.Blocked.{most_positions};
@@ -18,7 +20,7 @@ use site::{Fault, Site};
 use sitehead::{head_len, put_site_head, rule_of, site_head};
 
 // What a site read gives: the site, or a site of zeros beside the refusal.
-#[derive(Drop)]
+#[derive(Clone, Copy)]
 pub struct SiteRead {
     pub site: Site,
     pub answer: ReadAnswer,

@@ -163,6 +163,7 @@ module _ (b rest : List ℕ) (cells slots channels : ℕ) (range : Sizes cells s
         rule-by b true five ∙ stated,
       )
 
-  pub head-written : (rule : ℕ) → (rule ≡ 1) ⊎ (rule ≡ 2) → b ≡ site_head rule cells slots channels ++ rest → (site_head_answer b ≡ Done) × (rule_of_head b ≡ rule)
+  pub head-written : (rule : ℕ) → (rule ≡ 1) ⊎ (rule ≡ 2) → b ≡ site_head rule cells slots channels ++ rest → (site_head_answer b ≡ Done) ×
+      (rule_of_head b ≡ rule)
   head-written rule (inl e) here = rw e (one_written (rw e at here))
   head-written rule (inr e) here = rw e (two-written (rw e at here))

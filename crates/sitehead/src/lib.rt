@@ -1,4 +1,6 @@
 // The head of a site file: kind 1, or kind 5 with the rule, read and written.
+#![tactic(auto)]
+
 ghost use Rattle.std.specs.Prelude.{◌≡◌, ◌≤◌, length};
 ghost use Rattle.std.proofs.lemmas.List.Edits.{sets};
 ghost use Rattle.records.specs.Reasons.{first_reason};

@@ -1,4 +1,6 @@
 // A sentence with numbers in it, written into a lent buffer.
+#![tactic(auto)]
+
 ghost use Rattle.std.specs.Prelude.{◌≡◌, ◌+◌, ◌*◌, ◌≤◌, ◌<◌, length};
 ghost use Rattle.std.proofs.lemmas.List.Edits.{sets};
 ghost use Rattle.speech.specs.Speech.{value_of, plural, mark_said, spoken, mark_at};

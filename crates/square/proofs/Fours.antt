@@ -147,7 +147,8 @@ pub low_part : (x : ℕ) (p : ℕ → Bool) → ((b : ℕ) → b < 16 → bit_at
 low_part x p h = word_mod x 16 ∙ word-eq (bit_at x) p 16 h
 
 pub four-parts : (rows : List ℕ) (k : ℕ) →
-    get_or rows k 0 % 65536 + get_or rows (k + 1) 0 % 65536 * 65536 + get_or rows (k + 2) 0 % 65536 * 4294967296 + get_or rows (k + 3) 0 % 65536 * 281474976710656
+    get_or rows k 0 % 65536 + get_or rows (k + 1) 0 % 65536 * 65536 + get_or rows (k + 2) 0 % 65536 * 4294967296 + get_or rows
+    (k + 3) 0 % 65536 * 281474976710656
     ≡ word_of (λ q. bit_in rows (k + q / 16) (q % 16)) 64
 four-parts rows k =
     let p : ℕ → Bool = λ q. bit_in rows (k + q / 16) (q % 16) in

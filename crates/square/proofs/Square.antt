@@ -3,9 +3,9 @@
 use mathlib.Core.Path.{◌≡◌, ap, ◌∙◌}
 use mathlib.Core.List.{List}
 use Prim.Native.Nat.{ℕ, ◌^◌, ◌<◌}
-use lib.ListN.{get_or}
+use lib.ListN.{length, get_or}
 use Rattle.laws.specs.Bits.{bit_at, bit_in, word_of}
-use Rattle.laws.proofs.Stores.{list_at}
+use Rattle.laws.proofs.Stores.{length-list, list_at}
 use Rattle.laws.proofs.Words.{word-bit, word_lt}
 use Rattle.square.specs.Turned.{turned}
 
@@ -18,3 +18,7 @@ turned_lt rows a h = rw (turned-row rows a h) (word_lt (λ b. bit_in rows b a) 3
 
 pub turned_bit : (rows : List ℕ) (a b : ℕ) → a < 32 → b < 32 → bit_in (turned rows) a b ≡ bit_in rows b a
 turned_bit rows a b h g = ap (λ (x : ℕ). bit_at x b) (turned-row rows a h) ∙ word-bit (λ b. bit_in rows b a) 32 b g
+
+pub turned-length : (rows : List ℕ) → length (turned rows) ≡ 32
+unfolding turned
+turned-length rows = length-list (λ a. word_of (λ b. bit_in rows b a) 32) 32

@@ -18,4 +18,5 @@ high_of m mask x y = bit_xor y (swap_bits m mask x y) % 4294967296
 -- row k of what a stage makes of the rows: of rows i and i + 16, the low word at 2 i and the high word at 2 i + 1
 unfoldable pub crossed : ℕ → ℕ → List ℕ → ℕ → ℕ
 crossed m mask rows k =
-    pick (eqb (k % 2) 0) (low_of m mask (get_or rows (k / 2) 0) (get_or rows (k / 2 + 16) 0)) (high_of m mask (get_or rows (k / 2) 0) (get_or rows (k / 2 + 16) 0))
+    pick (eqb (k % 2) 0) (low_of m mask (get_or rows (k / 2) 0) (get_or rows (k / 2 + 16) 0))
+    (high_of m mask (get_or rows (k / 2) 0) (get_or rows (k / 2 + 16) 0))

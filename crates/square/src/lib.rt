@@ -1,6 +1,8 @@
 // 32 rows of 32 bits, turned over: bit b of row a becomes bit a of row b.
 // Five stages, each of which trades one digit of a bit's place for one digit of its row.
 // And the row that has its lowest bits.
+#![tactic(auto)]
+
 ghost use Rattle.std.specs.Prelude.{◌≡◌, ◌+◌, ◌-◌, ◌*◌, ◌/◌, ◌%◌, ◌^◌, ◌≤◌, ◌<◌, length};
 ghost use Rattle.laws.specs.Bits.{bit_at, bit_in, word_of};
 ghost use Rattle.laws.specs.Part.{list_of};

@@ -45,7 +45,8 @@ module _ (here free f₁ f₂ : List ℕ) (w lacking : ℕ) (longf : w ≤ lengt
         ap (λ (l : List ℕ). in_set l k) e₁ ∙ in-set (λ k. in_set free k && not (in_set here (64 * 0 + k))) w k free longf h
         ∙ ap (λ (q : ℕ). in_set free k && not (in_set here q)) e
 
-    pub lacking-still : {short : ℕ} → short ≡ lacking - count (in_set f₁) (64 * w) → short ≡ lacking - count (λ q. in_set free q && not (in_set here q)) (64 * w)
+    pub lacking-still : {short : ℕ} → short ≡ lacking - count (in_set f₁) (64 * w) → short ≡ lacking - count (λ q. in_set free q && not (in_set here q))
+        (64 * w)
     lacking-still e =
         e ∙ ap (λ (n : ℕ). lacking - n)
         (sum-eq (λ k. bit (in_set f₁ k)) (λ k. bit (in_set free k && not (in_set here k))) (64 * w) (λ k h. ap bit (left k h)))
@@ -53,7 +54,8 @@ module _ (here free f₁ f₂ : List ℕ) (w lacking : ℕ) (longf : w ≤ lengt
     pub some-added : f₂ ≡ sets f₁ 0 (set_in (first_few (in_set f₁) lacking) w) → (r : List ℕ) → r ≡ sets here 0 (set_in (λ k. in_set here k || in_set f₂ k) w)
         → r ≡ sets here 0 (set_in (λ k. in_set here k || first_few (λ q. in_set free q && not (in_set here q)) lacking k) w)
     some-added e₂ r e₃ =
-        pass_same (λ k. in_set here k || in_set f₂ k) (λ k. in_set here k || first_few (λ q. in_set free q && not (in_set here q)) lacking k) w here r e₃ (λ k h.
+        pass_same (λ k. in_set here k || in_set f₂ k) (λ k. in_set here k || first_few (λ q. in_set free q && not (in_set here q)) lacking k) w here r e₃
+        (λ k h.
         ap (λ b. in_set here k || b)
         (ap (λ (l : List ℕ). in_set l k) e₂
         ∙ in-set (first_few (in_set f₁) lacking) w k f₁

@@ -86,7 +86,8 @@ module _ (w cells n : ℕ) (loads clash blocked u : List ℕ) (two : TwoWay clas
           let c : count (stand_at f (reserved n u i) load n) n ≡ held n new = sum-eq _ _ n (λ k h. ap bit (stands-is k h)) in
           omega (arith, over, own, c)
 
-      pub turn-stops : 0 < short → (m : ℕ) → i < m → run (net_by cells n loads clash (is_open blocked)) (stand (net_by cells n loads clash (is_open blocked)) u) m
+      pub turn-stops : 0 < short → (m : ℕ) → i < m → run (net_by cells n loads clash (is_open blocked))
+          (stand (net_by cells n loads clash (is_open blocked)) u) m
           ≡ no_room i short
       turn-stops h m below =
           run-stays s (stand s u) (i + 1) i short

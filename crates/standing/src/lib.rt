@@ -2,6 +2,8 @@
 //
 // What it costs, for I cells and N positions: each row is packed once into words of 64 positions; then all is done a word at a time. Of the cells before it, a
 // cell looks only at those that clash with it. The table is not written. The local room is three sets, for up to 128 positions of two words each.
+#![tactic(auto)]
+
 ghost use Rattle.std.specs.Prelude.{◌≡◌, ◌&&◌, ◌||◌, not, ◌+◌, ◌-◌, ◌*◌, ◌≤◌, ◌<◌, length, get_or};
 ghost use Rattle.std.proofs.lemmas.List.Edits.{sets};
 ghost use Rattle.laws.specs.Few.{first_few};
@@ -21,7 +23,7 @@ use words::lowest;
 use wordturns::{free_word, word_turn};
 
 // What stands once every cell has had its turn: the number of changes, or a cell's number and how many of its fragments found no room.
-#[derive(Drop)]
+#[derive(Clone, Copy)]
 pub enum Stood {
     All(usize),
     Short(usize, usize),
@@ -80,7 +82,7 @@ fn add_free(here: &mut [u64], free: &mut [u64], w: usize, lacking: usize) -> usi
 }
 
 // What a cell's turn comes to: the fragments that found no room, and the number of changes.
-#[derive(Drop)]
+#[derive(Clone, Copy)]
 struct Turn {
     short: usize,
     changes: usize,

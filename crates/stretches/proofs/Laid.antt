@@ -88,7 +88,13 @@ module _ (usable : ℕ → Bool) (rows words₀ left₀ : List ℕ) (cells n k :
         (λ i l e. rw (left_is i l) (ltb-true 0 (left_at s k i) (chosen-needs (bit_in rows) (need_at s k) i (sym (same i l) ∙ e)))))
 
     enough : (i : ℕ) → i < cells → choice i ≡ true → run ≤ left_at s k i
-    enough i l e = omega (arith, is-run, left_is i l, shortest-under (chosen (bit_in rows) (bit_at need)) (λ i. get_or left i 0) (n - k) cells i l (same i l ∙ e))
+    enough i l e = omega (
+      arith,
+      is-run,
+      left_is i l,
+      shortest-under (chosen (bit_in rows) (bit_at need)) (λ i. get_or left i 0) (n - k) cells i l
+          (same i l ∙ e),
+    )
 
     -- no cell of the word runs out before
     pub run-under : (i : ℕ) → i < cells → bit_at word i ≡ true → run ≤ get_or left i 0

@@ -54,7 +54,8 @@ module _ (left : List ℕ) (word run cells : ℕ) where
     pub not_yet : (rest ≡ 0 → ⊥) → cells ≤ 32 → get_or x (count_trailing_zeros 32 rest) 0 ≡ get_or left (count_trailing_zeros 32 rest) 0
     not_yet some small =
         ap (λ z. get_or z (count_trailing_zeros 32 rest) 0)
-        (on k (count_trailing_zeros 32 rest) x (walk_from (bit_at word) cells k rest is-rest some small) (walk-passed (bit_at word) cells k rest is-rest some small) d)
+        (on k (count_trailing_zeros 32 rest) x (walk_from (bit_at word) cells k rest is-rest some small)
+        (walk-passed (bit_at word) cells k rest is-rest some small) d)
         ∙ sets-beyond (spent left word run) (count_trailing_zeros 32 rest) left (count_trailing_zeros 32 rest) (le_refl (count_trailing_zeros 32 rest))
 
     pub spent-more : (rest ≡ 0 → ⊥) → cells ≤ 32 → (v : ℕ) → v ≡ get_or x (count_trailing_zeros 32 rest) 0 - run

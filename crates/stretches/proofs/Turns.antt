@@ -155,7 +155,8 @@ module _ (rows left : List ℕ) (need most : ℕ) where
       }
 
       -- the lowest is one of them: fewer are left
-      pub less-apart : (rest' : ℕ) → bit_at met (count_trailing_zeros 32 rest) ≡ true → rest' ≡ word_of (λ b. bit_at rest b && not (bit_at met b)) 32 → rest' ≤ rest
+      pub less-apart : (rest' : ℕ) → bit_at met (count_trailing_zeros 32 rest) ≡ true → rest' ≡ word_of (λ b. bit_at rest b && not (bit_at met b)) 32
+          → rest' ≤ rest
           → rest' < rest
       less-apart rest' m e h =
           let inside = walk_inside q cells i rest o.is-rest some small in

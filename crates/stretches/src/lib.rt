@@ -4,6 +4,8 @@
 // where a cell takes its last one. So there are at most I + 1 stretches. For each, two loops go over the cells of its word, from one to the next by the bits
 // that are set: one finds them, and how long they last; one takes that off what they have left, and drops those with nothing left. One store a position lays
 // the word down. The local room is a load for each cell. Where positions are blocked, each position of a stretch is looked at, and a blocked one takes no cell.
+#![tactic(auto)]
+
 ghost use Rattle.std.specs.Prelude.{◌≡◌, true, not, ◌++◌, ℕ, ◌+◌, ◌-◌, ◌^◌, ◌≤◌, ◌<◌, min, eqb, length, get_or, drop};
 ghost use Rattle.std.proofs.lemmas.List.Edits.{sets};
 ghost use Rattle.laws.specs.Bits.{bit_at, bit_in, word_of};
@@ -24,7 +26,7 @@ use positions::{is_blocked, none_blocked};
 use words::{apart, has, lay, lowest};
 
 // A stretch: the word of its positions, and for how many it stays.
-#[derive(Drop)]
+#[derive(Clone, Copy)]
 struct Stretch {
     word: u32,
     run: usize,
@@ -108,7 +110,7 @@ fn subtract(left: &mut [u16], word: u32, run: usize, need: u32, cells: usize) ->
 }
 
 // A piece of the positions: how many they are, and how many of them are open.
-#[derive(Drop)]
+#[derive(Clone, Copy)]
 struct Piece {
     span: usize,
     free: usize,

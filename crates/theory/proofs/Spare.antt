@@ -143,7 +143,8 @@ module _ (p : ℕ) (s t : Net) (put : SparePut p s t) where
   unfolding lowest_over overloaded
   lowest-past =
       ap (first (overloaded t (loaded t)) 0) end
-      ∙ first_past-law p (overloaded t (loaded t)) (overloaded s (loaded s)) 0 0 s.cells zero-le zero-le (λ i _. zero-le) (rw spare-out) (λ i _ l. over-past i l)
+      ∙ first_past-law p (overloaded t (loaded t)) (overloaded s (loaded s)) 0 0 s.cells zero-le zero-le (λ i _. zero-le) (rw spare-out)
+      (λ i _ l. over-past i l)
 
   -- the load test: the same verdict, about the same cell
   pub load_past-law : load_verdict t (loaded t) ≡ load_past p (load_verdict s (loaded s))

@@ -14,8 +14,8 @@ use Rattle.laws.specs.Sum.{bit}
 use Rattle.laws.proofs.Choice.{cases}
 use Rattle.laws.proofs.Search.{first-before}
 use Rattle.theory.specs.Net.{Net}
-use Rattle.theory.specs.Greedy.{planned, Plans}
-use Rattle.theory.specs.Positions.{chosen, left_at, need_at, takes, short_cell}
+use Rattle.theory.specs.Greedy.{Plans}
+use Rattle.theory.specs.Positions.{chosen, left_at, need_at, short_cell}
 use Rattle.theory.proofs.Positions.{left-next, greedy-short, run-plans}
 
 -- the same problem with n positions

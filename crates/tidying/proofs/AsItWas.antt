@@ -7,13 +7,14 @@ use mathlib.Core.List.{List, [], ◌∷◌, ◌++◌}
 use mathlib.Core.Logic.{◌⊎◌, inl, inr, ⊎_elim}
 use native.Mathlib.Omega.{arith}
 use lib.Dec.{eqb}
-use lib.ListN.{length, take, drop, length-take}
+use lib.ListN.{length, length-take}
 use lib.Seq.{take_all}
 use borrow.Author.Tests.{eq-eqb, ne_eqb, eqb-true}
 use Rattle.laws.specs.Choice.{pick}
 use Rattle.lines.specs.Match.{starts}
 use Rattle.cleaning.specs.Clean.{order_mark, first_spot, unchanged, next_column, spoiled, quoted, on_blank, on_quote, is_reach, is_late, on_content, mend_of}
-use Rattle.cleaning.specs.Clean.{comma_change, on_separator, on_cr, fed, on_lf, after_cr, on_field, step_of, is_fresh, nothing, end_of, byte_out, out_of, clean_from}
+use Rattle.cleaning.specs.Clean.{comma_change, on_separator, on_cr, fed, on_lf, after_cr, on_field, step_of, is_fresh, nothing, end_of, byte_out, out_of}
+use Rattle.cleaning.specs.Clean.{clean_from}
 use Rattle.cleaning.specs.Clean.{begins, cleaned, separator_in, makes, noted, line_after, changes_from, mark_change, changes_of}
 use Rattle.cleaning.specs.declared.Standing.{Standing}
 use Rattle.cleaning.specs.declared.Step.{Step}

@@ -16,7 +16,8 @@ use Rattle.site.specs.declared.Site.{Site}
 use Rattle.site.specs.Record.{load_at, row_of}
 use Rattle.sheet.specs.Sheet.{line_of, lines_from, sheet_bytes}
 use Rattle.sheet.proofs.Trip.{bits-two}
-use Rattle.cleaning.specs.Clean.{first_spot, line_spot, unchanged, is_separator, separator_in, next_column, is_reach, is_late, on_content, mend_of, comma_change}
+use Rattle.cleaning.specs.Clean.{first_spot, line_spot, unchanged, is_separator, separator_in, next_column, is_reach, is_late, on_content, mend_of}
+use Rattle.cleaning.specs.Clean.{comma_change}
 use Rattle.cleaning.specs.Clean.{on_separator, on_cr, after_cr, on_field, step_of, byte_out, out_of, clean_from, begins}
 use Rattle.cleaning.specs.Clean.{makes, noted, line_after, changes_from}
 use Rattle.cleaning.specs.declared.Standing.{Standing}

@@ -2,15 +2,17 @@
 use Prim.Native.Nat.{ℕ}
 use mathlib.Core.List.{List, [], ◌∷◌, ◌++◌}
 use mathlib.Core.Path.{◌≡◌, refl}
-use lib.ListN.{take, replicate}
+use lib.ListN.{replicate}
 use Rattle.laws.specs.Search.{first_of}
 use Rattle.text.specs.Decimal.{digits_of, decimal}
 use Rattle.lines.specs.Match.{starts}
-use Rattle.lines.specs.Format.{column, columns, header, bits_of, marks, label, cell_line}
-use Rattle.lines.specs.Content.{more, scanned, load_of_line, marks_of_line, mark_of_line, weigh, row_of_line, line_in, line_ok, columns_in, cells_of_line, head_ok}
+use Rattle.lines.specs.Format.{column, columns, header, marks, label, cell_line}
+use Rattle.lines.specs.Content.{more, scanned, load_of_line, marks_of_line, mark_of_line, weigh, row_of_line, line_in, line_ok, columns_in, cells_of_line}
+use Rattle.lines.specs.Content.{head_ok}
 use Rattle.site.specs.Record.{up_to, size_ok, rule_ok, row_bad, extra_load, bad_row, extra_blocked, fault_of}
 use Rattle.sheet.specs.Read.{from, loads_of_sheet, rows_of_sheet, site_of_sheet, bad_sheet, judged, bad_cell, cells_read, body, read_sheet}
-use Rattle.cleaning.specs.Clean.{is_separator, separator_in, next_column, on_blank, on_quote, is_reach, is_late, on_content, mend_of, comma_change, on_separator}
+use Rattle.cleaning.specs.Clean.{is_separator, separator_in, next_column, on_blank, on_quote, is_reach, is_late, on_content, mend_of, comma_change}
+use Rattle.cleaning.specs.Clean.{on_separator}
 use Rattle.cleaning.specs.Clean.{on_cr, on_lf, after_cr, on_field, step_of, is_fresh, end_of, byte_out, out_of, clean_from, begins, cleaned}
 use Rattle.tidying.specs.Tidy.{tidied, bad_line_of, laid_answer, judged_answer, tidy_answer}
 use Rattle.tidying.specs.declared.TidyAnswer.TheVariants.{Done, OutShort, BadLine}
@@ -38,11 +40,13 @@ pub sheets-tidied :
     ∷ []
     ≡ Done 33 ∷ OutShort 33 ∷ BadLine 3 ∷ BadLine 2 ∷ BadLine 1 ∷ []
 unfolding tidy_answer judged_answer laid_answer tidied bad_line_of
-    cleaned clean_from begins starts separator_in is_separator next_column on_blank on_quote is_reach is_late on_content mend_of comma_change on_separator on_cr on_lf
+    cleaned clean_from begins starts separator_in is_separator next_column on_blank on_quote is_reach is_late on_content mend_of comma_change on_separator on_cr
+    on_lf
     after_cr on_field step_of is_fresh end_of byte_out out_of
     read_sheet head_ok cells_of_line columns_in header columns column decimal digits_of body cells_read bad_cell first_of from line_ok
     load_of_line scanned more
-    label line_in cell_line marks_of_line mark_of_line marks row_of_line weigh site_of_sheet loads_of_sheet rows_of_sheet judged fault_of size_ok up_to rule_ok extra_load
+    label line_in cell_line marks_of_line mark_of_line marks row_of_line weigh site_of_sheet loads_of_sheet rows_of_sheet judged fault_of size_ok up_to rule_ok
+    extra_load
     bad_row row_bad
     extra_blocked bad_sheet
 sheets-tidied = refl

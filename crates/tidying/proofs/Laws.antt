@@ -90,7 +90,8 @@ module _ (s : Site) (fits : FitsSheet s) where
   unfolding changes_of mark_change sheet_bytes header starts
   sheet-unnamed kind = go (eqb kind 1)
     where
-      go : (t : Bool) → pick t unchanged (changes_from kind (separator_in (sheet_bytes s)) first_spot 1 unchanged (drop (begins (sheet_bytes s)) (sheet_bytes s)))
+      go : (t : Bool) → pick t unchanged (changes_from kind (separator_in (sheet_bytes s)) first_spot 1 unchanged
+          (drop (begins (sheet_bytes s)) (sheet_bytes s)))
           ≡ unchanged
       go true = refl
       go false =
@@ -141,14 +142,14 @@ module _ (b : List ℕ) where
     pub good_left : tidied b ≡ b
     unfolding tidied
     good_left =
-        let s = record_of.0 in
-        let w = record_of.1 in
+        let s = record_of-law.0 in
+        let w = record_of-law.1 in
         rw (← w.bytes) (ap (take most_bytes) (sheet-cleaned s w.fits) ∙ take_all most_bytes (sheet_bytes s) (omega (arith, sheet-few s w.fits)))
 
     pub good-unnamed : (kind : ℕ) → changes_of b kind ≡ unchanged
     good-unnamed kind =
-        let w = record_of.1 in
-        rw (← w.bytes) (sheet-unnamed record_of.0 w.fits kind)
+        let w = record_of-law.1 in
+        rw (← w.bytes) (sheet-unnamed record_of-law.0 w.fits kind)
 
 -- ---- the three theorems over the answer
 

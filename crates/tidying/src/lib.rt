@@ -1,4 +1,6 @@
 // A fitter's sheet as spreadsheets write it, made into the form that the strict reader asks, and what was changed in it.
+#![tactic(auto)]
+
 ghost use Rattle.std.specs.Prelude.{◌≡◌};
 ghost use Rattle.records.specs.Write.{laid_over};
 ghost use Rattle.cleaning.specs.Clean.{changes_of};
@@ -9,7 +11,7 @@ use sheet::{SheetAnswer, read_sheet};
 use text::put_text;
 
 // What tidying answers: the bytes written; the bytes that the output lacks room for; or the first line that cannot be tidied.
-#[derive(Drop)]
+#[derive(Clone, Copy)]
 pub enum TidyAnswer {
     Done(usize),
     OutShort(usize),

@@ -1,4 +1,6 @@
 // Each answer of the product as a C caller gets it: document 01's number and its values.
+#![tactic(auto)]
+
 ghost use Rattle.std.specs.Prelude.{◌≡◌};
 ghost use Rattle.site.specs.Given.{fault_given, clash_given};
 ghost use Rattle.judges.specs.Given.{load_given, chain_given, class_given, least_given};
@@ -31,7 +33,7 @@ use wordtable::FormAnswer;
 
 // dugg_answer: the number given back, and the values that belong to it.
 #[repr(C)]
-#[derive(Drop)]
+#[derive(Clone, Copy)]
 pub struct Answer {
     pub number: u64,
     pub value: [u64; 3],
@@ -39,7 +41,7 @@ pub struct Answer {
 
 // dugg_renumbered: a site in new numbers, the new number of each old one and the old number of each new one, and the answer.
 #[repr(C)]
-#[derive(Drop)]
+#[derive(Clone, Copy)]
 pub struct RenumberedC {
     pub site: Site,
     pub new: [u16; 32],

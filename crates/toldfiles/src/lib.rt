@@ -1,4 +1,6 @@
 // The answers of the files and of the edits as a C caller gets them: document 01's number and its values, and the site that comes beside.
+#![tactic(auto)]
+
 ghost use Rattle.std.specs.Prelude.{◌≡◌};
 ghost use Rattle.records.specs.Given.{read_given, written_given};
 ghost use Rattle.planfile.specs.Given.{plan_written_given};
@@ -18,14 +20,14 @@ use told::{Answer, change_answer, fault_answer, give};
 
 // dugg_blocked: a set of blocked positions, position k in bit k % 64 of word k / 64.
 #[repr(C)]
-#[derive(Drop)]
+#[derive(Clone, Copy)]
 pub struct Blocked {
     pub bits: [u64; 32],
 }
 
 // dugg_edited: a site and the answer beside it.
 #[repr(C)]
-#[derive(Drop)]
+#[derive(Clone, Copy)]
 pub struct EditedSite {
     pub site: Site,
     pub answer: Answer,
@@ -33,7 +35,7 @@ pub struct EditedSite {
 
 // dugg_plan_read: what a plan file says of its site, and the answer.
 #[repr(C)]
-#[derive(Drop)]
+#[derive(Clone, Copy)]
 pub struct PlanReadC {
     pub cells: u16,
     pub slots: u16,

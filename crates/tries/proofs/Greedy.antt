@@ -6,27 +6,26 @@ use mathlib.Core.Path.{◌≡◌, refl, sym, ap, ap₂, ◌∙◌, subst}
 use mathlib.Core.Bool.{Bool, true, false, ◌&&◌, not, true≢false, and-false}
 use mathlib.Core.List.{List, [], ◌∷◌, ◌++◌}
 use mathlib.Core.Logic.{inl, inr, ⊎_elim}
-use Prim.Native.Nat.{ℕ, zero, suc, ◌+◌, ◌*◌, ◌≤◌, ◌<◌, min}
+use Prim.Native.Nat.{ℕ, zero, suc, ◌+◌, ◌*◌, ◌≤◌, ◌<◌}
 use native.Mathlib.Omega.{arith}
 use native.Mathlib.Nat.{not-suc-le-zero}
-use lib.Dec.{ltb, eqb}
-use lib.ListN.{get_or, take, replicate}
+use lib.ListN.{take, replicate}
 use lib.Seq.{get_or-take}
 use borrow.Author.Tests.{lt-ltb, le-ltb, eq-eqb, ne_eqb}
 use Rattle.laws.specs.Choice.{pick, Rising}
 use Rattle.laws.specs.Few.{first_few}
 use Rattle.laws.specs.Sum.{bit, sum, count}
 use Rattle.laws.proofs.Any.{any_here, any_some, any-eq}
-use Rattle.laws.proofs.Choice.{cases, alike, both, both_is, order}
+use Rattle.laws.proofs.Choice.{alike, both, both_is, order}
 use Rattle.laws.proofs.Few.{few-count, few-eq, few_past}
 use Rattle.laws.proofs.Grid.{inside}
-use Rattle.laws.proofs.Sums.{sum-eq, sum-front, sum-none, sum_more, sum-up}
+use Rattle.laws.proofs.Sums.{sum-eq, sum-front, sum-none, sum-up}
 use Rattle.theory.specs.Net.{Net, Reserved, taken, free}
 use Rattle.theory.specs.Greedy.{sends, reserved, row, planned, greedy}
 use Rattle.theory.proofs.Exact.{greedy-fair, planned-valid}
 use Rattle.theory.proofs.Row.{row-reserved}
 use Rattle.theory.proofs.Run.{run_at}
-use Rattle.tries.specs.Search.{Spot, spot_at, reserved_by, taken_by, End, plan_found, none_exists, after_tries, or_next, look_at, onward, seek, opens_from}
+use Rattle.tries.specs.Search.{Spot, spot_at, reserved_by, taken_by, End, plan_found, after_tries, or_next, look_at, onward, seek, opens_from}
 use Rattle.tries.specs.Search.{fragments_from, open_list, search_of}
 use Rattle.tries.specs.Looks.{looks_at, looks_of}
 use Rattle.tries.proofs.Lists.{Sorted, done, more, fragments-sorted-from, spots-cases, spots-head, spots-tail, taken-some, taken_none}

@@ -1,1 +1,2 @@
 // The search where greedy gives up stands in specs/ and proofs/.
+#![tactic(auto)]

@@ -9,7 +9,8 @@ use Rattle.laws.specs.Search.{first_of}
 use Rattle.laws.specs.Sum.{sum, any}
 use Rattle.laws.specs.Part.{part}
 use Rattle.theory.specs.Greedy.{forbid, marked, fill, unmet, run}
-use Rattle.theory.specs.Verdict.{holder_at, barred_at, lowest_barred, second_at, clashes_at, first_at, lowest_clash, wrong_in, lowest_wrong, open_verdict, table_verdict}
+use Rattle.theory.specs.Verdict.{holder_at, barred_at, lowest_barred, second_at, clashes_at, first_at, lowest_clash, wrong_in, lowest_wrong, open_verdict}
+use Rattle.theory.specs.Verdict.{table_verdict}
 use Rattle.site.specs.Record.{site_of, up_to, size_ok, rule_ok, row_bad, extra_load, bad_row, extra_blocked, fault_of}
 use Rattle.site.specs.Reach.{reaches, reached_by_both, clash_in}
 use Rattle.site.specs.declared.Site.{Site}
@@ -83,7 +84,8 @@ checked :
     ∷ bytes "refused 22: cell 2 sends in slot 3, channel 2, which is blocked\n"
     ∷ bytes "refused 20, position 6: a blocked position is one that the site does not have: its slots and channels end before it\n" ∷ []
 unfolding first_of sum any holder_at barred_at lowest_barred second_at clashes_at first_at lowest_clash wrong_in lowest_wrong open_verdict table_verdict
-    up_to size_ok rule_ok row_bad extra_load bad_row extra_blocked fault_of reaches clash_in verdict_of check_answer load_named reach_named clash_sentence blocked_sentence
+    up_to size_ok rule_ok row_bad extra_load bad_row extra_blocked fault_of reaches clash_in verdict_of check_answer load_named reach_named clash_sentence
+    blocked_sentence
     verdict_lines refusal_meanings refusal_heads meaning refused_line spoken decimal digits_of
 checked = refl
 
@@ -100,7 +102,8 @@ checked-ruled :
     ∷ bytes "refused 6: cells 1 and 2 clash (both reach a third cell), and both send in slot 1, channel 1\n"
     ∷ bytes "refused 24: the rule is not 1 or 2, or not 2 where a site file says it\n" ∷ []
 unfolding first_of sum any holder_at barred_at lowest_barred second_at clashes_at first_at lowest_clash wrong_in lowest_wrong open_verdict table_verdict
-    up_to size_ok rule_ok row_bad extra_load bad_row extra_blocked fault_of reaches reached_by_both clash_in verdict_of check_answer load_named reach_named clash_sentence
+    up_to size_ok rule_ok row_bad extra_load bad_row extra_blocked fault_of reaches reached_by_both clash_in verdict_of check_answer load_named reach_named
+    clash_sentence
     verdict_lines refusal_meanings refusal_heads meaning refused_line spoken decimal digits_of
 checked-ruled = refl
 
@@ -109,7 +112,8 @@ planned :
     plan_said P1 (plan_answer P1 (replicate 18 0)) ∷ plan_said P2 (plan_answer P2 (replicate 18 0)) ∷ []
     ≡ bytes "planned: 3 cells, 3 slots, 2 channels\n"
     ∷ bytes "refused 5, cell 2: no room for 1 of its fragments; duggfrask why says what that means\n" ∷ []
-unfolding first_of sum any part forbid marked fill unmet run up_to size_ok rule_ok row_bad extra_load bad_row extra_blocked fault_of reaches clash_in plan_answer
+unfolding first_of sum any part forbid marked fill unmet run up_to size_ok rule_ok row_bad extra_load bad_row extra_blocked fault_of reaches clash_in
+    plan_answer
     verdict_lines
     spoken decimal digits_of
 planned = refl
@@ -122,9 +126,9 @@ mended :
     ≡ bytes "valid as it is: nothing to change\n"
     ∷ bytes "mended with 1 change\n"
     ∷ bytes "mended with 2 changes\n"
-    ∷ bytes "refused 5, cell 3: keeping these reservations leaves no room for 1 of its fragments; duggfrask why says whether a fresh plan does\n"
+    ∷ bytes "refused 5, cell 3: keeping these reservations leaves no room for 1 of its fragments; a fresh plan may do\n"
     ∷ bytes "planned: 3 cells, 2 slots, 1 channel\n"
-    ∷ bytes "refused 5, cell 2: keeping these reservations leaves no room for 1 of its fragments; duggfrask why says whether a fresh plan does\n"
+    ∷ bytes "refused 5, cell 2: keeping these reservations leaves no room for 1 of its fragments; a fresh plan may do\n"
     ∷ bytes "refused 13: the lent output is too short\n" ∷ []
 unfolding first_of sum any part forbid marked fill unmet run up_to size_ok rule_ok row_bad extra_load bad_row extra_blocked fault_of reaches clash_in
     stand mend_answer plan_answer changes_sentence verdict_lines refusal_meanings refusal_heads meaning refused_line spoken decimal digits_of

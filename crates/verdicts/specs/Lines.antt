@@ -11,7 +11,7 @@ verdict_lines =
     ∷ "refused 7: cell @1 sends @2 time@b in a superframe, and its load is @3\n"
     ∷ "planned: @1 cell@a, @2 slot@b, @3 channel@c\n"
     ∷ "refused 5, cell @1: no room for @2 of its fragments; duggfrask why says what that means\n"
-    ∷ "refused 5, cell @1: keeping these reservations leaves no room for @2 of its fragments; duggfrask why says whether a fresh plan does\n"
+    ∷ "refused 5, cell @1: keeping these reservations leaves no room for @2 of its fragments; a fresh plan may do\n"
     ∷ "valid as it is: nothing to change\n"
     ∷ "mended with @1 change@a\n"
     ∷ "share @1 fragment@a in a superframe\nqueue at most @2 fragment@b\ndelay at most @3 slot@c\n"

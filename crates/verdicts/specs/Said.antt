@@ -26,9 +26,11 @@ use Rattle.say_refusals.specs.declared.Place.{Place}
 use Rattle.say_refusals.specs.declared.Place.TheVariants.{Nowhere, Byte, PlanByte, Line, Cell, Position}
 use Rattle.say_refusals.specs.declared.Sentence.{Sentence}
 use Rattle.say_refusals.specs.declared.Sentence.TheVariants.{Plain, Refusal}
-use Rattle.verdicts.specs.Lines.{verdict_lines, valid_row, clash_forth_row, clash_back_row, clash_both_row, clash_third_row, count_row, planned_row, no_room_row}
+use Rattle.verdicts.specs.Lines.{verdict_lines, valid_row, clash_forth_row, clash_back_row, clash_both_row, clash_third_row, count_row, planned_row}
+use Rattle.verdicts.specs.Lines.{no_room_row}
 use Rattle.verdicts.specs.Lines.{kept_no_room_row}
-use Rattle.verdicts.specs.Lines.{unchanged_row, mended_row, share_row, blocked_row, bad_slots_row, bad_burst_row, bad_period_row, bad_repeats_row, other_plan_row}
+use Rattle.verdicts.specs.Lines.{unchanged_row, mended_row, share_row, blocked_row, bad_slots_row, bad_burst_row, bad_period_row, bad_repeats_row}
+use Rattle.verdicts.specs.Lines.{other_plan_row}
 use Rattle.verdicts.specs.Lines.{bad_list_row, repeats_row}
 use Rattle.verdicts.specs.declared.File.{File}
 use Rattle.verdicts.specs.declared.File.TheVariants.{SiteFile, PlanFile}

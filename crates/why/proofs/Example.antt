@@ -244,7 +244,7 @@ told =
       site = drift;
       text =
           "not chained: cells 1 and 4 clash, and cell 3 between them does not clash with cell 1\n" ∷
-          "nested: of each cell with a load, the lower such cells that clash with it clash with one another\n" ∷
+          "nested: of each cell, the lower cells that clash with it clash with one another\n" ∷
           "the load test holds\n" ∷
           "planned\n" ∷
           "it takes 2 channel-slots, and no fewer; the site has 2\n" ∷
@@ -259,7 +259,7 @@ told =
       site = drift-full;
       text =
           "not chained: cells 1 and 4 clash, and cell 3 between them does not clash with cell 1\n" ∷
-          "nested: of each cell with a load, the lower such cells that clash with it clash with one another\n" ∷
+          "nested: of each cell, the lower cells that clash with it clash with one another\n" ∷
           "the load test fails: cell 4 is over by 1 fragment\n" ∷
           "not planned: cell 4 is 1 fragment short. The site is full: no plan exists\n" ∷
           "it takes 3 channel-slots, and no fewer; the site has 2\n" ∷
@@ -365,7 +365,8 @@ abbrev pub other_plan : Reserved
 other_plan i k = eqb k 0 && (eqb i 0 || eqb i 3) || (eqb k 1 && (eqb i 1 || eqb i 2))
 
 pub p4-has-plan : Valid (net_of p4) other_plan
-unfolding first_of sum reaches clash_in holder_at barred_at lowest_barred open_verdict second_at clashes_at first_at lowest_clash wrong_in lowest_wrong table_verdict
+unfolding first_of sum reaches clash_in holder_at barred_at lowest_barred open_verdict second_at clashes_at first_at lowest_clash wrong_in lowest_wrong
+    table_verdict
 p4-has-plan = check-valid (net_of p4) other_plan refl
 
 -- of two cells that clash at most one is reserved

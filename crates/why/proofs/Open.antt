@@ -2,7 +2,7 @@
 -- every position usable, after as many as were usable. So a problem that is planned is planned with as much room or more.
 --     plans-roomier    of two problems with the same cells, loads and clashes, the second with as much room
 -- Assumes nothing.
-use mathlib.Core.Path.{◌≡◌, refl, sym, ap, ◌∙◌, fun_ext}
+use mathlib.Core.Path.{◌≡◌, refl, sym, ap, ◌∙◌, fun_ext, subst}
 use mathlib.Core.Bool.{Bool, true, false, ◌&&◌}
 use Prim.Native.Nat.{ℕ, zero, suc, ◌+◌, ◌-◌, ◌≤◌}
 use native.Mathlib.Nat.{add-zero, sub-zero}
@@ -47,4 +47,4 @@ of-flat s p =
 pub plans-roomier : (s t : Net) → t.cells ≡ s.cells → t.load ≡ s.load → t.clash ≡ s.clash → room s ≤ room t → Plans s → Plans t
 plans-roomier s t cells loads clash h p =
     let is : flat t (room t) ≡ resized (flat s (room s)) (room t) = rw (cells, loads, clash) in
-    of-flat t (rw is (plans-wider (flat s (room s)) (room t) (to-flat s p) h))
+    of-flat t (subst Plans (sym is) (plans-wider (flat s (room s)) (room t) (to-flat s p) h))

@@ -27,7 +27,7 @@ why_lines =
     ∷ "with @1 slot@a: at least @2 channel@b, and @3 will do\n"
     ∷ "with @1 slot@a: at least @2 channel@b\n"
     ∷ "with @1 slot@a: more than 16 channels, which no site has\n"
-    ∷ "nested: of each cell with a load, the lower such cells that clash with it clash with one another\n"
+    ∷ "nested: of each cell, the lower cells that clash with it clash with one another\n"
     ∷ "not nested: cells @1 and @2 clash with cell @3, and not with one another\n"
     ∷ []
 

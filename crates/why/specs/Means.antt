@@ -171,7 +171,7 @@ meanings s =
     ∷ (λ f lo c d. WithSlots s f × AtLeastChannels s lo)
     -- `with @1 slots: more than 16 channels, which no site has`
     ∷ (λ f b c d. WithSlots s f × AtLeastChannels s 17)
-    -- `nested: of each cell with a load, the lower such cells that clash with it clash with one another`
+    -- `nested: of each cell, the lower cells that clash with it clash with one another`
     ∷ (λ a b c d. NestedHolds s)
     -- `not nested: cells @1 and @2 clash with cell @3, and not with one another`
     ∷ (λ a b i d. Split s a b i)

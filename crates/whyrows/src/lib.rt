@@ -1,4 +1,6 @@
 // Which line of `why` an answer of the chain judge has, and which the answer that there is no room.
+#![tactic(auto)]
+
 ghost use Rattle.std.specs.Prelude.{◌≡◌, ltb};
 ghost use Rattle.laws.specs.Choice.{pick};
 ghost use Rattle.why.specs.Lines.{full_row, gave_up_row};

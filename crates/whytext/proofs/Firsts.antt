@@ -5,11 +5,7 @@ use mathlib.Core.Path.{◌≡◌, refl, ap, ◌∙◌}
 use mathlib.Core.List.{List, ◌++◌}
 use native.Mathlib.Nat.{add-zero}
 use native.Mathlib.Omega.{arith}
-use lib.Dec.{ltb}
 use lib.ListN.{length, length-append}
-use Rattle.laws.specs.Choice.{pick}
-use Rattle.site.specs.Record.{size, fault_of, is_fine}
-use Rattle.site.specs.Reach.{net_of}
 use Rattle.site.specs.declared.Site.{Site}
 use Rattle.say_rule.specs.Said.{firsts_said, thirds_said}
 use Rattle.finder.specs.Find.{find_answer}

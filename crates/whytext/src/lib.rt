@@ -1,5 +1,7 @@
 // What `duggfrask why` prints of a site as text, laid into a lent output: the text, or the bytes that it needs. The clashes by a third cell may take
 // more than a local buffer, so they are made twice, first cell by first cell: first they are measured, then laid.
+#![tactic(auto)]
+
 ghost use Rattle.std.specs.Prelude.{◌≡◌, ◌+◌, ◌*◌, ◌≤◌, ◌++◌, length};
 ghost use Rattle.std.proofs.lemmas.List.Edits.{sets};
 ghost use Rattle.planner.specs.Plan.{plan_table};

@@ -1,5 +1,7 @@
 // A table's bytes as words, one for each position, and words as bytes: over neighbouring places, without a branch. Eight rows at a time, by the byte
 // that a word has of eight cells; row by row where there are few positions, or few cells.
+#![tactic(auto)]
+
 ghost use Rattle.std.specs.Prelude.{◌≡◌, ◌++◌, ◌+◌, ◌*◌, ◌/◌, ◌%◌, ◌^◌, ◌≤◌, ◌<◌, min, length, get_or, drop};
 ghost use Rattle.std.proofs.lemmas.List.Edits.{sets};
 ghost use Rattle.laws.specs.Bits.{bit_at, word_of};

@@ -1,6 +1,6 @@
 -- From what the walk finds to the verdict: a word's clashes are those of its position, and the counts are how often each cell is reserved. Assumes nothing.
 use mathlib.Core.Path.{◌≡◌, refl, sym, ap, ◌∙◌}
-use mathlib.Core.Bool.{false, ◌&&◌, not, not-not}
+use mathlib.Core.Bool.{Bool, true, false, ◌&&◌, not}
 use mathlib.Core.List.{List}
 use Prim.Native.Nat.{ℕ, ◌+◌, ◌≤◌, ◌<◌, zero-le}
 use native.Mathlib.Omega.{arith}
@@ -104,11 +104,16 @@ module _ (cells n : ℕ) (loads rows words : List ℕ) where
 
 -- ---- blocked positions
 
+twice : (b : Bool) → b ≡ not (not b)
+twice true = refl
+twice false = refl
+
 module _ (cells n : ℕ) (blocked words : List ℕ) where
   -- the test of `lowest_barred`, of a word
-  pub bar-word : (k : ℕ) → (blocked_at blocked k && ltb (first (bit_at (get_or words k 0)) 0 cells) cells) ≡ barred_at (bar_net cells n blocked) (sends_at words) k
+  pub bar-word : (k : ℕ) → (blocked_at blocked k && ltb (first (bit_at (get_or words k 0)) 0 cells) cells) ≡ barred_at (bar_net cells n blocked)
+      (sends_at words) k
   unfolding barred_at holder_at
-  bar-word k = ap (λ b. b && ltb (first (bit_at (get_or words k 0)) 0 cells) cells) (sym (not-not (blocked_at blocked k)))
+  bar-word k = ap (λ b. b && ltb (first (bit_at (get_or words k 0)) 0 cells) cells) (twice (blocked_at blocked k))
 
   -- where no position is blocked there is none
   pub none-barred : n ≤ most_positions → any_in blocked most_positions ≡ false → n ≡ lowest_barred (bar_net cells n blocked) (sends_at words)

@@ -220,7 +220,8 @@ below-bits : (n x y i : ℕ) → x % 2 ^ n ≡ y % 2 ^ n → i < n → bit_at x 
 below-bits n x y i e l =
     sym (word-bit (bit_at x) n i l) ∙ ap (λ (z : ℕ). bit_at z i) (sym (word_mod x n) ∙ e ∙ word_mod y n) ∙ word-bit (bit_at y) n i l
 
-module _ (s : Site) (w v : List ℕ) (long : length w ≡ length v) (same : (k : ℕ) → k < positions s → get_or w k 0 % 2 ^ s.cells ≡ get_or v k 0 % 2 ^ s.cells) where
+module _ (s : Site) (w v : List ℕ) (long : length w ≡ length v)
+    (same : (k : ℕ) → k < positions s → get_or w k 0 % 2 ^ s.cells ≡ get_or v k 0 % 2 ^ s.cells) where
   same-below : (i k : ℕ) → i < s.cells → k < positions s → sends_at w i k ≡ sends_at v i k
   same-below i k l h = below-bits s.cells (get_or w k 0) (get_or v k 0) i (same k h) l
 
@@ -233,5 +234,6 @@ module _ (s : Site) (w v : List ℕ) (long : length w ≡ length v) (same : (k :
   pub bytes-above : (t : List ℕ) → to_bytes s w t ≡ to_bytes s v t
   unfolding to_bytes
   bytes-above t =
-      ap₂ (λ (m : ℕ) (b : List ℕ). pick (is_fine (fault_of s)) (pick (ltb (length t) (size s) || ltb m (positions s)) t (b ++ drop (s.cells * positions s) t)) t)
+      ap₂ (λ (m : ℕ) (b : List ℕ). pick (is_fine (fault_of s))
+      (pick (ltb (length t) (size s) || ltb m (positions s)) t (b ++ drop (s.cells * positions s) t)) t)
       long (bytes_eq s.cells (positions s) (sends_at w) (sends_at v) same-below)

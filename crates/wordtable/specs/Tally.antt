@@ -1,5 +1,5 @@
 -- What the walk over the words finds: where a word has two cells that clash, and how often each cell is counted.
-use Rattle.std.specs.Prelude.{◌≡◌, Bool, not, ◌&&◌, List, ℕ, ◌+◌, ◌≤◌, ◌<◌, ltb, eqb, length, get_or}
+use Rattle.std.specs.Prelude.{◌≡◌, Bool, not, List, ℕ, ◌+◌, ◌≤◌, ◌<◌, ltb, eqb, length, get_or}
 use Rattle.laws.specs.Bits.{bit_at}
 use Rattle.laws.specs.Choice.{pick}
 use Rattle.laws.specs.Sum.{count}
@@ -10,13 +10,9 @@ use Rattle.wordforms.specs.Words.{sends_at}
 abbrev pub clashing_word : List ℕ → ℕ → ℕ → Bool
 clashing_word rows n word = ltb (first_in word rows n) n
 
--- word k is that of p
-abbrev pub alike : List ℕ → ℕ → ℕ → Bool
-alike words p k = eqb (get_or words k 0) (get_or words p 0)
-
--- word k is neither that of p nor silence
-abbrev pub another : List ℕ → ℕ → ℕ → Bool
-another words p k = not (alike words p k) && not (eqb (get_or words k 0) 0)
+-- word k is another than word p
+abbrev pub differs : List ℕ → ℕ → ℕ → Bool
+differs words p k = not (eqb (get_or words k 0) (get_or words p 0))
 
 -- the counts of n cells have room for so many more
 abbrev pub Room : ℕ → ℕ → List ℕ → Type 0

@@ -1,15 +1,16 @@
 // The second table form: one word for each position, with bit i-1 where cell i transmits. Bits above I are silence.
 //
 // What planning costs stands in crates/stretches/src/lib.rt; the local room is the clash rows and a load for each cell.
-// What the check costs: a run of equal words, with the silent ones between them, is passed at two compares a word, and its word is looked at once, in it only
-// the cells that are set; the local room is the clash rows and a count for each cell. Where positions are blocked, each is looked at once before that.
+// What the check costs: a run of equal words is passed at a compare a word, and its word is looked at once, in it only the cells that are set;
+// the local room is the clash rows and a count for each cell. Where positions are blocked, each position is looked at once before that.
 // The changes of form go over neighbouring places, eight rows at a time, without a branch.
+#![tactic(auto)]
+
 ghost use Rattle.std.specs.Prelude.{◌≡◌, ◌&&◌, not, ◌++◌, ◌+◌, ◌*◌, ◌≤◌, ◌<◌, ltb, eqb, length, get_or, drop};
 ghost use Rattle.std.proofs.lemmas.List.Edits.{sets};
 ghost use Rattle.laws.specs.Bits.{bit_at, bit_in};
 ghost use Rattle.laws.specs.Part.{list_of};
 ghost use Rattle.laws.specs.Search.{first};
-ghost use Rattle.laws.specs.Sum.{bit, count};
 ghost use Rattle.theory.specs.Net.{unblocked};
 ghost use Rattle.theory.specs.Greedy.{reserved};
 ghost use Rattle.theory.specs.Verdict.{lowest_barred, open_verdict, table_verdict};
@@ -18,7 +19,7 @@ ghost use Rattle.site.specs.Reach.{is_open, net_in};
 ghost use Rattle.checker.specs.Check.{verdict_of};
 ghost use Rattle.checker.specs.Marks.{bar_net};
 ghost use Rattle.wordforms.specs.Words.{sends_at};
-ghost use Rattle.wordtable.specs.Tally.{clashing_word, another, alike, Room, Added, CountedTo, miscounted};
+ghost use Rattle.wordtable.specs.Tally.{clashing_word, differs, Room, Added, CountedTo, miscounted};
 ghost use Rattle.wordtable.specs.Plan.{plan_words_answer, plan_words};
 ghost use Rattle.wordtable.specs.Check.{check_words_answer};
 ghost use Rattle.wordtable.specs.Forms.{form_answer, to_words, to_bytes};
@@ -32,7 +33,7 @@ use wordforms::{gather_words, scatter};
 use words::lowest;
 
 // The answer to a change of form: done; 4, a lent part is short; or what is wrong with the record.
-#[derive(Drop)]
+#[derive(Clone, Copy)]
 pub enum FormAnswer {
     Done,
     TableShort,
@@ -78,55 +79,23 @@ fn tally(counts: &mut [u32; 32], word: u32, times: u32, clash: &[u32; 32], cells
     met
 }
 
-// A run of one word, with silence between: where it ends, and how often the word stands in it.
-#[derive(Drop)]
-struct Run {
-    to: usize,
-    times: u32,
-}
-
-// Whether a word is neither that of a run nor silence.
-fn is_another(next: u32, word: u32) -> bool
-    ensures { result ≡ (not (eqb next word) && not (eqb next 0)) }
-{
-    if next == word {
-        return false;
-    }
-    next != 0
-}
-
-// 1 where two words are equal, else 0.
-fn once_more(next: u32, word: u32) -> u32
-    ensures { result ≡ bit (eqb next word) }
-{
-    if next == word {
-        return 1;
-    }
-    0
-}
-
-// The run of the word of p: up to the first position past p, of n, whose word is another; up to n where there is none.
-fn run_of(words: &[u32], p: usize, n: usize) -> Run
-    requires { (p < n) × (n ≤ 2048) × (n ≤ length words.now) }
-    ensures end { result.to ≡ first (another words.now p) (p + 1) n }
-    ensures times { count (alike words.now p) result.to ≡ count (alike words.now p) p + result.times }
-    ensures few { p + result.times ≤ result.to }
+// The first position past p, of n, whose word is not that of p; n where there is none.
+fn run_end(words: &[u32], p: usize, n: usize) -> usize
+    requires { (p < n) × (n ≤ length words.now) }
+    ensures { result ≡ first (differs words.now p) (p + 1) n }
 {
     let word = words[p];
-    let mut times: u32 = 1;
     let mut k = p + 1;
     while k < n {
-        let next = words[k];
-        if is_another(next, word) {
-            return Run { to: k, times };
+        if words[k] != word {
+            return k;
         }
-        times += once_more(next, word);
         k += 1;
     }
-    Run { to: k, times }
+    k
 }
 
-// The lowest position with a clash; n where there is none, and then each cell is counted. The words of a run are counted at once.
+// The lowest position with a clash; n where there is none, and then each cell is counted. Equal words that stand together are counted at once.
 fn walk(counts: &mut [u32; 32], words: &[u32], n: usize, clash: &[u32; 32], cells: usize) -> usize
     requires cells_bound { (cells ≤ 32) × (n ≤ 2048) × (n ≤ length words.now) }
     requires counted_to { CountedTo cells words.now 0 counts.old }
@@ -135,12 +104,13 @@ fn walk(counts: &mut [u32; 32], words: &[u32], n: usize, clash: &[u32; 32], cell
 {
     let mut p: usize = 0;
     while p < n {
-        let run = run_of(words, p, n);
-        let met = tally(counts, words[p], run.times, clash, cells);
+        let to = run_end(words, p, n);
+        let times = (to - p) as u32;
+        let met = tally(counts, words[p], times, clash, cells);
         if met != 0 {
             return p;
         }
-        p = run.to;
+        p = to;
     }
     p
 }

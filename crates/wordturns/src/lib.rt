@@ -1,4 +1,6 @@
 // A cell's turn in mending where there are at most 64 positions: what is free, what stood and what stands are one word each.
+#![tactic(auto)]
+
 ghost use Rattle.std.specs.Prelude.{◌≡◌, ◌&&◌, not, ◌-◌, ◌≤◌, length};
 ghost use Rattle.laws.specs.Bits.{bit_at, bit_in, word_of};
 ghost use Rattle.laws.specs.Choice.{pick};
@@ -42,7 +44,7 @@ fn more_than(load: usize, room: usize) -> usize
 }
 
 // What a cell's turn comes to: where it stands, the fragments that found no room, and the number of changes.
-#[derive(Drop)]
+#[derive(Clone, Copy)]
 pub struct WordTurn {
     pub here: u64,
     pub short: usize,

@@ -20,8 +20,8 @@ fn reason_words(reason: Reason) -> Option<String> {
         Reason::Missing => String::from("the sheet ends before this line"),
         Reason::Extra => String::from("a line too many"),
         Reason::OrderMark => String::from("it begins with a byte order mark"),
-        Reason::Semicolon(character) => at(character, "a semicolon, and fields are parted by commas"),
-        Reason::Tab(character) => at(character, "a tab, and fields are parted by commas"),
+        Reason::Semicolon(character) => at(character, "a semicolon, and a comma belongs there"),
+        Reason::Tab(character) => at(character, "a tab, and a comma belongs there"),
         Reason::Quote(character) => at(character, "a quote, and a sheet has none"),
         Reason::Blank(character) => at(character, "a blank, and a sheet has none"),
         Reason::FeedAlone => String::from("the line ends in LF alone, and CR LF belongs there"),
@@ -76,8 +76,8 @@ mod tests {
     fn a_bad_line_with_its_reason() {
         let told = |line: &str| bad_line_told(format!("cell,load,1,2\r\n{line}").as_bytes(), 2);
         for (line, words) in [
-            ("1;5,0,1\r\n", "at character 2 stands a semicolon, and fields are parted by commas"),
-            ("1,5\t", "at character 4 stands a tab, and fields are parted by commas"),
+            ("1;5,0,1\r\n", "at character 2 stands a semicolon, and a comma belongs there"),
+            ("1,5\t", "at character 4 stands a tab, and a comma belongs there"),
             ("\"1\"", "at character 1 stands a quote, and a sheet has none"),
             ("1, 5", "at character 3 stands a blank, and a sheet has none"),
             ("1,5,0,1\n", "the line ends in LF alone, and CR LF belongs there"),

@@ -72,7 +72,7 @@ fn third_line(site: &Site, a: usize, b: usize) -> String {
 
 fn nested_line(split: Option<(usize, usize, usize)>) -> String {
     match split {
-        None => String::from("nested: of each cell with a load, the lower such cells that clash with it clash with one another\n"),
+        None => String::from("nested: of each cell, the lower cells that clash with it clash with one another\n"),
         Some((a, b, i)) => format!("not nested: cells {a} and {b} clash with cell {i}, and not with one another\n"),
     }
 }
@@ -288,7 +288,7 @@ planned with the cells renumbered
         site.loads[..4].copy_from_slice(&[1, 1, 1, 2]);
         let expected = "\
 not chained: cells 1 and 4 clash, and cell 3 between them does not clash with cell 1
-nested: of each cell with a load, the lower such cells that clash with it clash with one another
+nested: of each cell, the lower cells that clash with it clash with one another
 the load test fails: cell 4 is over by 1 fragment
 not planned: cell 4 is 1 fragment short. The site is full: no plan exists
 it takes 3 channel-slots, and no fewer; the site has 2

@@ -94,7 +94,7 @@ pub fn no_room(no: &Answer) -> String {
 pub fn no_room_beside(no: &Answer) -> String {
     let [cell, short, _] = no.value;
     format!(
-        "refused 5, cell {cell}: keeping these reservations leaves no room for {short} of its fragments; duggfrask why says whether a fresh plan does\n"
+        "refused 5, cell {cell}: keeping these reservations leaves no room for {short} of its fragments; a fresh plan may do\n"
     )
 }
 

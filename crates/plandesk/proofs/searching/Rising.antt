@@ -1,7 +1,7 @@
 -- Rising limits. An answer that is not "limit met" is that of every larger limit, and so is the table (`settled`). After "limit met" the table serves as the
 -- one before did (`resumed`). Assumes nothing.
 use mathlib.Core.Path.{◌≡◌, refl, sym, ap, ◌∙◌}
-use mathlib.Core.Bool.{Bool, true, false, true≢false}
+use mathlib.Core.Bool.{true, false, true≢false}
 use mathlib.Core.List.{List, ◌++◌}
 use mathlib.Core.Logic.{inl, inr}
 use Prim.Native.Nat.{ℕ, ◌+◌, ◌≤◌}

@@ -1,0 +1,19 @@
+-- `inputs::found_phrase` meets its contract: an arm for each file. Assumes nothing.
+use Rattle.laws.proofs.Arms.{arm}
+use Rattle.inputs.specs.Said.{found_phrase}
+use Rattle.inputs.proofs.found_phrase.Goals as goal
+
+pub returns-in-SiteFile : goal.returns-in-SiteFile
+returns-in-SiteFile c = search (arm found_phrase)
+
+pub returns-in-PlanFile : goal.returns-in-PlanFile
+returns-in-PlanFile c = search (arm found_phrase)
+
+pub returns-in-RangeSheet : goal.returns-in-RangeSheet
+returns-in-RangeSheet c = search (arm found_phrase)
+
+pub returns-in-FlowSheet : goal.returns-in-FlowSheet
+returns-in-FlowSheet c = search (arm found_phrase)
+
+pub returns-in-Other : goal.returns-in-Other
+returns-in-Other c = search (arm found_phrase)

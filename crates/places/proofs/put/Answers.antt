@@ -1,0 +1,14 @@
+-- `places::put` meets its contract: what is put is the phrase. Assumes nothing.
+use mathlib.Core.Path.{refl}
+use native.Mathlib.Omega.{arith}
+use Rattle.phrases.proofs.Table.{phrase-room, phrase-put}
+use Rattle.places.specs.Lines.{place_lines}
+use Rattle.places.proofs.put.Goals as goal
+
+pub put_phrase-requires : goal.put_phrase-requires
+unfolding place_lines
+put_phrase-requires c = omega (arith, phrase-room 3 place_lines refl c.args.what)
+
+pub returns : goal.returns
+unfolding place_lines
+returns c = phrase-put 3 place_lines refl c.args.what c.put_phrase.ensures

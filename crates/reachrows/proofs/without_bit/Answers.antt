@@ -1,0 +1,8 @@
+-- `reachrows::without_bit` meets its contract: `1 << b` is the power of two. Assumes nothing.
+use Rattle.laws.specs.Bits.{clear_bit}
+use Rattle.laws.proofs.Bits.{one_shl}
+use Rattle.reachrows.proofs.without_bit.Goals as goal
+
+pub returns : goal.returns
+unfolding clear_bit
+returns c = simp (one_shl c.args.b c.requires)

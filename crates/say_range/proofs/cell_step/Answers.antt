@@ -1,0 +1,7 @@
+-- `say_range::cell_step` meets its contract: it is the less of two, as it is said. Assumes nothing.
+use Rattle.drawing.specs.Range.{cell_step}
+use Rattle.say_range.proofs.cell_step.Goals as goal
+
+pub returns : goal.returns
+unfolding cell_step
+returns c = c.less_of.ensures

@@ -1,0 +1,10 @@
+-- `say_report::put_title` meets its contract: one part after the other; there is room for each. Assumes nothing.
+use native.Mathlib.Omega.{arith}
+use Rattle.phrases.proofs.Put.{put_both, put-wide}
+use Rattle.say_report.proofs.put_title.Goals as goal
+
+pub returns : goal.returns
+returns c = put-wide _ (omega arith)
+    (put_both _ _ c.put_report_row-next.ensures
+    (put_both _ _ c.put_escaped-next.ensures
+    (put_both _ _ c.put_report_row-next-2.ensures (put_both _ _ c.put_look-next.ensures c.put_report_row.ensures))))
