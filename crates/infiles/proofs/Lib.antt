@@ -1,2 +1,0 @@
--- The laws of crate `infiles`, module by module.
-pub mod Goes
