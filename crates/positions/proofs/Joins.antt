@@ -83,7 +83,3 @@ past_more set n j all before e k h l =
     ap (λ (i : ℕ). bit_at (get_or set i 0) (k % 64)) d
     ∙ ap (λ (x : ℕ). bit_at x (k % 64)) z.1
     ∙ none_in (k % 64)) (cases (ltb k (64 * j)))
-
-pub is_false : (t : Bool) → not t ≡ true → t ≡ false
-is_false true e = sym e
-is_false false e = refl
