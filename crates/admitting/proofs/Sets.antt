@@ -41,6 +41,13 @@ total-none f n = sum-eq (λ k. pick (bit_at 0 k) (f k) 0) (λ _. 0) n (λ k _. r
 pub total-zero : (n x : ℕ) → total (λ _. 0) n x ≡ 0
 total-zero n x = sum-eq (λ k. pick (bit_at x k) 0 0) (λ _. 0) n (λ k _. pick_same (bit_at x k) 0) ∙ sum-none n
 
+gate-le : (b : Bool) (v : ℕ) → pick b v 0 ≤ v
+gate-le true v = le_refl v
+gate-le false v = zero-le
+
+pub total-most : (f : ℕ → ℕ) (n x : ℕ) → total f n x ≤ sum f n
+total-most f n x = sum-le (λ k. pick (bit_at x k) (f k) 0) f n (λ k _. gate-le (bit_at x k) (f k))
+
 pub total-eq : (f g : ℕ → ℕ) (n x : ℕ) → ((k : ℕ) → k < n → f k ≡ g k) → total f n x ≡ total g n x
 total-eq f g n x h = sum-eq (λ k. pick (bit_at x k) (f k) 0) (λ k. pick (bit_at x k) (g k) 0) n (λ k l. ap (λ (v : ℕ). pick (bit_at x k) v 0) (h k l))
 
@@ -75,6 +82,9 @@ module _ (f : ℕ → ℕ) (n k x : ℕ) (le : k ≤ n) (h : x % 2 ^ k ≡ 0) wh
       let q : total f n x ≡ total f k 0 + high_part = rw e at (apart 0 (pow_pos k)) in
       omega (arith, total-none f k)
 
+  pub total-grow : (y : ℕ) → y < 2 ^ k → (total f n x ≤ total f n (x + y)) × (total f n (x + y) ≤ total f n x + sum f k)
+  total-grow y l = (omega (arith, apart y l, alone), omega (arith, apart y l, alone, total-most f k y))
+
 pub multiple-less : (x k : ℕ) → x % 2 ^ suc k ≡ 0 → x % 2 ^ k ≡ 0
 multiple-less x k h =
     let e : 1 + k ≡ suc k = omega arith in
@@ -108,10 +118,3 @@ total-few f n m x l h =
     let q : 0 * 2 ^ n + x ≡ x = omega arith in
     let t : total f m x ≡ total f n x + total (λ j. f (n + j)) (m - n) 0 = rw (e, q) at (total-split f n (m - n) 0 x h) in
     omega (arith, total-none (λ j. f (n + j)) (m - n))
-
-gate-le : (b : Bool) (v : ℕ) → pick b v 0 ≤ v
-gate-le true v = le_refl v
-gate-le false v = zero-le
-
-pub total-most : (f : ℕ → ℕ) (n x : ℕ) → total f n x ≤ sum f n
-total-most f n x = sum-le (λ k. pick (bit_at x k) (f k) 0) f n (λ k _. gate-le (bit_at x k) (f k))

@@ -45,6 +45,11 @@ module _ (p : ℕ) where
   past-less i j l =
       ⊎_elim (λ a. ⊎_elim (λ b. omega arith) (λ b. omega arith) (past-at j)) (λ a. ⊎_elim (λ b. omega arith) (λ b. omega arith) (past-at j)) (past-at i)
 
+  -- no two cells stand at one place
+  pub past_one : (i j : ℕ) → past p i ≡ past p j → i ≡ j
+  past_one i j e =
+      ⊎_elim (λ a. ⊎_elim (λ b. omega arith) (λ b. omega arith) (past-at j)) (λ a. ⊎_elim (λ b. omega arith) (λ b. omega arith) (past-at j)) (past-at i)
+
   past-ltb : (i j : ℕ) → ltb (past p i) (past p j) ≡ ltb i j
   past-ltb i j =
       alike _ _ (λ e. lt-ltb i j (past-less i j (ltb-true _ _ e))) (λ e. lt-ltb (past p i) (past p j) (past_up i j (ltb-true _ _ e)))
