@@ -115,3 +115,6 @@ module _ (rule : ℕ) (reach : List ℕ) (a b : ℕ) where
         pub pair-rule : (eqb rule 2 && reached_by_both reach a b) ≡ clash_in rule reach a b
         unfolding clash_in reaches
         pair-rule = rw (ne_eqb a b other, none, neither)
+
+-- what the code asks, in turn
+pub ruleset pair_laws = (pair_same, pair-reaches, pair-reached, pair-rule, pair-third, eq-eqb, ne_eqb)

@@ -285,6 +285,7 @@ fn share_third(x: u32, y: u32, a: usize, b: usize) -> bool
 }
 
 // Whether the cells at indices a and b clash under a rule: two bits are looked at, and under rule 2 two rows.
+#[tactic(auto, using(crate::proofs::Rule::pair_laws), unfolding(crate::specs::Rows::clash_in, crate::specs::Rows::reaches))]
 pub fn pair_clashes(reach: &[u32; 32], rule: u16, a: usize, b: usize) -> bool
     requires { (a < 32) × (b < 32) }
     ensures { result ≡ clash_in rule reach.now a b }

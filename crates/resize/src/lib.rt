@@ -84,6 +84,7 @@ fn first_gone(set: &[u64; 32], from: usize, slots: usize, channels: usize) -> us
 }
 
 // Why other sizes are refused: the record's fault, a size out of range, or a blocked position that would be gone.
+#[tactic(auto, unfolding(crate::specs::Sizes::sizes_fault, site::specs::Edit::or_else))]
 fn sizes_fault(site: Site, slots: u16, channels: u16) -> Fault
     ensures { result ≡ sizes_fault site slots channels }
 {

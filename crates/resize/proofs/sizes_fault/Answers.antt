@@ -1,7 +1,6 @@
 -- `resize::sizes_fault` meets its contract: the arm of the match says which fault it is, or that it is one; then the size
 -- decides, and then the search. Assumes nothing.
 use mathlib.Core.Path.{sym, ◌∙◌}
-use borrow.Author.Tests.{lt-ltb, le-ltb}
 use Rattle.site.specs.Edit.{or_else}
 use Rattle.site.proofs.Faults.{not-fine, fine-sized}
 use Rattle.resize.specs.Sizes.{sizes_fault}
@@ -22,23 +21,3 @@ returns-then-not-size_ok c = simp (
 
 pub first_gone-gone-requires : goal.first_gone-gone-requires
 first_gone-gone-requires c = (fine-sized _ (sym c.fault_in-f.ensures ∙ c.in-Fine.is)).channels_some
-
-pub returns-then-gone-lt-MOST : goal.returns-then-gone-lt-MOST
-unfolding sizes_fault or_else
-returns-then-gone-lt-MOST c = simp (
-  sym c.fault_in-f.ensures,
-  c.in-Fine.is,
-  sym c.size_ok.ensures ∙ c.if-not-size_ok.false,
-  sym c.first_gone-gone.ensures,
-  lt-ltb _ _ c.if-gone-lt-MOST.true,
-)
-
-pub returns : goal.returns
-unfolding sizes_fault or_else
-returns c = simp (
-  sym c.fault_in-f.ensures,
-  c.in-Fine.is,
-  sym c.size_ok.ensures ∙ c.if-not-size_ok.false,
-  sym c.first_gone-gone.ensures,
-  le-ltb _ _ c.if-gone-lt-MOST.false,
-)
