@@ -54,7 +54,7 @@ fn take_over(table: &mut [u8], n: usize, i: usize, clash: &[u32; 32]) -> u32
 }
 
 // The position at index `j`: where the stretch of row `j` begins, or where it ends.
-pub fn place_of(places: &[u16; 32], j: usize) -> u16
+fn place_of(places: &[u16; 32], j: usize) -> u16
     requires { j < 32 }
     ensures { result ≡ get_or places.now j 0 }
 {

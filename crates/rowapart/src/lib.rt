@@ -15,8 +15,15 @@ ghost use Rattle.rows.specs.Stretch.{SameBut, SendsIn, filled_by};
 ghost use Rattle.planrows.specs.Row.{marks_in, marks_on, row_short, opens, Masks, Sending, EitherWay, by_word, RowsMarked, RowsBefore};
 ghost use Rattle.rowapart.specs.Code.{cover_by, mask_size};
 
-use planrows::{group_of, near_of, place_of};
-use rows::{Filled, cover, mark_byte};
+use planrows::{group_of, near_of};
+use rows::Filled;
+
+// A byte of a row, where an earlier clashing row holds `earlier`.
+fn mark(earlier: u8, byte: u8) -> u8
+    ensures { result ≡ pick (sends earlier) 2 byte }
+{
+    if earlier == 1 { 2 } else { byte }
+}
 
 // Forbids, in a row of `n` bytes, each position that row `j` of the table reserves: all of these lie from `start` to `end`.
 // A byte is stored at each position of that stretch, marked or as it was, so that the loop has no branch.
@@ -28,9 +35,16 @@ fn forbid_by(row: &mut [u8], table: &[u8], n: usize, j: usize, start: usize, end
     let from = j * n;
     let mut p = start;
     while p < end {
-        row[p] = mark_byte(table[from + p], row[p]);
+        row[p] = mark(table[from + p], row[p]);
         p += 1;
     }
+}
+
+// A byte of a row, where it takes the marks of an earlier row over, which holds `earlier` there.
+fn cover(earlier: u8, byte: u8) -> u8
+    ensures { result ≡ pick (eqb earlier 0) byte 2 }
+{
+    if earlier == 0 { byte } else { 2 }
 }
 
 // Forbids, in a row of `n` bytes, each position at which row `j` of the table is not idle: all that it reserves, and all that is forbidden there.
@@ -98,6 +112,14 @@ fn lay_open(row: &mut [u8], table: &[u8], n: usize, i: usize, clash: &[u32; 32])
     }
     cover_idle(row, table, n, before);
     words::apart(near, taken)
+}
+
+// The position at index `j`: where the stretch of row `j` begins, or where it ends.
+fn place_of(places: &[u16; 32], j: usize) -> u16
+    requires { j < 32 }
+    ensures { result ≡ get_or places.now j 0 }
+{
+    places[j]
 }
 
 // Forbids in the row of cell `i` all that the rows of these cells reserve.

@@ -209,7 +209,7 @@ pub fn fill_row(row: &mut [u8], slots: usize, channels: usize, load: usize) -> F
 }
 
 // A byte of a row, where an earlier clashing row holds `earlier`.
-pub fn mark_byte(earlier: u8, byte: u8) -> u8
+fn mark(earlier: u8, byte: u8) -> u8
     ensures { result ≡ pick (sends earlier) 2 byte }
 {
     if earlier == 1 { 2 } else { byte }
@@ -227,13 +227,13 @@ pub fn forbid_row(table: &mut [u8], n: usize, j: usize, i: usize, start: usize, 
     let to = i * n;
     let mut p = start;
     while p < end {
-        table[to + p] = mark_byte(table[from + p], table[to + p]);
+        table[to + p] = mark(table[from + p], table[to + p]);
         p += 1;
     }
 }
 
 // A byte of a row, where it takes the marks of an earlier row over, which holds `earlier` there.
-pub fn cover(earlier: u8, byte: u8) -> u8
+fn cover(earlier: u8, byte: u8) -> u8
     ensures { result ≡ pick (eqb earlier 0) byte 2 }
 {
     if earlier == 0 { byte } else { 2 }

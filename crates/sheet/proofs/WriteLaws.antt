@@ -5,11 +5,11 @@ use mathlib.Core.List.{List, [], ◌++◌}
 use native.Mathlib.Omega.{arith}
 use native.Mathlib.Nat.{zero-add}
 use native.Mathlib.Numerals.{add-one}
-use lib.ListN.{length, length-append}
+use lib.ListN.{length, get_or, length-append}
 use lib.Seq.{sets}
 use Rattle.laws.proofs.Stores.{sets-append}
 use Rattle.text.specs.Decimal.{decimal}
-use Rattle.lines.specs.Format.{crlf, column, columns, header, label, cell_line}
+use Rattle.lines.specs.Format.{crlf, bits_of, column, columns, header, label, cell_line}
 use Rattle.putlines.proofs.Steps as putlines
 use Rattle.lines.proofs.Lines.{marks-long}
 use Rattle.site.specs.Record.{site_of, load_at}
@@ -64,6 +64,10 @@ pub lines-plain : (s : Site) (m k : ℕ) → lines_from s k m ≡ lines_from (pl
 unfolding lines_from line_of
 lines-plain s zero k = refl
 lines-plain s (suc m) k = ap (λ (l : List ℕ). line_of s k ++ l) (lines-plain s m (suc k))
+
+pub line_plain : (n : ℕ) (loads reach : List ℕ) (k : ℕ) → line_of (plain n loads reach) k ≡ cell_line n k (get_or loads k 0) (bits_of (get_or reach k 0))
+unfolding line_of
+line_plain n loads reach k = refl
 
 -- how long they are does not hang on the reach
 lines-as-long : (s : Site) (m k : ℕ) → length (lines_from s k m) ≡ length (lines_from (plain s.cells s.loads []) k m)

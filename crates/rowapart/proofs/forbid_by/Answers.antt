@@ -14,7 +14,7 @@ pub loop-p-preserved : goal.loop-p-preserved
 loop-p-preserved c = let below : c.loop-p.p < c.args.n = omega (arith, c.loop-p-test.true, c.requires.sends_in.1) in (
   omega (arith, c.loop-p-test.true),
   simp length-set c.loop-p.invariant.1,
-  forbid-turn _ _ _ _ c.requires.row_len.0 c.requires.row_len.1 c.loop-p.p _ below c.loop-p.invariant.2 c.mark_byte.ensures,
+  forbid-turn _ _ _ _ c.requires.row_len.0 c.requires.row_len.1 c.loop-p.p _ below c.loop-p.invariant.2 c.mark.ensures,
 )
 
 pub shape_of-row : goal.shape_of-row

@@ -12,7 +12,7 @@ loop-p-init c = (c.requires.sends_in.0, refl, half-start _ _ _ _ c.requires.j_lt
 
 pub loop-p-preserved : goal.loop-p-preserved
 loop-p-preserved c = let below : c.loop-p.p < c.args.n = omega (arith, c.loop-p-test.true, c.requires.sends_in.1) in
-    let turned = half-more _ _ _ _ c.requires.j_lt_i.0 c.requires.j_lt_i.1 c.loop-p.p below c.loop-p.invariant.2 c.mark_byte.ensures in (
+    let turned = half-more _ _ _ _ c.requires.j_lt_i.0 c.requires.j_lt_i.1 c.loop-p.p below c.loop-p.invariant.2 c.mark.ensures in (
       omega arith,
       ap length turned ∙ half-long _ _ _ c.args.table.now c.requires.j_lt_i.0 c.requires.j_lt_i.1 (c.loop-p.p + 1),
       turned,
