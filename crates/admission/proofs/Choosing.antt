@@ -15,27 +15,27 @@ use Rattle.theory.specs.Verdict.{class_verdict}
 use Rattle.site.specs.Record.{fault_of}
 use Rattle.site.specs.Reach.{net_of}
 use Rattle.site.specs.declared.Site.{Site}
-use Rattle.site.specs.declared.Fault.TheVariants.{Fine}
+use Rattle.std.specs.Prelude.{Ok, Err}
 use Rattle.site.proofs.Faults.{fine-sized}
 use Rattle.bestset.specs.Code.{Stands}
 use Rattle.bestset.proofs.Problem.{best-in-is}
 use Rattle.flowlist.specs.declared.Flow.{Flow}
 use Rattle.admission.specs.Admit.{refused_in, first_bad_in, is_nested, answer_from}
 use Rattle.admission.specs.Code.{best_laid, chosen_in}
-use Rattle.admission.specs.declared.AdmitAnswer.TheVariants.{Admitted}
 use Rattle.admission.proofs.Answer.{bad-answer, set-answer}
 use Rattle.admission.proofs.Arrays.{inside, same-best}
 
 module _ (cells slots : ℕ) (f : ℕ → Flow) (n : ℕ) (rows rooms : List ℕ) where
-  pub chosen-bad : (bad : ℕ) → bad ≡ first_bad_in cells slots f n → bad < n → chosen_in cells slots f n rows rooms ≡ refused_in cells slots (f bad) (bad + 1)
+  pub chosen-bad : (bad : ℕ) → bad ≡ first_bad_in cells slots f n → bad < n
+      → chosen_in cells slots f n rows rooms ≡ Err (refused_in cells slots (f bad) (bad + 1))
   unfolding chosen_in
   chosen-bad bad b l = rw (← b, lt-ltb bad n l)
 
-  pub chosen-set : n ≤ first_bad_in cells slots f n → chosen_in cells slots f n rows rooms ≡ Admitted (best_laid slots f n rows rooms)
+  pub chosen-set : n ≤ first_bad_in cells slots f n → chosen_in cells slots f n rows rooms ≡ Ok (best_laid slots f n rows rooms)
   unfolding chosen_in
   chosen-set l = rw (le-ltb (first_bad_in cells slots f n) n l)
 
-module _ (start : Net) (s : Site) (f : ℕ → Flow) (n : ℕ) (fine : fault_of s ≡ Fine) (few : n ≤ 16)
+module _ (start : Net) (s : Site) (f : ℕ → Flow) (n : ℕ) (fine : fault_of s ≡ Ok tt) (few : n ≤ 16)
     (class : is_nested (class_verdict (net_of s) everyone) ≡ true)
     (rows rooms : List ℕ) (stand : (own : List ℕ) → ((k : ℕ) → k < 16 → get_or own k 0 < s.cells) → Stands start rooms rows own) where
   abbrev bad : ℕ
@@ -44,7 +44,7 @@ module _ (start : Net) (s : Site) (f : ℕ → Flow) (n : ℕ) (fine : fault_of 
   best_is : n ≤ bad → chosen_in s.cells s.slots f n rows rooms ≡ answer_from start s f n
   best_is l =
       chosen-set s.cells s.slots f n rows rooms l
-      ∙ ap Admitted
+      ∙ ap Ok
       (best-in-is rooms rows _ _ _ n few start (stand _ (inside s.cells s.slots f n few l (fine-sized s fine).cells_some))
       ∙ same-best s.cells s.slots f n few l start)
       ∙ sym (set-answer start s f n fine few class l)

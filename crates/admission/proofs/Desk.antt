@@ -17,8 +17,9 @@ use Rattle.admitting.specs.Best.{allowed_beside, best_of, best_beside}
 use Rattle.flowlist.specs.declared.Flow.{Flow}
 use Rattle.admission.specs.Admit.{bad_in, refused_in, first_bad_in, answer_from, admit_answer}
 use Rattle.admission.specs.Beside.{beside_in, beside_answer}
-use Rattle.admission.specs.declared.BesideAnswer.TheVariants.{Answered, Over}
-use Rattle.admission.specs.declared.AdmitAnswer.TheVariants.{Admitted, TooMany, NotNested, BadCell, BadFlow, BigShare}
+use Rattle.std.specs.Prelude.{Ok, Err}
+use Rattle.admission.specs.declared.BesideError.TheVariants.{Over, Admit}
+use Rattle.admission.specs.declared.AdmitError.TheVariants.{TooMany, NotNested, BadCell, BadFlow, BigShare}
 
 -- 32 numbers, the first of them these
 abbrev rows : List ℕ → List ℕ
@@ -36,7 +37,7 @@ abbrev three : List Flow
 three = flow 1 1 2 1 1 ∷ flow 2 2 2 1 1 ∷ flow 1 2 2 1 5 ∷ []
 
 -- the set {2,3} worth 6
-pub desk : admit_answer bare three ≡ Admitted 6
+pub desk : admit_answer bare three ≡ Ok 6
 unfolding answer_from fault_of size_ok rule_ok up_to extra_load bad_row extra_blocked row_bad first_of class_verdict first_split split_of splits second clash_in
     reaches
     first_bad_in
@@ -47,7 +48,7 @@ desk = refl
 abbrev narrow : Site
 narrow = site_of 2 2 1 (rows (2 ∷ 2 ∷ 0 ∷ 0 ∷ 0 ∷ [])) (rows (0 ∷ 0 ∷ 0 ∷ 0 ∷ 0 ∷ [])) (1 ∷ replicate 31 0) 1
 
-pub one-open : admit_answer narrow three ≡ Admitted 1
+pub one-open : admit_answer narrow three ≡ Ok 1
 unfolding answer_from fault_of size_ok rule_ok up_to extra_load bad_row extra_blocked row_bad first_of class_verdict first_split split_of splits second clash_in
     reaches
     first_bad_in
@@ -59,7 +60,7 @@ one-open = refl
 abbrev twice : List Flow
 twice = flow 1 1 2 2 3 ∷ flow 1 1 2 1 2 ∷ []
 
-pub repeats-decide : (admit_answer bare twice ≡ Admitted 1) × (admit_answer bare (flow 1 1 2 1 3 ∷ flow 1 1 2 1 2 ∷ []) ≡ Admitted 3)
+pub repeats-decide : (admit_answer bare twice ≡ Ok 1) × (admit_answer bare (flow 1 1 2 1 3 ∷ flow 1 1 2 1 2 ∷ []) ≡ Ok 3)
 unfolding answer_from fault_of size_ok rule_ok up_to extra_load bad_row extra_blocked row_bad first_of class_verdict first_split split_of splits second clash_in
     reaches
     first_bad_in bad_in refused_in share_of rounded_up best_beside best_of allowed_beside sum overloaded lowest_over load_verdict
@@ -76,7 +77,7 @@ nine =
     ∷ flow 3 6 9 1 30 ∷ []
 
 -- the set {2,3,4,8,9}, worth 177
-pub table-two : admit_answer row nine ≡ Admitted 398
+pub table-two : admit_answer row nine ≡ Ok 398
 unfolding answer_from fault_of size_ok rule_ok up_to extra_load bad_row extra_blocked row_bad first_of class_verdict first_split split_of splits second clash_in
     reaches
     first_bad_in
@@ -88,10 +89,11 @@ abbrev spare : Site
 spare = site_of 3 3 2 (rows (1 ∷ 0 ∷ 1 ∷ 0 ∷ 0 ∷ [])) (rows (4 ∷ 4 ∷ 0 ∷ 0 ∷ 0 ∷ [])) empty_set 1
 
 pub bad-input :
-    (admit_answer row [] ≡ Admitted 0) × (admit_answer row (flow 1 1 1 1 0 ∷ flow 2 1 1 1 0 ∷ []) ≡ Admitted 0)
-    × (admit_answer row (flow 1 1 1 1 9 ∷ flow 4 1 1 1 9 ∷ []) ≡ BadCell 2)
-    × (admit_answer row (flow 1 1 1 5 9 ∷ []) ≡ BadFlow 1) × (admit_answer row (flow 1 1 1 1 9 ∷ flow 1 1 1 1 9 ∷ flow 2 65535 1 1 9 ∷ []) ≡ BigShare 3)
-    × (admit_answer spare (flow 1 1 1 1 9 ∷ []) ≡ NotNested) × (admit_answer spare (replicate 17 (flow 1 1 1 1 9)) ≡ TooMany)
+    (admit_answer row [] ≡ Ok 0) × (admit_answer row (flow 1 1 1 1 0 ∷ flow 2 1 1 1 0 ∷ []) ≡ Ok 0)
+    × (admit_answer row (flow 1 1 1 1 9 ∷ flow 4 1 1 1 9 ∷ []) ≡ Err (BadCell 2))
+    × (admit_answer row (flow 1 1 1 5 9 ∷ []) ≡ Err (BadFlow 1))
+    × (admit_answer row (flow 1 1 1 1 9 ∷ flow 1 1 1 1 9 ∷ flow 2 65535 1 1 9 ∷ []) ≡ Err (BigShare 3))
+    × (admit_answer spare (flow 1 1 1 1 9 ∷ []) ≡ Err NotNested) × (admit_answer spare (replicate 17 (flow 1 1 1 1 9)) ≡ Err TooMany)
 unfolding answer_from fault_of size_ok rule_ok up_to extra_load bad_row extra_blocked row_bad first_of class_verdict first_split split_of splits second clash_in
     reaches
     first_bad_in
@@ -103,7 +105,7 @@ bad-input = (refl, refl, refl, refl, refl, refl, refl)
 abbrev drift : Site
 drift = site_of 4 3 2 (rows (0 ∷ 0 ∷ 0 ∷ 0 ∷ 0 ∷ [])) (rows (10 ∷ 4 ∷ 0 ∷ 0 ∷ 0 ∷ [])) empty_set 1
 
-pub drift-admitted : admit_answer drift (flow 1 1 1 1 9 ∷ flow 2 1 1 1 9 ∷ flow 4 1 1 1 9 ∷ []) ≡ Admitted 7
+pub drift-admitted : admit_answer drift (flow 1 1 1 1 9 ∷ flow 2 1 1 1 9 ∷ flow 4 1 1 1 9 ∷ []) ≡ Ok 7
 unfolding answer_from fault_of size_ok rule_ok up_to extra_load bad_row extra_blocked row_bad first_of class_verdict first_split split_of splits second clash_in
     reaches
     first_bad_in
@@ -120,11 +122,11 @@ abbrev asking : List Flow
 asking = flow 1 1 2 1 5 ∷ flow 2 1 4 1 3 ∷ flow 2 1 4 1 4 ∷ []
 
 pub on-top :
-    (beside_answer (running 1) asking ≡ Answered (Admitted 6)) × (admit_answer (running 1) asking ≡ Admitted 7)
-    × (beside_answer (running 3) asking ≡ Answered (Admitted 0)) × (beside_answer (running 5) (flow 0 0 0 0 0 ∷ []) ≡ Over 2 2)
-    × (beside_answer (running 5) (replicate 17 (flow 1 1 1 1 9)) ≡ Answered TooMany)
-    × (beside_answer (running 1) (flow 1 1 2 1 5 ∷ flow 3 1 1 1 1 ∷ []) ≡ Answered (BadCell 2))
-    × (beside_answer spare (flow 1 1 1 1 9 ∷ []) ≡ Answered NotNested)
+    (beside_answer (running 1) asking ≡ Ok 6) × (admit_answer (running 1) asking ≡ Ok 7)
+    × (beside_answer (running 3) asking ≡ Ok 0) × (beside_answer (running 5) (flow 0 0 0 0 0 ∷ []) ≡ Err (Over 2 2))
+    × (beside_answer (running 5) (replicate 17 (flow 1 1 1 1 9)) ≡ Err (Admit TooMany))
+    × (beside_answer (running 1) (flow 1 1 2 1 5 ∷ flow 3 1 1 1 1 ∷ []) ≡ Err (Admit (BadCell 2)))
+    × (beside_answer spare (flow 1 1 1 1 9 ∷ []) ≡ Err (Admit NotNested))
 unfolding answer_from beside_in fault_of size_ok rule_ok up_to extra_load bad_row extra_blocked row_bad first_of class_verdict first_split split_of splits
     second clash_in
     reaches
@@ -134,7 +136,7 @@ on-top = (refl, refl, refl, refl, refl, refl, refl)
 
 -- a cell without flows counts where it has a load: cell 2 of two that clash has load 3 of 4, and one flow of share 2 in cell 1 would put it over
 pub loaded-cell : beside_answer (site_of 2 4 1 (rows (0 ∷ 3 ∷ 0 ∷ 0 ∷ 0 ∷ [])) (rows (0 ∷ 1 ∷ 0 ∷ 0 ∷ 0 ∷ [])) empty_set 1) (flow 1 1 2 1 5 ∷ [])
-    ≡ Answered (Admitted 0)
+    ≡ Ok 0
 unfolding answer_from beside_in fault_of size_ok rule_ok up_to extra_load bad_row extra_blocked row_bad first_of class_verdict first_split split_of splits
     second clash_in
     reaches

@@ -1,185 +1,134 @@
 -- The numbers and values tell the answers apart among those that refuse the record, and among those that do not: a flow's 2 has the number and the place of a
--- record's 2, so that a caller in C asks for the record's fault to know which it is. `Refused Fine` looks like no fault, and no call answers it.
+-- record's 2, so that a caller in C asks for the record's fault to know which it is.
 -- Assumes nothing.
-use Prim.Native.Nat.{ℕ, ◌+◌}
+use Prim.Native.Nat.{ℕ}
 use mathlib.Core.Bool.{Bool, true, false, false≢true}
 use mathlib.Core.List.{List, [], ◌∷◌, map}
 use mathlib.Core.Path.{◌≡◌, refl, sym, ap, ap₂, ◌∙◌}
 use native.Mathlib.Omega.{arith}
-use lib.Dec.{eqb, ltb}
-use lib.ListN.{get_or, length}
+use lib.Dec.{eqb}
+use lib.ListN.{get_or}
+use Rattle.std.specs.Prelude.{Result, Ok, Err}
 use Rattle.laws.specs.Choice.{pick}
-use Rattle.theory.specs.Net.{Net, everyone, loaded}
-use Rattle.theory.specs.Verdict.{LoadVerdict, holds, over, load_verdict, class_verdict}
-use Rattle.site.specs.Record.{up_to, fault_of}
-use Rattle.site.specs.Reach.{net_of}
 use Rattle.site.specs.Given.{Given}
-use Rattle.site.specs.declared.Site.{Site}
 use Rattle.site.specs.declared.Fault.{Fault}
-use Rattle.site.specs.declared.Fault.TheVariants.{Fine, Size, Rule, Load, Reach, Blocked}
+use Rattle.site.specs.declared.Fault.TheVariants.{Size, Rule, Load, Reach, Blocked}
 use Rattle.site.proofs.Given.{fault_from}
-use Rattle.site.proofs.PassedOn.{proper-call, proper-either}
-use Rattle.shares.specs.declared.ShareAnswer.{ShareAnswer}
-use Rattle.shares.specs.declared.ShareAnswer.TheVariants as share
-use Rattle.admitting.specs.Best.{idle, best_beside}
-use Rattle.flowlist.specs.List.{flow_at}
-use Rattle.flowlist.specs.declared.Flow.{Flow}
-use Rattle.admission.specs.Admit.{share_in, share_refused, refused_in, first_bad_in, flows_asked, is_nested, answer_from, admit_answer}
-use Rattle.admission.specs.Beside.{is_asked, beside_where, beside_in, beside_answer}
-use Rattle.admission.specs.Given.{admit_given, admit_proper, of_record, beside_given, beside_proper, beside_record}
-use Rattle.admission.specs.declared.BesideAnswer.{BesideAnswer}
-use Rattle.admission.specs.declared.BesideAnswer.TheVariants.{Answered, Over}
-use Rattle.admission.specs.declared.AdmitAnswer.{AdmitAnswer}
-use Rattle.admission.specs.declared.AdmitAnswer.TheVariants.{Admitted, TooMany, NotNested, BadCell, BadFlow, BigShare, Refused}
+use Rattle.admission.specs.Beside.{as_beside}
+use Rattle.admission.specs.Given.{admit_given, of_record, beside_given, beside_record}
+use Rattle.admission.specs.declared.AdmitError.{AdmitError}
+use Rattle.admission.specs.declared.AdmitError.TheVariants.{TooMany, NotNested, BadCell, BadFlow, BigShare, Record}
+use Rattle.admission.specs.declared.BesideError.{BesideError}
+use Rattle.admission.specs.declared.BesideError.TheVariants.{Over, Admit}
 
 -- the answer with this number and these values, once it is known whether the record is refused
-abbrev read_back : Bool → Given → AdmitAnswer
+abbrev pub read_back : Bool → Given → Result ℕ AdmitError
 read_back whole g =
-    pick whole (Refused (fault_from g))
-    (pick (eqb g.number 0) (Admitted (get_or g.values 0 0))
-    (pick (eqb g.number 18) TooMany
-    (pick (eqb g.number 19) NotNested
-    (pick (eqb g.number 2) (BadCell (get_or g.values 0 0)) (pick (eqb g.number 15) (BadFlow (get_or g.values 0 0))
-    (BigShare (get_or g.values 0 0)))))))
+    pick whole (Err (Record (fault_from g)))
+    (pick (eqb g.number 0) (Ok (get_or g.values 0 0))
+    (pick (eqb g.number 18) (Err TooMany)
+    (pick (eqb g.number 19) (Err NotNested)
+    (pick (eqb g.number 2) (Err (BadCell (get_or g.values 0 0))) (pick (eqb g.number 15) (Err (BadFlow (get_or g.values 0 0)))
+    (Err (BigShare (get_or g.values 0 0))))))))
 
-read-refusal : (f : Fault) → admit_proper (Refused f) ≡ true → read_back true (admit_given (Refused f)) ≡ Refused f
-read-refusal Fine h = absurd (false≢true h)
-read-refusal Size h = refl
-read-refusal Rule h = refl
-read-refusal (Load k) h = refl
-read-refusal (Reach k) h = refl
-read-refusal (Blocked k) h = refl
+read-refusal : (f : Fault) → read_back true (admit_given (Err (Record f))) ≡ Err (Record f)
+read-refusal Size = refl
+read-refusal Rule = refl
+read-refusal (Load k) = refl
+read-refusal (Reach k) = refl
+read-refusal (Blocked k) = refl
 
-read_back-law : (a : AdmitAnswer) → admit_proper a ≡ true → read_back (of_record a) (admit_given a) ≡ a
-read_back-law (Admitted set) h = refl
-read_back-law TooMany h = refl
-read_back-law NotNested h = refl
-read_back-law (BadCell flow) h = refl
-read_back-law (BadFlow flow) h = refl
-read_back-law (BigShare flow) h = refl
-read_back-law (Refused f) h = read-refusal f h
+read_back-law : (a : Result ℕ AdmitError) → read_back (of_record a) (admit_given a) ≡ a
+read_back-law (Ok set) = refl
+read_back-law (Err TooMany) = refl
+read_back-law (Err NotNested) = refl
+read_back-law (Err (BadCell flow)) = refl
+read_back-law (Err (BadFlow flow)) = refl
+read_back-law (Err (BigShare flow)) = refl
+read_back-law (Err (Record f)) = read-refusal f
 
-pub admit-apart : (a b : AdmitAnswer) → admit_proper a ≡ true → admit_proper b ≡ true → of_record a ≡ of_record b → admit_given a ≡ admit_given b → a ≡ b
-admit-apart a b p q r e = sym (read_back-law a p) ∙ ap₂ read_back r e ∙ read_back-law b q
+pub admit-apart : (a b : Result ℕ AdmitError) → of_record a ≡ of_record b → admit_given a ≡ admit_given b → a ≡ b
+admit-apart a b r e = sym (read_back-law a) ∙ ap₂ read_back r e ∙ read_back-law b
 
 -- 0 with one value is a set, and nothing else
-pub done-set : (a : AdmitAnswer) (x : ℕ) → admit_given a ≡ record { number = 0; values = x ∷ [] } → a ≡ Admitted x
-done-set (Admitted set) x e = let same : set ≡ x = ap (λ (g : Given). get_or g.values 0 0) e in ap Admitted same
-done-set TooMany x e = absurd (omega (arith, ap (λ (g : Given). g.number) e))
-done-set NotNested x e = absurd (omega (arith, ap (λ (g : Given). g.number) e))
-done-set (BadCell flow) x e = absurd (omega (arith, ap (λ (g : Given). g.number) e))
-done-set (BadFlow flow) x e = absurd (omega (arith, ap (λ (g : Given). g.number) e))
-done-set (BigShare flow) x e = absurd (omega (arith, ap (λ (g : Given). g.number) e))
-done-set (Refused Fine) x e = absurd (omega (arith, ap (λ (g : Given). length g.values) e))
-done-set (Refused Size) x e = absurd (omega (arith, ap (λ (g : Given). g.number) e))
-done-set (Refused Rule) x e = absurd (omega (arith, ap (λ (g : Given). g.number) e))
-done-set (Refused (Load k)) x e = absurd (omega (arith, ap (λ (g : Given). g.number) e))
-done-set (Refused (Reach k)) x e = absurd (omega (arith, ap (λ (g : Given). g.number) e))
-done-set (Refused (Blocked k)) x e = absurd (omega (arith, ap (λ (g : Given). g.number) e))
+pub done-set : (a : Result ℕ AdmitError) (x : ℕ) → admit_given a ≡ record { number = 0; values = x ∷ [] } → a ≡ Ok x
+done-set (Ok set) x e = let same : set ≡ x = ap (λ (g : Given). get_or g.values 0 0) e in ap Ok same
+done-set (Err TooMany) x e = absurd (omega (arith, ap (λ (g : Given). g.number) e))
+done-set (Err NotNested) x e = absurd (omega (arith, ap (λ (g : Given). g.number) e))
+done-set (Err (BadCell flow)) x e = absurd (omega (arith, ap (λ (g : Given). g.number) e))
+done-set (Err (BadFlow flow)) x e = absurd (omega (arith, ap (λ (g : Given). g.number) e))
+done-set (Err (BigShare flow)) x e = absurd (omega (arith, ap (λ (g : Given). g.number) e))
+done-set (Err (Record Size)) x e = absurd (omega (arith, ap (λ (g : Given). g.number) e))
+done-set (Err (Record Rule)) x e = absurd (omega (arith, ap (λ (g : Given). g.number) e))
+done-set (Err (Record (Load k))) x e = absurd (omega (arith, ap (λ (g : Given). g.number) e))
+done-set (Err (Record (Reach k))) x e = absurd (omega (arith, ap (λ (g : Given). g.number) e))
+done-set (Err (Record (Blocked k))) x e = absurd (omega (arith, ap (λ (g : Given). g.number) e))
 
 -- a flow's 2 and the record's 2 have the same number, and the same value where the flow and the cell have the same number
-pub two-alike : (k : ℕ) → admit_given (BadCell k) ≡ admit_given (Refused (Load k))
+pub two-alike : (k : ℕ) → admit_given (Err (BadCell k)) ≡ admit_given (Err (Record (Load k)))
 two-alike k = refl
 
--- no call answers a refusal with no fault
-share-proper : (number : ℕ) (a : ShareAnswer) → admit_proper (share_refused number a) ≡ true
-share-proper number (share.Done s q d) = refl
-share-proper number share.OutOfRange = refl
-share-proper number share.BadFlow = refl
-share-proper number share.BigShare = refl
-
-refused-proper : (cells slots : ℕ) (f : Flow) (number : ℕ) → admit_proper (refused_in cells slots f number) ≡ true
-unfolding refused_in
-refused-proper cells slots f number =
-    proper-either admit_proper (up_to cells f.cell) (share_refused number (share_in slots f)) (BadCell number) (share-proper number (share_in slots f)) refl
-
-pub answer-proper : (start : Net) (s : Site) (f : ℕ → Flow) (n : ℕ) → admit_proper (answer_from start s f n) ≡ true
-unfolding answer_from
-answer-proper start s f n =
-    let bad = first_bad_in s.cells s.slots f n in
-    proper-call admit_proper Refused (λ g. refl) (fault_of s) _
-    (proper-either admit_proper (ltb 16 n) TooMany _ refl
-    (proper-either admit_proper (is_nested (class_verdict (net_of s) everyone)) _ NotNested
-    (proper-either admit_proper (ltb bad n) (refused_in s.cells s.slots (f bad) (bad + 1))
-    (Admitted (best_beside start (flows_asked s.slots f n)))
-    (refused-proper s.cells s.slots (f bad) (bad + 1)) refl) refl))
-
-pub admit-proper : (s : Site) (fs : List Flow) → admit_proper (admit_answer s fs) ≡ true
-admit-proper s fs = answer-proper (idle (net_of s)) s (flow_at fs) (length fs)
-
 -- the numbers and the values, in their order, of an answer of each kind
-abbrev answers : (set flow cell row position : ℕ) → List AdmitAnswer
+abbrev answers : (set flow cell row position : ℕ) → List (Result ℕ AdmitError)
 answers set flow cell row position =
-    Admitted set ∷ TooMany ∷ NotNested ∷ BadCell flow ∷ BadFlow flow ∷ BigShare flow ∷ Refused Size ∷ Refused Rule ∷ Refused (Load cell) ∷ Refused (Reach row)
-    ∷ Refused (Blocked position) ∷ []
+    Ok set ∷ Err TooMany ∷ Err NotNested ∷ Err (BadCell flow) ∷ Err (BadFlow flow) ∷ Err (BigShare flow) ∷ Err (Record Size) ∷ Err (Record Rule)
+    ∷ Err (Record (Load cell)) ∷ Err (Record (Reach row)) ∷ Err (Record (Blocked position)) ∷ []
 
 pub admit-numbers : (set flow cell row position : ℕ)
-    → (map (λ (a : AdmitAnswer). (admit_given a).number) (answers set flow cell row position) ≡ 0 ∷ 18 ∷ 19 ∷ 2 ∷ 15 ∷ 16 ∷ 1 ∷ 24 ∷ 2 ∷ 3 ∷ 20 ∷ [])
-    × (map (λ (a : AdmitAnswer). (admit_given a).values) (answers set flow cell row position)
+    → (map (λ (a : Result ℕ AdmitError). (admit_given a).number) (answers set flow cell row position)
+    ≡ 0 ∷ 18 ∷ 19 ∷ 2 ∷ 15 ∷ 16 ∷ 1 ∷ 24 ∷ 2 ∷ 3 ∷ 20 ∷ [])
+    × (map (λ (a : Result ℕ AdmitError). (admit_given a).values) (answers set flow cell row position)
     ≡ (set ∷ []) ∷ [] ∷ [] ∷ (flow ∷ []) ∷ (flow ∷ []) ∷ (flow ∷ []) ∷ [] ∷ [] ∷ (cell ∷ []) ∷ (row ∷ []) ∷ (position ∷ []) ∷ [])
 admit-numbers set flow cell row position = (refl, refl)
 
 -- ---- on top of the loads: 5 besides
 
-load_from : Given → BesideAnswer
-load_from g = Over (get_or g.values 0 0) (get_or g.values 1 0)
-
 -- 5 is no admission's number
-not_five : (a : AdmitAnswer) → eqb (admit_given a).number 5 ≡ false
-not_five (Admitted set) = refl
-not_five TooMany = refl
-not_five NotNested = refl
-not_five (BadCell flow) = refl
-not_five (BadFlow flow) = refl
-not_five (BigShare flow) = refl
-not_five (Refused Fine) = refl
-not_five (Refused Size) = refl
-not_five (Refused Rule) = refl
-not_five (Refused (Load k)) = refl
-not_five (Refused (Reach k)) = refl
-not_five (Refused (Blocked k)) = refl
+not_five : (a : Result ℕ AdmitError) → eqb (admit_given a).number 5 ≡ false
+not_five (Ok set) = refl
+not_five (Err TooMany) = refl
+not_five (Err NotNested) = refl
+not_five (Err (BadCell flow)) = refl
+not_five (Err (BadFlow flow)) = refl
+not_five (Err (BigShare flow)) = refl
+not_five (Err (Record Size)) = refl
+not_five (Err (Record Rule)) = refl
+not_five (Err (Record (Load k))) = refl
+not_five (Err (Record (Reach k))) = refl
+not_five (Err (Record (Blocked k))) = refl
 
-abbrev beside_back : Bool → Given → BesideAnswer
-beside_back whole g = pick (eqb g.number 5) (load_from g) (Answered (read_back whole g))
+abbrev beside_back : Bool → Given → Result ℕ BesideError
+beside_back whole g = pick (eqb g.number 5) (Err (Over (get_or g.values 0 0) (get_or g.values 1 0))) (as_beside (read_back whole g))
 
-beside_back-law : (a : BesideAnswer) → beside_proper a ≡ true → beside_back (beside_record a) (beside_given a) ≡ a
-unfolding load_from
-beside_back-law (Answered a) h = rw (not_five a) (ap Answered (read_back-law a h))
-beside_back-law (Over cell excess) h = refl
+beside_back-law : (a : Result ℕ BesideError) → beside_back (beside_record a) (beside_given a) ≡ a
+beside_back-law (Ok set) = refl
+beside_back-law (Err (Admit refused)) = rw (not_five (Err refused)) (ap as_beside (read_back-law (Err refused)))
+beside_back-law (Err (Over cell excess)) = refl
 
-pub beside-apart : (a b : BesideAnswer) → beside_proper a ≡ true → beside_proper b ≡ true → beside_record a ≡ beside_record b → beside_given a ≡ beside_given b
-    → a ≡ b
-beside-apart a b p q r e = sym (beside_back-law a p) ∙ ap₂ beside_back r e ∙ beside_back-law b q
+pub beside-apart : (a b : Result ℕ BesideError) → beside_record a ≡ beside_record b → beside_given a ≡ beside_given b → a ≡ b
+beside-apart a b r e = sym (beside_back-law a) ∙ ap₂ beside_back r e ∙ beside_back-law b
 
 -- 0 with one value is a set, and nothing else
-pub beside-done : (a : BesideAnswer) (x : ℕ) → beside_given a ≡ record { number = 0; values = x ∷ [] } → a ≡ Answered (Admitted x)
-beside-done (Answered a) x e = ap Answered (done-set a x e)
-beside-done (Over cell excess) x e = absurd (omega (arith, ap (λ (g : Given). g.number) e))
+pub beside-done : (a : Result ℕ BesideError) (x : ℕ) → beside_given a ≡ record { number = 0; values = x ∷ [] } → a ≡ Ok x
+beside-done (Ok set) x e = ap as_beside (done-set (Ok set) x e)
+beside-done (Err (Admit refused)) x e = ap as_beside (done-set (Err refused) x e)
+beside-done (Err (Over cell excess)) x e = absurd (omega (arith, ap (λ (g : Given). g.number) e))
 
 -- 5 is given where the loads are over, and nowhere else
-pub beside-five : (a : BesideAnswer) (cell excess : ℕ) → beside_given a ≡ record { number = 5; values = cell ∷ excess ∷ [] } → a ≡ Over cell excess
-beside-five (Answered a) cell excess e =
-    let is : eqb (admit_given a).number 5 ≡ true = ap (λ (g : Given). eqb g.number 5) e in
-    absurd (false≢true (sym (not_five a) ∙ is))
-beside-five (Over c m) cell excess e =
+pub beside-five : (a : Result ℕ BesideError) (cell excess : ℕ) → beside_given a ≡ record { number = 5; values = cell ∷ excess ∷ [] }
+    → a ≡ Err (Over cell excess)
+beside-five (Ok set) cell excess e = absurd (omega (arith, ap (λ (g : Given). g.number) e))
+beside-five (Err (Admit refused)) cell excess e =
+    let is : eqb (admit_given (Err refused)).number 5 ≡ true = ap (λ (g : Given). eqb g.number 5) e in
+    absurd (false≢true (sym (not_five (Err refused)) ∙ is))
+beside-five (Err (Over c m)) cell excess e =
     let one : c ≡ cell = ap (λ (g : Given). get_or g.values 0 0) e in
     let two : m ≡ excess = ap (λ (g : Given). get_or g.values 1 0) e in
-    ap₂ Over one two
-
-pub beside-proper : (s : Site) (fs : List Flow) → beside_proper (beside_answer s fs) ≡ true
-unfolding beside_in
-beside-proper s fs =
-    at (is_asked s (length fs)) (load_verdict (net_of s) (loaded (net_of s))) (answer_from (net_of s) s (flow_at fs) (length fs))
-    (answer-proper (net_of s) s (flow_at fs) (length fs))
-  where
-    at : (t : Bool) (v : LoadVerdict) (a : AdmitAnswer) → admit_proper a ≡ true → beside_proper (beside_where t v a) ≡ true
-    at true (over i m) a h = refl
-    at true holds a h = h
-    at false v a h = h
+    ap₂ (λ (x y : ℕ). Err (Over x y)) one two
 
 pub beside-numbers : (set flow cell excess row position : ℕ)
-    → (map (λ (a : BesideAnswer). (beside_given a).number) (Over cell excess ∷ map Answered (answers set flow cell row position))
+    → (map (λ (a : Result ℕ BesideError). (beside_given a).number) (Err (Over cell excess) ∷ map as_beside (answers set flow cell row position))
     ≡ 5 ∷ 0 ∷ 18 ∷ 19 ∷ 2 ∷ 15 ∷ 16 ∷ 1 ∷ 24 ∷ 2 ∷ 3 ∷ 20 ∷ [])
-    × (map (λ (a : BesideAnswer). (beside_given a).values) (Over cell excess ∷ map Answered (answers set flow cell row position))
+    × (map (λ (a : Result ℕ BesideError). (beside_given a).values) (Err (Over cell excess) ∷ map as_beside (answers set flow cell row position))
     ≡ (cell ∷ excess ∷ []) ∷ (set ∷ []) ∷ [] ∷ [] ∷ (flow ∷ []) ∷ (flow ∷ []) ∷ (flow ∷ []) ∷ [] ∷ [] ∷ (cell ∷ []) ∷ (row ∷ []) ∷ (position ∷ []) ∷ [])
 beside-numbers set flow cell excess row position = (refl, refl)

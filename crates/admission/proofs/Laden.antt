@@ -20,7 +20,7 @@ use Rattle.theory.specs.Net.{Net, loaded, LoadTest}
 use Rattle.site.specs.Record.{site_of, positions, load_at, fault_of}
 use Rattle.site.specs.Reach.{clash_of, is_open, net_of}
 use Rattle.site.specs.declared.Site.{Site}
-use Rattle.site.specs.declared.Fault.TheVariants.{Fine}
+use Rattle.std.specs.Prelude.{Ok}
 use Rattle.site.proofs.Accepted.{fine-sound, sound-fine, fine-loads}
 use Rattle.site.proofs.Faults.{fine-sized}
 use Rattle.admitting.specs.Best.{load_in, beside, laden, allowed_beside, allowed}
@@ -34,7 +34,7 @@ use Rattle.admission.specs.Means.{Settled}
 use Rattle.admission.proofs.OneFlow.{shared-amount}
 
 -- ---- a site with other loads, of which none stands beyond I
-module _ (s : Site) (fine : fault_of s ≡ Fine) (load : ℕ → ℕ) (none : (i : ℕ) → s.cells ≤ i → load i ≡ 0) where
+module _ (s : Site) (fine : fault_of s ≡ Ok tt) (load : ℕ → ℕ) (none : (i : ℕ) → s.cells ≤ i → load i ≡ 0) where
   abbrev made : Site
   made = site_of s.cells s.slots s.channels (list_of load 32) s.reach s.blocked s.rule
 
@@ -54,7 +54,7 @@ module _ (s : Site) (fine : fault_of s ≡ Fine) (load : ℕ → ℕ) (none : (i
   made-net =
       ap (λ (l : ℕ → ℕ). record { cells = s.cells; width = positions s; load = l; clash = clash_of s; usable = is_open s.blocked }) (fun_ext made-load)
 
-  made-fine : fault_of made ≡ Fine
+  made-fine : fault_of made ≡ Ok tt
   made-fine =
       let sound = fine-sound s fine in
       sound-fine made (record {
@@ -90,7 +90,7 @@ module _ (s : Site) (fs : List Flow) (settled : Settled s fs) (x : ℕ) where
       ap (λ b. pick b (amount (flow_share s (flow_at fs k))) 0) apart)
       ∙ total-zero (length fs) x
 
-  abbrev fine : fault_of s ≡ Fine
+  abbrev fine : fault_of s ≡ Ok tt
   fine = settled.looked.fine
 
   -- each load is the shares in its cell
@@ -102,7 +102,7 @@ module _ (s : Site) (fs : List Flow) (settled : Settled s fs) (x : ℕ) where
       ap (λ (load : ℕ → ℕ). record { cells = s.cells; width = positions s; load = load; clash = clash_of s; usable = is_open s.blocked })
       (fun_ext (λ i. let same = laden-load i in omega (arith, same)))
 
-  pub laden-fine : fault_of (laden_site s fs x) ≡ Fine
+  pub laden-fine : fault_of (laden_site s fs x) ≡ Ok tt
   laden-fine = made-fine s fine (load_in (flows_of s fs) x) no_load
 
   -- a set is allowed exactly where the load test holds for the site that it makes
@@ -139,7 +139,7 @@ module _ (s : Site) (fs : List Flow) (settled : Settled s fs) (x : ℕ) where
 
 -- ---- the same on top of the loads. A record has 32 of them, and an accepted one none beyond I
 module _ (s : Site) (fs : List Flow) (settled : Settled s fs) (long : length s.loads ≡ 32) (x : ℕ) where
-  abbrev accepted : fault_of s ≡ Fine
+  abbrev accepted : fault_of s ≡ Ok tt
   accepted = settled.looked.fine
 
   spare-load : (i : ℕ) → s.cells ≤ i → load_at s i ≡ 0
@@ -159,7 +159,7 @@ module _ (s : Site) (fs : List Flow) (settled : Settled s fs) (long : length s.l
   pub beside-net : net_of (beside_site s fs x) ≡ beside (net_of s) (flows_of s fs) x
   beside-net = made-net s accepted joined none-joined
 
-  pub beside-fine : fault_of (beside_site s fs x) ≡ Fine
+  pub beside-fine : fault_of (beside_site s fs x) ≡ Ok tt
   beside-fine = made-fine s accepted joined none-joined
 
   pub beside-allowed : allowed_beside (net_of s) (flows_of s fs) x ≡ true ↔ LoadTest (net_of (beside_site s fs x)) (loaded (net_of (beside_site s fs x)))

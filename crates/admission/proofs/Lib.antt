@@ -11,6 +11,7 @@ pub mod OneFlow
 pub mod Meaning
 pub mod Beside
 pub mod Over
+pub mod OnTop
 pub mod BesideMeans
 pub mod Laden
 pub mod Desk

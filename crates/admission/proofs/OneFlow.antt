@@ -15,8 +15,11 @@ use Rattle.site.specs.declared.Site.{Site}
 use Rattle.site.proofs.Faults.{up-to, up-to-is}
 use Rattle.shares.specs.Given.{share_given}
 use Rattle.shares.specs.Means.{ShareMeans}
-use Rattle.shares.specs.declared.ShareAnswer.{ShareAnswer}
-use Rattle.shares.specs.declared.ShareAnswer.TheVariants as share
+use Rattle.shares.specs.declared.Fragments.{Fragments}
+use Rattle.shares.specs.declared.Slots.{Slots}
+use Rattle.shares.specs.declared.ShareError.{ShareError}
+use Rattle.shares.specs.declared.ShareError.TheVariants as share
+use Rattle.std.specs.Prelude.{Result, Ok, Err}
 use Rattle.shares.proofs.Means.{share-means, bounds-within, within-not-above}
 use Rattle.flowlist.specs.declared.Flow.{Flow}
 use Rattle.admission.specs.Admit.{amount, refused_in, flow_share, flow_bad, flow_refused}
@@ -34,27 +37,27 @@ module _ (s : Site) (f : Flow) where
   unfolding refused_in
   refused-cell h n = rw h
 
-  refused-big : up_to s.cells f.cell ≡ true → flow_share s f ≡ share.BigShare → (n : ℕ) → flow_refused s f n ≡ refused_with sixteen n
+  refused-big : up_to s.cells f.cell ≡ true → flow_share s f ≡ Err share.BigShare → (n : ℕ) → flow_refused s f n ≡ refused_with sixteen n
   unfolding refused_in
   refused-big h e n = rw (h, e)
 
-  refused-flow : up_to s.cells f.cell ≡ true → flow_share s f ≡ share.BadFlow → (n : ℕ) → flow_refused s f n ≡ refused_with fifteen n
+  refused-flow : up_to s.cells f.cell ≡ true → flow_share s f ≡ Err share.BadFlow → (n : ℕ) → flow_refused s f n ≡ refused_with fifteen n
   unfolding refused_in
   refused-flow h e n = rw (h, e)
 
   -- a flow in a cell of the site goes as its share does
-  by-share : UpTo 128 s.slots → up_to s.cells f.cell ≡ true → (a : ShareAnswer) → flow_share s f ≡ a
+  by-share : UpTo 128 s.slots → up_to s.cells f.cell ≡ true → (a : Result (Fragments × Fragments × Slots) ShareError) → flow_share s f ≡ a
       → ShareMeans s.slots f.burst f.period f.repeats a → Goes s f
-  by-share t h (share.Done p q d) e m =
+  by-share t h (Ok a) e m =
       sends (record {
         cell = up-to _ _ h;
         range = (m.0.burst, m.0.period, m.0.repeats);
-        share = bounds-within s.slots f.burst f.period f.repeats p.0 q.0 d.0 m.1;
+        share = bounds-within s.slots f.burst f.period f.repeats a.0.0 a.1.0 a.2.0 m.1;
       }) (good s.cells s.slots f h (rw e))
-  by-share t h share.OutOfRange e m = absurd (m t)
-  by-share t h share.BadFlow e m =
+  by-share t h (Err share.OutOfRange) e m = absurd (m t)
+  by-share t h (Err share.BadFlow) e m =
       stops fifteen (up-to _ _ h, λ r. m.1 (r.0, (r.1, r.2))) (bad-share s.cells s.slots f (rw e)) (refused-flow h e)
-  by-share t h share.BigShare e m =
+  by-share t h (Err share.BigShare) e m =
       stops sixteen (up-to _ _ h, (m.0.burst, m.0.period, m.0.repeats), m.1) (bad-share s.cells s.slots f (rw e)) (refused-big h e)
 
   goes : UpTo 128 s.slots → Goes s f
@@ -113,18 +116,19 @@ module _ (s : Site) (f : Flow) where
     pub sends-shared : Sends s f → (share : ℕ) × Shared s f share
     sends-shared g = at (flow_share s f) refl (share-means s.slots f.burst f.period f.repeats)
       where
-        at : (a : ShareAnswer) → flow_share s f ≡ a → ShareMeans s.slots f.burst f.period f.repeats a → (share : ℕ) × Shared s f share
-        at (share.Done p q d) e m = (p.0, record { queue = q.0; delay = d.0; answer = ap share_given e })
-        at share.OutOfRange e m = absurd (m t)
-        at share.BadFlow e m = absurd (m.1 (g.range.0, (g.range.1, g.range.2)))
-        at share.BigShare e m = absurd (within-not-above s.slots f.burst f.period f.repeats g.share m.1)
+        at : (a : Result (Fragments × Fragments × Slots) ShareError) → flow_share s f ≡ a → ShareMeans s.slots f.burst f.period f.repeats a
+            → (share : ℕ) × Shared s f share
+        at (Ok a) e m = (a.0.0, record { queue = a.1.0; delay = a.2.0; answer = ap share_given e })
+        at (Err share.OutOfRange) e m = absurd (m t)
+        at (Err share.BadFlow) e m = absurd (m.1 (g.range.0, (g.range.1, g.range.2)))
+        at (Err share.BigShare) e m = absurd (within-not-above s.slots f.burst f.period f.repeats g.share m.1)
 
 -- and the search takes just that share
 pub shared-amount : (s : Site) (f : Flow) (share : ℕ) → Shared s f share → amount (flow_share s f) ≡ share
 shared-amount s f n h = at (flow_share s f) h.answer
   where
-    at : (a : ShareAnswer) → share_given a ≡ record { number = 0; values = n ∷ h.queue ∷ h.delay ∷ [] } → amount a ≡ n
-    at (share.Done p q d) e = ap (λ (g : Given). get_or g.values 0 0) e
-    at share.OutOfRange e = absurd (omega (arith, ap (λ (g : Given). g.number) e))
-    at share.BadFlow e = absurd (omega (arith, ap (λ (g : Given). g.number) e))
-    at share.BigShare e = absurd (omega (arith, ap (λ (g : Given). g.number) e))
+    at : (a : Result (Fragments × Fragments × Slots) ShareError) → share_given a ≡ record { number = 0; values = n ∷ h.queue ∷ h.delay ∷ [] } → amount a ≡ n
+    at (Ok a) e = ap (λ (g : Given). get_or g.values 0 0) e
+    at (Err share.OutOfRange) e = absurd (omega (arith, ap (λ (g : Given). g.number) e))
+    at (Err share.BadFlow) e = absurd (omega (arith, ap (λ (g : Given). g.number) e))
+    at (Err share.BigShare) e = absurd (omega (arith, ap (λ (g : Given). g.number) e))

@@ -17,12 +17,12 @@ use Rattle.laws.proofs.Search.{first-most, first_passes, first-before, first-non
 use Rattle.theory.specs.Net.{Net, everyone, loaded, Class, LoadTest, room, demand}
 use Rattle.theory.specs.Verdict.{overloaded, lowest_over, load_verdict, class_verdict}
 use Rattle.theory.proofs.Exact.{covers-everyone, covers-loaded, test-plans, class-exact}
-use Rattle.site.specs.Record.{is_fine, fault_of}
+use Rattle.site.specs.Record.{fault_of}
 use Rattle.site.specs.Reach.{clash_of, net_of}
 use Rattle.site.specs.declared.Site.{Site}
-use Rattle.site.specs.declared.Fault.TheVariants.{Fine}
+use Rattle.std.specs.Prelude.{Ok}
 use Rattle.judges.specs.Judges.{load_answer}
-use Rattle.judges.specs.declared.LoadAnswer.TheVariants as load
+use Rattle.judges.specs.declared.LoadVerdict.TheVariants as load
 use Rattle.judges.proofs.Laws.{demand-is}
 use Rattle.admission.specs.Admit.{is_nested}
 use Rattle.admission.specs.Code.{past_room}
@@ -70,7 +70,7 @@ module _ (s : Net) (class : Class s everyone) (i : ℕ) (below : (j : ℕ) → j
 
 -- ---- of a site, by its clash rows; r is the room
 
-module _ (s : Site) (fine : fault_of s ≡ Fine) (class : is_nested (class_verdict (net_of s) everyone) ≡ true) (rows : List ℕ)
+module _ (s : Site) (fine : fault_of s ≡ Ok tt) (class : is_nested (class_verdict (net_of s) everyone) ≡ true) (rows : List ℕ)
     (relation : bit_in rows ≡ clash_of s)
     (r : ℕ) (all : r ≡ room (net_of s)) (i : ℕ) (e : i ≡ first (past_room s.loads rows r) 0 s.cells) where
   abbrev test : ℕ → Bool
@@ -93,14 +93,14 @@ module _ (s : Site) (fine : fault_of s ≡ Fine) (class : is_nested (class_verdi
       ltb-true (room (net_of s)) (demand (net_of s) i)
       (sym (test-is i) ∙ ap test e ∙ first_passes test 0 s.cells zero-le (omega (arith, e)))
 
-  pub all-over : i < s.cells → (r ≤ demand (net_of s) i) × (load_answer s ≡ load.Over (i + 1) (demand (net_of s) i - r))
+  pub all-over : i < s.cells → (r ≤ demand (net_of s) i) × (load_answer s ≡ Ok (load.Over (i + 1) (demand (net_of s) i - r)))
   unfolding load_verdict
   all-over h =
       let is = lowest-over (net_of s) (class-of (net_of s) class) i below h (above h) in
-      (omega (arith, above h), verdict-of s (ap is_fine fine) ∙ simp (is, lt-ltb i s.cells h, sym all))
+      (omega (arith, above h), verdict-of s fine ∙ simp (is, lt-ltb i s.cells h, sym all))
 
-  pub all_hold : s.cells ≤ i → load_answer s ≡ load.Holds
+  pub all_hold : s.cells ≤ i → load_answer s ≡ Ok load.Holds
   unfolding load_verdict
   all_hold h =
       let is = none_over (net_of s) (class-of (net_of s) class) i below (all_asked h) in
-      verdict-of s (ap is_fine fine) ∙ simp (is, le-ltb s.cells s.cells (omega arith))
+      verdict-of s fine ∙ simp (is, le-ltb s.cells s.cells (omega arith))

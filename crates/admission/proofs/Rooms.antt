@@ -23,7 +23,7 @@ use Rattle.positions.specs.Blocked.{open_in}
 use Rattle.site.specs.Record.{positions, fault_of}
 use Rattle.site.specs.Reach.{clash_of, clash_within, clash_rows, net_of}
 use Rattle.site.specs.declared.Site.{Site}
-use Rattle.site.specs.declared.Fault.TheVariants.{Fine}
+use Rattle.std.specs.Prelude.{Ok}
 use Rattle.site.proofs.Faults.{fine-sized}
 use Rattle.site.proofs.Accepted.{net-open}
 use Rattle.judges.proofs.Laws.{demand-is}
@@ -47,7 +47,7 @@ rooms-most false loads rows room cells i few h = omega (arith, get_or-replicate 
 idle-demand : (s : Net) (i : ℕ) → demand (idle s) i ≡ 0
 idle-demand s i = let e = sum-eq (λ j. pick (s.clash j i) 0 0) (λ _. 0) i (λ j _. pick_same (s.clash j i) 0) ∙ sum-none i in omega (arith, e)
 
-module _ (s : Site) (fine : fault_of s ≡ Fine) (rows : List ℕ) (made : rows ≡ clash_rows s) (relation : bit_in rows ≡ clash_of s) where
+module _ (s : Site) (fine : fault_of s ≡ Ok tt) (rows : List ℕ) (made : rows ≡ clash_rows s) (relation : bit_in rows ≡ clash_of s) where
   -- nobody clashes with a spare cell
   none_past : (a i : ℕ) → a < s.cells → s.cells ≤ i → i < 32 → clash_of s a i ≡ false
   unfolding clash_rows

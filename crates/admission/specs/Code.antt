@@ -1,5 +1,5 @@
 -- What the room of each cell is, and what is answered by it, over the arrays that the search takes. No answer of a call is defined here.
-use Rattle.std.specs.Prelude.{ℕ, ◌+◌, ◌-◌, Bool, List, ltb, get_or, replicate}
+use Rattle.std.specs.Prelude.{ℕ, ◌+◌, ◌-◌, Bool, List, ltb, get_or, replicate, Result, Ok, Err}
 use Rattle.std.proofs.lemmas.List.Edits.{sets}
 use Rattle.laws.specs.Choice.{pick}
 use Rattle.laws.specs.Part.{list_of}
@@ -7,8 +7,7 @@ use Rattle.demands.specs.Words.{demand_at}
 use Rattle.bestset.specs.Code.{best_in}
 use Rattle.flowlist.specs.declared.Flow.{Flow}
 use Rattle.admission.specs.Admit.{share_in, amount, refused_in, first_bad_in}
-use Rattle.admission.specs.declared.AdmitAnswer.{AdmitAnswer}
-use Rattle.admission.specs.declared.AdmitAnswer.TheVariants.{Admitted}
+use Rattle.admission.specs.declared.AdmitError.{AdmitError}
 
 -- what the loads leave of the room in cell i; 0 where they ask for more
 abbrev pub left_in : List ℕ → List ℕ → ℕ → ℕ → ℕ
@@ -32,7 +31,7 @@ best_laid slots f n rows rooms =
     best_in rooms rows (laid_first (λ k. (f k).cell - 1) n) (laid_first (λ k. amount (share_in slots (f k))) n) (laid_first (λ k. (f k).value) n) n
 
 -- the first flow that is refused, or else that set
-unfoldable pub chosen_in : ℕ → ℕ → (ℕ → Flow) → ℕ → List ℕ → List ℕ → AdmitAnswer
+unfoldable pub chosen_in : ℕ → ℕ → (ℕ → Flow) → ℕ → List ℕ → List ℕ → Result ℕ AdmitError
 chosen_in cells slots f n rows rooms =
     let bad = first_bad_in cells slots f n in
-    pick (ltb bad n) (refused_in cells slots (f bad) (bad + 1)) (Admitted (best_laid slots f n rows rooms))
+    pick (ltb bad n) (Err (refused_in cells slots (f bad) (bad + 1))) (Ok (best_laid slots f n rows rooms))

@@ -1,17 +1,16 @@
 -- What an admission's answers mean, said a second time: by the cell, the burst, the period and the repeats of a flow, by products, with no share's answer.
 -- proofs/Meaning.antt shows that the definition says this and nothing else.
-use Rattle.std.specs.Prelude.{ℕ, ◌≤◌, ◌<◌, List, ◌≡◌, length}
+use Rattle.std.specs.Prelude.{ℕ, ◌≤◌, ◌<◌, List, ◌≡◌, length, Ok}
 use Rattle.theory.specs.Net.{everyone, Class}
 use Rattle.site.specs.Means.{UpTo}
 use Rattle.site.specs.Record.{fault_of}
 use Rattle.site.specs.Reach.{net_of}
 use Rattle.site.specs.declared.Site.{Site}
-use Rattle.site.specs.declared.Fault.TheVariants.{Fine}
 use Rattle.shares.specs.Means.{Within, Above}
 use Rattle.flowlist.specs.List.{flow_at}
 use Rattle.flowlist.specs.declared.Flow.{Flow}
-use Rattle.admission.specs.declared.AdmitAnswer.{AdmitAnswer}
-use Rattle.admission.specs.declared.AdmitAnswer.TheVariants.{BadCell, BadFlow, BigShare}
+use Rattle.admission.specs.declared.AdmitError.{AdmitError}
+use Rattle.admission.specs.declared.AdmitError.TheVariants.{BadCell, BadFlow, BigShare}
 
 -- burst and period "each 1 to 65,535"; W4: "k from 1 to 4"
 abbrev pub InRange : Flow → Type 0
@@ -29,7 +28,7 @@ pub data Refusal : Type 0 where
   fifteen : Refusal
   sixteen : Refusal
 
-abbrev pub refused_with : Refusal → ℕ → AdmitAnswer
+abbrev pub refused_with : Refusal → ℕ → AdmitError
 refused_with two = BadCell
 refused_with fifteen = BadFlow
 refused_with sixteen = BigShare
@@ -42,7 +41,7 @@ Refuses s f sixteen = UpTo s.cells f.cell × InRange f × Above s.slots f.burst 
 
 -- where flows are looked at: the record is accepted, there are at most 16 flows, and the site is in W9's class, "all cells counted as loaded"
 pub record Looked (s : Site) (fs : List Flow) : Type 0 where
-  pub fine : fault_of s ≡ Fine
+  pub fine : fault_of s ≡ Ok tt
   pub few : length fs ≤ 16
   pub class : Class (net_of s) everyone
 

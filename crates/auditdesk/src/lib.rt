@@ -6,9 +6,9 @@ ghost use Rattle.std.specs.Prelude.{◌≤◌, length};
 
 use arguments::{is, number, tries};
 use auditing::{Extent, Form};
-use finder::FindAnswer;
+use finder::{FindError, Way};
 use infiles::same_size;
-use records::ReadAnswer;
+use records::Refusal;
 use reply::no;
 use say_csv::PlanTold;
 use say_tally::PlanSaid;
@@ -29,14 +29,6 @@ const PLAN_LINK: &str = "/dev/fd/9/plan";
 // Where the sheet's line begins in the buffer; the line for people is before it. Where nothing is after this place, no sheet is asked for.
 const SHEET: usize = 32768;
 
-// The bytes of a file that was read; or that it could not be, and whether there is none.
-#[derive(Clone, Copy)]
-struct Bytes {
-    size: usize,
-    read: bool,
-    absent: bool,
-}
-
 // Where the next byte of the line goes, and that of the sheet's line.
 #[derive(Clone, Copy)]
 struct Places {
@@ -44,54 +36,35 @@ struct Places {
     to: usize,
 }
 
-// As much of a buffer as there is.
-fn as_many(n: usize, buffer: &[u8]) -> usize
-    ensures { result ≤ length buffer.now }
-{
-    if buffer.len() < n {
-        return buffer.len();
-    }
-    n
-}
-
 // Where the next part of a line goes: a name has at most 4,096 bytes, and what is said of a site 3,900.
 fn place(at: usize) -> usize
     ensures { result ≤ 8192 }
 {
-    if 8192 < at {
-        return 8192;
-    }
-    at
+    at.min(8192)
 }
 
 // Where the next part of the sheet's line goes: a name in quotes has at most 8,194 bytes, and what is said of a site 14,000.
 fn sheet_place(to: usize) -> usize
     ensures { result ≤ 49152 }
 {
-    if 49152 < to {
-        return 49152;
-    }
-    to
+    to.min(49152)
 }
 
-// Reads a file, by its path.
-fn read_path(rt: &HostRuntime, path: &str, buffer: &mut [u8]) -> Bytes {
+// Reads a file, by its path: how many bytes it has, or why it can't be read.
+fn read_path(rt: &HostRuntime, path: &str, buffer: &mut [u8]) -> Result<usize, ErrorKind> {
     match File::open(rt, path) {
-        Ok(mut file) => Bytes {
-            size: reply::take(&mut file, buffer).size,
-            read: true,
-            absent: false,
-        },
-        Err(e) => Bytes {
-            size: 0,
-            read: false,
-            absent: e.kind() == ErrorKind::NotFound,
-        },
+        Ok(mut file) => Ok(reply::take(&mut file, buffer).size),
+        Err(e) => Err(e.kind()),
     }
 }
 
 // Reads a file, by its name, or by a link where that is no text.
-fn read_file(rt: &HostRuntime, name: &[u8], link: &str, buffer: &mut [u8]) -> Bytes {
+fn read_file(
+    rt: &HostRuntime,
+    name: &[u8],
+    link: &str,
+    buffer: &mut [u8],
+) -> Result<usize, ErrorKind> {
     match str::from_utf8(name) {
         Ok(path) => read_path(rt, path, buffer),
         Err(_) => read_path(rt, link, buffer),
@@ -169,7 +142,7 @@ fn put_planned(
 fn audit_plan(
     rt: &HostRuntime,
     site: Site,
-    found: FindAnswer,
+    found: Result<Way, FindError>,
     second: &[u8],
     at: usize,
     to: usize,
@@ -181,7 +154,7 @@ fn audit_plan(
 {
     let plan = planfile::read_plan(second, old);
     let answer = plan.answer;
-    let ReadAnswer::Done = answer else {
+    let Ok(()) = answer else {
         let end = say_audit::put_plan_refused(text, at, answer);
         let mark = say_tally::mark_of(found, PlanSaid::Refused);
         return put_planned(rt, text, end, to, PlanTold::Refused(answer), mark);
@@ -217,7 +190,7 @@ fn audit_plan(
 fn audit_read(
     rt: &HostRuntime,
     site: Site,
-    found: FindAnswer,
+    found: Result<Way, FindError>,
     size: usize,
     second: &[u8],
     at: usize,
@@ -227,14 +200,14 @@ fn audit_read(
 ) -> bool
     requires { 65536 ≤ length text.old }
 {
-    let m = as_many(size, second);
+    let m = reply::within_buffer(size, second);
     audit_plan(rt, site, found, &second[..m], place(at), to, old, text)
 }
 
 // A site with no plan file beside it, or with one that can't be read.
 fn audit_alone(
     rt: &HostRuntime,
-    found: FindAnswer,
+    found: Result<Way, FindError>,
     absent: bool,
     at: usize,
     to: usize,
@@ -256,7 +229,7 @@ fn audit_alone(
 fn put_fields(
     site: Site,
     form: Form,
-    found: FindAnswer,
+    found: Result<Way, FindError>,
     takes: Extent,
     open: usize,
     to: usize,
@@ -271,7 +244,13 @@ fn put_fields(
 }
 
 // What is said of a site before its plan, in both lines; the places after it.
-fn put_site(site: Site, found: FindAnswer, at: usize, to: usize, text: &mut [u8]) -> Places
+fn put_site(
+    site: Site,
+    found: Result<Way, FindError>,
+    at: usize,
+    to: usize,
+    text: &mut [u8],
+) -> Places
     requires { 65536 ≤ length text.old }
 {
     let form = auditing::form_of(site);
@@ -286,7 +265,7 @@ fn put_site(site: Site, found: FindAnswer, at: usize, to: usize, text: &mut [u8]
 fn audit_site(
     rt: &HostRuntime,
     site: Site,
-    found: FindAnswer,
+    found: Result<Way, FindError>,
     name: &[u8],
     n: usize,
     at: usize,
@@ -298,16 +277,14 @@ fn audit_site(
     let places = put_site(site, found, at, to, text);
     let next = places.next;
     let to = places.to;
-    let n = as_many(n, name);
+    let n = reply::within_buffer(n, name);
     let mut second = [0u8; 65536];
-    let file = read_file(rt, &name[..n], PLAN_LINK, &mut second);
-    if !file.read {
-        return audit_alone(rt, found, file.absent, next, to, text);
-    }
+    let size = match read_file(rt, &name[..n], PLAN_LINK, &mut second) {
+        Ok(size) => size,
+        Err(why) => return audit_alone(rt, found, why == ErrorKind::NotFound, next, to, text),
+    };
     let mut old = [0u8; 65536];
-    audit_read(
-        rt, site, found, file.size, &second, next, to, &mut old, text,
-    )
+    audit_read(rt, site, found, size, &second, next, to, &mut old, text)
 }
 
 // A site, by the name of its file: what is found for it, and its line.
@@ -334,7 +311,13 @@ fn audit_found(
 }
 
 // The line of a site file that is refused: the sheet's line ends so too.
-fn put_refusal(rt: &HostRuntime, text: &mut [u8], end: usize, to: usize, answer: ReadAnswer) -> bool
+fn put_refusal(
+    rt: &HostRuntime,
+    text: &mut [u8],
+    end: usize,
+    to: usize,
+    answer: Result<(), Refusal>,
+) -> bool
     requires { 65536 ≤ length text.old }
 {
     if to <= SHEET {
@@ -370,11 +353,11 @@ fn audit_bytes(
 ) -> bool
     requires { 65536 ≤ length text.old }
 {
-    let m = as_many(size, bytes);
+    let m = reply::within_buffer(size, bytes);
     let read = sitefile::read_site(&bytes[..m]);
     let answer = read.answer;
     let site = read.site;
-    let ReadAnswer::Done = answer else {
+    let Ok(()) = answer else {
         let end = say_audit::put_site_refused(text, place(at), answer);
         return put_refusal(rt, text, end, to, answer);
     };
@@ -393,13 +376,12 @@ fn audit_named(
 ) -> bool
     requires { 65536 ≤ length text.old }
 {
-    let m = as_many(n, name);
+    let m = reply::within_buffer(n, name);
     let mut input = [0u8; 65536];
-    let file = read_file(rt, &name[..m], SITE_LINK, &mut input);
-    if !file.read {
+    let Ok(size) = read_file(rt, &name[..m], SITE_LINK, &mut input) else {
         return put_unread(rt, text, at, to);
-    }
-    audit_bytes(rt, &input, file.size, tries, name, n, at, to, text)
+    };
+    audit_bytes(rt, &input, size, tries, name, n, at, to, text)
 }
 
 // The file that argument i names, without a sheet.

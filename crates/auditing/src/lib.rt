@@ -1,16 +1,19 @@
 // What an audit says of a site in a word or a number: chained, nested, renumbered or neither; and how many channel-slots it takes.
 #![tactic(auto)]
 
-ghost use Rattle.std.specs.Prelude.{◌≡◌};
+ghost use Rattle.std.specs.Prelude.{◌≡◌, ◌≤◌};
 ghost use Rattle.auditing.specs.Form.{by_numbering, by_class, by_chain, form_of};
-ghost use Rattle.auditing.specs.Takes.{open_here, load_of_clash, slots_of_least, has_plan, enough_by, by_form, takes_of};
+ghost use Rattle.why.specs.Said.{least_number};
+ghost use Rattle.auditing.specs.Row.{form_row, form_phrase};
+ghost use Rattle.auditing.specs.Takes.{open_here, load_of_clash, enough_by, by_form, takes_of};
 
-use finder::FindAnswer;
-use heaviest::HeaviestAnswer;
-use judges::{ChainAnswer, ClassAnswer, LeastAnswer};
-use numbering::RenumberAnswer;
+use finder::{FindError, Way};
+use judges::{ChainVerdict, ClassVerdict};
+use numbering::RenumberError;
+use phrases::Phrase;
 use positions::open_count;
 use site::{Fault, Site};
+use whyrows::least_number;
 
 // The first that holds: chained; nested; a numbering of all cells makes it nested; none of these.
 #[derive(Clone, Copy)]
@@ -29,38 +32,38 @@ pub struct Extent {
 }
 
 // The form by the numbering, of a site that is not nested.
-fn by_numbering(reply: RenumberAnswer) -> Form
+fn by_numbering(reply: Result<(), RenumberError>) -> Form
     ensures { result ≡ by_numbering reply }
 {
     match reply {
-        RenumberAnswer::Done => Form::Renumbered,
-        RenumberAnswer::NoNumbering => Form::Neither,
-        RenumberAnswer::Refused(_) => Form::Neither,
+        Ok(()) => Form::Renumbered,
+        Err(_) => Form::Neither,
     }
 }
 
 // The form of a site that is not chained.
-fn by_class(other: Form, reply: ClassAnswer) -> Form
+fn by_class(other: Form, reply: Result<ClassVerdict, Fault>) -> Form
     ensures { result ≡ by_class other reply }
 {
     match reply {
-        ClassAnswer::InClass => Form::Nested,
-        ClassAnswer::Outside(_, _, _) => other,
-        ClassAnswer::Refused(_) => Form::Neither,
+        Ok(ClassVerdict::InClass) => Form::Nested,
+        Ok(ClassVerdict::Outside(_, _, _)) => other,
+        Err(_) => Form::Neither,
     }
 }
 
-fn by_chain(other: Form, reply: ChainAnswer) -> Form
+fn by_chain(other: Form, reply: Result<ChainVerdict, Fault>) -> Form
     ensures { result ≡ by_chain other reply }
 {
     match reply {
-        ChainAnswer::Chained => Form::Chained,
-        ChainAnswer::Broken(_, _, _) => other,
-        ChainAnswer::Refused(_) => Form::Neither,
+        Ok(ChainVerdict::Chained) => Form::Chained,
+        Ok(ChainVerdict::Broken(_, _, _)) => other,
+        Err(_) => Form::Neither,
     }
 }
 
 // Which of the four a site is.
+#[tactic(auto, unfolding(crate::specs::Form::form_of))]
 pub fn form_of(site: Site) -> Form
     ensures { result ≡ form_of site }
 {
@@ -73,12 +76,37 @@ pub fn form_of(site: Site) -> Form
     by_chain(unchained, chain)
 }
 
+// The row of a form, of the four of a table that begin at `first`.
+fn form_row(first: usize, form: Form) -> usize
+    requires { first ≤ 1000 }
+    ensures { result ≡ form_row first form }
+{
+    match form {
+        Form::Chained => first,
+        Form::Nested => first + 1,
+        Form::Renumbered => first + 2,
+        Form::Neither => first + 3,
+    }
+}
+
+// That row, with the sizes and the rule.
+pub fn form_phrase(first: usize, site: Site, form: Form) -> Phrase
+    requires { first ≤ 1000 }
+    ensures { result ≡ form_phrase first site form }
+{
+    let cells = site.cells as usize;
+    let slots = site.slots as usize;
+    let channels = site.channels as usize;
+    let rule = site.rule as usize;
+    Phrase::Row(form_row(first, form), cells, slots, channels, rule)
+}
+
 // How many positions of a site are open; none where something is wrong with the record.
+#[tactic(auto, using(judges::proofs::Laws::accepted_positions), unfolding(crate::specs::Takes::open_here))]
 pub fn open_here(site: Site) -> usize
     ensures { result ≡ open_here site }
 {
-    let fault = site.fault_in();
-    let Fault::Fine = fault else {
+    let Ok(()) = site.accepted() else {
         return 0;
     };
     let n = (site.slots as usize) * (site.channels as usize);
@@ -87,40 +115,12 @@ pub fn open_here(site: Site) -> usize
 }
 
 // The load of the heaviest clash.
-fn load_of_clash(reply: HeaviestAnswer) -> usize
+fn load_of_clash(reply: Result<(usize, u32), Fault>) -> usize
     ensures { result ≡ load_of_clash reply }
 {
     match reply {
-        HeaviestAnswer::Done(load, _) => load,
-        HeaviestAnswer::Refused(_) => 0,
-    }
-}
-
-// The channel-slots that the load test asks for.
-fn slots_of_least(reply: LeastAnswer) -> usize
-    ensures { result ≡ slots_of_least reply }
-{
-    match reply {
-        LeastAnswer::Least(n) => n,
-        LeastAnswer::Enough(n) => n,
-        LeastAnswer::Refused(_) => 0,
-    }
-}
-
-// Whether a plan was found.
-fn has_plan(found: FindAnswer) -> bool
-    ensures { result ≡ has_plan found }
-{
-    match found {
-        FindAnswer::Greedy => true,
-        FindAnswer::Renumbered => true,
-        FindAnswer::Searched(_) => true,
-        FindAnswer::Full(_) => false,
-        FindAnswer::FullInClass => false,
-        FindAnswer::FullSearched(_) => false,
-        FindAnswer::NotKnown(_) => false,
-        FindAnswer::TableShort => false,
-        FindAnswer::Refused(_) => false,
+        Ok((load, _)) => load,
+        Err(_) => 0,
     }
 }
 
@@ -150,16 +150,16 @@ fn by_form(form: Form, known: usize, other: usize) -> usize
 }
 
 // How many channel-slots a site of this form takes, for which this was found.
-pub fn takes_of(site: Site, form: Form, found: FindAnswer) -> Extent
+#[tactic(auto, unfolding(crate::specs::Takes::takes_of))]
+pub fn takes_of(site: Site, form: Form, found: Result<Way, FindError>) -> Extent
     ensures { result ≡ takes_of site form found }
 {
     let heaviest = heaviest::heaviest(site);
     let needs = load_of_clash(heaviest);
     let reply = judges::least(site);
-    let least = slots_of_least(reply);
+    let least = least_number(reply);
     let open = open_here(site);
-    let planned = has_plan(found);
-    let enough = enough_by(planned, least, open);
+    let enough = enough_by(found.is_ok(), least, open);
     let enough = by_form(form, needs, enough);
     Extent { needs, enough }
 }

@@ -15,21 +15,23 @@ use Rattle.records.specs.Bytes.{le16}
 use Rattle.records.specs.Layout.{body_at, record_end}
 use Rattle.records.specs.Reasons.{Reason, reason, first_reason, record_reasons, end_reason}
 use Rattle.records.specs.declared.Length.TheVariants.{Exact}
-use Rattle.records.specs.declared.ReadAnswer.{ReadAnswer}
-use Rattle.records.specs.declared.ReadAnswer.TheVariants.{Done, Refused}
+use Rattle.records.specs.declared.Refusal.{Refusal}
+use Rattle.std.specs.Prelude.{Result, Ok, Err}
+use Rattle.records.specs.Reasons.{refusal}
 use Rattle.records.proofs.Laws.{Opening, exact, within}
-use Rattle.records.proofs.Reasons.{and_then, first-append}
+use Rattle.std.specs.Result.{result_and}
+use Rattle.records.proofs.Reasons.{first-append}
 use Rattle.blockbits.specs.Blocks.{blocked_of_body, nothing_in}
 use Rattle.blockbits.specs.Reasons.{block_reasons, last_reasons, blocked_or}
 use Rattle.blockbits.specs.Loop.{no_blocks, blocks_read_of, blocks_read}
 use Rattle.blockbits.specs.declared.BlocksRead.{BlocksRead}
 
-blocks-answer : (set : List ℕ) (a : ReadAnswer) → (blocks_read_of set a).answer ≡ a
+blocks-answer : (set : List ℕ) (a : Result Unit Refusal) → (blocks_read_of set a).answer ≡ a
 unfolding blocks_read_of
-blocks-answer set Done = refl
-blocks-answer set (Refused n at) = refl
+blocks-answer set (Ok u) = refl
+blocks-answer set (Err r) = refl
 
-blocks-set : (set : List ℕ) (a : ReadAnswer) → a ≡ Done → (blocks_read_of set a).blocked ≡ set
+blocks-set : (set : List ℕ) (a : Result Unit Refusal) → a ≡ Ok tt → (blocks_read_of set a).blocked ≡ set
 unfolding blocks_read_of
 blocks-set set a e = rw e refl
 
@@ -46,7 +48,7 @@ module _ (s : List ℕ) (at n : ℕ) where
   by-due t e = sym (ap (λ (u : Bool). blocks_read_of (pick u X empty_set) (first_reason (pick u (block_reasons s at n) []))) e)
 
   -- the file ends here
-  pub last_none : length s ≤ at → no_blocks Done ≡ blocks_read s at n
+  pub last_none : length s ≤ at → no_blocks (Ok tt) ≡ blocks_read s at n
   unfolding blocks_read_of first_reason
   last_none h = by-due false (le-ltb at (length s) h)
 
@@ -55,7 +57,7 @@ module _ (s : List ℕ) (at n : ℕ) where
   unfolding blocks_read
   blocks-told q e = sym (ap (λ (x : BlocksRead). x.answer) e ∙ blocks-answer (blocked_or s at) (first_reason (last_reasons s at n)))
 
-  pub blocks-given : (q : BlocksRead) → q ≡ blocks_read s at n → q.answer ≡ Done → q.blocked ≡ blocked_or s at
+  pub blocks-given : (q : BlocksRead) → q ≡ blocks_read s at n → q.answer ≡ Ok tt → q.blocked ≡ blocked_or s at
   unfolding blocks_read
   blocks-given q e d =
       ap (λ (x : BlocksRead). x.blocked) e ∙ blocks-set (blocked_or s at) (first_reason (last_reasons s at n)) (blocks-told q e ∙ d)
@@ -63,43 +65,43 @@ module _ (s : List ℕ) (at n : ℕ) where
   -- its contents, by the three tests
   contents-are :
       (l z m : Bool) → left_over (body_at s at) n ≡ l → nothing_in X ≡ z → ltb (record_end s at) (length s) ≡ m →
-      first_reason contents ≡ pick l (Refused 14 at) (pick z (Refused 21 at) (pick m (Refused 12 (record_end s at)) Done))
+      first_reason contents ≡ pick l (Err (refusal 14 at)) (pick z (Err (refusal 21 at)) (pick m (Err (refusal 12 (record_end s at))) (Ok tt)))
   unfolding first_reason
-  contents-are l z m e f g = λ i. pick (e i) (Refused 14 at) (pick (f i) (Refused 21 at) (pick (g i) (Refused 12 (record_end s at)) Done))
+  contents-are l z m e f g = λ i. pick (e i) (Err (refusal 14 at)) (pick (f i) (Err (refusal 21 at)) (pick (g i) (Err (refusal 12 (record_end s at))) (Ok tt)))
 
   module _ (due : at < length s) where
-    blocks-are : (a : ReadAnswer) → first_reason (block_reasons s at n) ≡ a → blocks_read_of X a ≡ blocks_read s at n
+    blocks-are : (a : Result Unit Refusal) → first_reason (block_reasons s at n) ≡ a → blocks_read_of X a ≡ blocks_read s at n
     blocks-are a e = ap (blocks_read_of X) (sym e) ∙ by-due true (lt-ltb at (length s) due)
 
-    parts : first_reason (block_reasons s at n) ≡ and_then (first_reason (record_reasons s at 6 (Exact (2 + bytes_for n)))) (first_reason contents)
+    parts : first_reason (block_reasons s at n) ≡ result_and (first_reason (record_reasons s at 6 (Exact (2 + bytes_for n)))) (first_reason contents)
     parts = first-append (record_reasons s at 6 (Exact (2 + bytes_for n))) contents
 
-    pub blocks-stop : (k a : ℕ) → first_reason (record_reasons s at 6 (Exact (2 + bytes_for n))) ≡ Refused k a → no_blocks (Refused k a) ≡ blocks_read s at n
+    pub blocks-stop : (r : Refusal) → first_reason (record_reasons s at 6 (Exact (2 + bytes_for n))) ≡ Err r → no_blocks (Err r) ≡ blocks_read s at n
     unfolding blocks_read_of
-    blocks-stop k a e = blocks-are (Refused k a) (parts ∙ ap (λ (x : ReadAnswer). and_then x (first_reason contents)) e)
+    blocks-stop r e = blocks-are (Err r) (parts ∙ ap (λ (x : Result Unit Refusal). result_and x (first_reason contents)) e)
 
-    module _ (opens : first_reason (record_reasons s at 6 (Exact (2 + bytes_for n))) ≡ Done) where
-      past_open : (a : ReadAnswer) → first_reason contents ≡ a → blocks_read_of X a ≡ blocks_read s at n
-      past_open a e = blocks-are a (parts ∙ ap (λ (x : ReadAnswer). and_then x (first_reason contents)) opens ∙ e)
+    module _ (opens : first_reason (record_reasons s at 6 (Exact (2 + bytes_for n))) ≡ Ok tt) where
+      past_open : (a : Result Unit Refusal) → first_reason contents ≡ a → blocks_read_of X a ≡ blocks_read s at n
+      past_open a e = blocks-are a (parts ∙ ap (λ (x : Result Unit Refusal). result_and x (first_reason contents)) opens ∙ e)
 
-      pub blocks-left : left_over (body_at s at) n ≡ true → no_blocks (Refused 14 at) ≡ blocks_read s at n
+      pub blocks-left : left_over (body_at s at) n ≡ true → no_blocks (Err (refusal 14 at)) ≡ blocks_read s at n
       unfolding blocks_read_of
-      blocks-left e = past_open (Refused 14 at) (contents-are true (nothing_in X) (ltb (record_end s at) (length s)) e refl refl)
+      blocks-left e = past_open (Err (refusal 14 at)) (contents-are true (nothing_in X) (ltb (record_end s at) (length s)) e refl refl)
 
       module _ (none : left_over (body_at s at) n ≡ false) where
-        pub blocks-nothing : nothing_in X ≡ true → no_blocks (Refused 21 at) ≡ blocks_read s at n
+        pub blocks-nothing : nothing_in X ≡ true → no_blocks (Err (refusal 21 at)) ≡ blocks_read s at n
         unfolding blocks_read_of
-        blocks-nothing e = past_open (Refused 21 at) (contents-are false true (ltb (record_end s at) (length s)) none e refl)
+        blocks-nothing e = past_open (Err (refusal 21 at)) (contents-are false true (ltb (record_end s at) (length s)) none e refl)
 
         module _ (some : nothing_in X ≡ false) where
-          pub blocks_more : record_end s at < length s → no_blocks (Refused 12 (record_end s at)) ≡ blocks_read s at n
+          pub blocks_more : record_end s at < length s → no_blocks (Err (refusal 12 (record_end s at))) ≡ blocks_read s at n
           unfolding blocks_read_of
           blocks_more h =
-              past_open (Refused 12 (record_end s at)) (contents-are false false true none some (lt-ltb (record_end s at) (length s) h))
+              past_open (Err (refusal 12 (record_end s at))) (contents-are false false true none some (lt-ltb (record_end s at) (length s) h))
 
-          pub blocks-done : length s ≤ record_end s at → record { blocked = X; answer = Done } ≡ blocks_read s at n
+          pub blocks-done : length s ≤ record_end s at → record { blocked = X; answer = Ok tt } ≡ blocks_read s at n
           unfolding blocks_read_of
-          blocks-done h = past_open Done (contents-are false false false none some (le-ltb (record_end s at) (length s) h))
+          blocks-done h = past_open (Ok tt) (contents-are false false false none some (le-ltb (record_end s at) (length s) h))
 
 -- an open record of kind 6 has the bytes of n positions
 pub body-long :

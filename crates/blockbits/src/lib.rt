@@ -9,13 +9,13 @@ ghost use Rattle.blockbits.specs.Blocks.{bit_stated, blocked_of_body, block_byte
 ghost use Rattle.blockbits.specs.Loop.{no_blocks, blocks_read};
 
 use positions::none_blocked;
-use records::{Length, Opened, ReadAnswer, left_over, open, opened_answer, put_start};
+use records::{Length, Refusal, left_over, open, opened_answer, put_start, refuse};
 
 // The blocked positions of a kind 6 record; or none beside the refusal.
 #[derive(Clone, Copy)]
 pub struct BlocksRead {
     pub blocked: [u64; 32],
-    pub answer: ReadAnswer,
+    pub answer: Result<(), Refusal>,
 }
 
 // Word j of the set that a kind 6 body states: its bytes from 8 j on, the first with weight 1.
@@ -24,9 +24,7 @@ fn word_of(body: &[u8], j: usize) -> u64
     ensures { result ≡ word_in (bit_stated body.now) j }
 {
     let mut v: u64 = 0;
-    let mut i: usize = 8;
-    while 0 < i {
-        i -= 1;
+    for i in (0..8).rev() {
         v = v * 256 + byte_at(body, 8 * j + i) as u64;
     }
     v
@@ -57,7 +55,7 @@ fn set_of(body: &[u8]) -> [u64; 32]
 }
 
 // A refusal, and no blocked positions.
-fn no_blocks(answer: ReadAnswer) -> BlocksRead
+fn no_blocks(answer: Result<(), Refusal>) -> BlocksRead
     ensures { result ≡ no_blocks answer }
 {
     BlocksRead {
@@ -72,27 +70,27 @@ pub fn read_blocks(s: &[u8], at: usize, n: usize) -> BlocksRead
     ensures { result ≡ blocks_read s.now at n }
 {
     if s.len() <= at {
-        return no_blocks(ReadAnswer::Done);
+        return no_blocks(Ok(()));
     }
     let m = (n + 7) / 8;
     let o = open(s, at, 6, Length::Exact((2 + m) as u16));
-    let Opened::Body(start, len) = o else {
+    let Ok((start, len)) = o else {
         return no_blocks(opened_answer(o));
     };
     let end = start + len;
     if left_over(&s[start..end], n) {
-        return no_blocks(ReadAnswer::Refused(14, at));
+        return no_blocks(Err(refuse(14, at)));
     }
     let blocked = set_of(&s[start..end]);
     if none_blocked(&blocked) {
-        return no_blocks(ReadAnswer::Refused(21, at));
+        return no_blocks(Err(refuse(21, at)));
     }
     if end < s.len() {
-        return no_blocks(ReadAnswer::Refused(12, end));
+        return no_blocks(Err(refuse(12, end)));
     }
     BlocksRead {
         blocked,
-        answer: ReadAnswer::Done,
+        answer: Ok(()),
     }
 }
 
@@ -121,11 +119,8 @@ fn put_bits(out: &mut [u8], at: usize, set: &[u64; 32], m: usize)
     requires { (m ≤ 256) × (at + m ≤ length out.old) }
     ensures { out.new ≡ sets out.old at (list_of (block_byte set.now) m) }
 {
-    let mut j: usize = 0;
-    while j < m {
-        let x = block_byte(set, j);
-        out[at + j] = x;
-        j += 1;
+    for j in 0..m {
+        out[at + j] = block_byte(set, j);
     }
 }
 

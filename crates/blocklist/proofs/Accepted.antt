@@ -20,10 +20,10 @@ use Rattle.lines.proofs.Steps.{eaten-there}
 use Rattle.lines.proofs.Decimals.{number-accepted}
 use Rattle.blocklist.specs.Format.{Side, all, one, range, Item, side_text, item_text, list_text, side_fits, item_fits, list_fits}
 use Rattle.blocklist.specs.Format.{star_byte, between_byte, dash_byte, dot_byte}
-use Rattle.blocklist.specs.Read.{span_of, numbers_read, span_read, block_read, with_block, fine_list, bad_list, list_from, sizes_fit, read_list}
+use Rattle.blocklist.specs.Read.{span_of, numbers_read, span_read, block_read, with_block, fine_list, bad_list, list_from, sizes_fit, read_list, bad_at}
 use Rattle.blocklist.specs.declared.Block.{Block}
-use Rattle.blocklist.specs.declared.ListAnswer.{ListAnswer}
-use Rattle.blocklist.specs.declared.ListAnswer.TheVariants.{Fine, Bad}
+use Rattle.blocklist.specs.declared.BadList.{BadList}
+use Rattle.std.specs.Prelude.{Result, Ok, Err}
 use Rattle.blocklist.specs.declared.ListRead.{ListRead}
 use Rattle.blocklist.proofs.Steps.{sizes-are, read-fit}
 use Rattle.blocklist.proofs.Sides.{closed-end, closed-byte, first-digit, after_text, inside, eaten-yes}
@@ -50,9 +50,9 @@ eat-stands : (s : List ℕ) (at : ℕ) (w : List ℕ) → (eaten s at w ≡ nowh
 eat-stands s at w n = let t = eaten-there s at w n in (stands s at w (starts_is w (drop at s) t.0), t.1)
 
 -- whether the list is read
-abbrev pub finely : ListAnswer → Bool
-finely Fine = true
-finely (Bad at) = false
+abbrev pub finely : Result Unit BadList → Bool
+finely (Ok u) = true
+finely (Err b) = false
 
 -- ---- a side
 
@@ -220,7 +220,7 @@ module _ (s : List ℕ) (short : length s < nowhere) where
       ended false e o g = more (eqb comma nowhere) refl o g
 
 -- what is read as fine is the list of some items that fit the site
-pub list-accepted : (s : List ℕ) (slots channels : ℕ) → length s < nowhere → (read_list s slots channels).answer ≡ Fine
+pub list-accepted : (s : List ℕ) (slots channels : ℕ) → length s < nowhere → (read_list s slots channels).answer ≡ Ok tt
     → (i : Item) × (l : List Item) × (list_fits slots channels (i ∷ l) ≡ true) × (s ≡ list_text (i ∷ l))
 unfolding read_list
 list-accepted s slots channels short h = go (sizes_fit slots channels) (ap finely h)
@@ -241,9 +241,9 @@ begun (i ∷ l) = item_text i ++ between_byte ∷ begun l
 abbrev pub ItemHere : ℕ → ℕ → List ℕ → Type 0
 ItemHere slots channels r = (i : Item) × (item_fits slots channels i ≡ true) × ((r ≡ item_text i) ⊎ ((q : List ℕ) × (r ≡ item_text i ++ between_byte ∷ q)))
 
-abbrev place_of : ListAnswer → ℕ
-place_of Fine = 0
-place_of (Bad at) = at
+abbrev place_of : Result Unit BadList → ℕ
+place_of (Ok u) = 0
+place_of (Err b) = b.0
 
 none-at-end : (slots channels : ℕ) (r : List ℕ) → length r ≡ 0 → ItemHere slots channels r → ⊥
 none-at-end slots channels r e (i, f, h) = ⊎_elim (λ q. omega (arith, item-long i, e, ap length q))
@@ -281,7 +281,7 @@ module _ (s : List ℕ) (short : length s < nowhere) (slots channels : ℕ) (few
   BadAt at place = (l : List Item) × (list_fits slots channels l ≡ true) × (drop at s ≡ begun l ++ drop place s) × (place ≡ at + length (begun l))
       × (ItemHere slots channels (drop place s) → ⊥)
 
-  items-bad : (n : ℕ) (set : List ℕ) (at place : ℕ) → length s ≤ at + n → (list_from n s slots channels set at).answer ≡ Bad place → BadAt at place
+  items-bad : (n : ℕ) (set : List ℕ) (at place : ℕ) → length s ≤ at + n → (list_from n s slots channels set at).answer ≡ bad_at place → BadAt at place
   unfolding list_from list_fits
   items-bad zero set at place m h =
       let p : at ≡ place = ap place_of h in
@@ -307,9 +307,9 @@ module _ (s : List ℕ) (short : length s < nowhere) (slots channels : ℕ) (few
       rest = list_from n s slots channels with comma
 
       Others : Type 0
-      Others = length s ≤ comma + n → rest.answer ≡ Bad place → BadAt comma place
+      Others = length s ≤ comma + n → rest.answer ≡ bad_at place → BadAt comma place
 
-      on : (t : Bool) → eqb comma nowhere ≡ t → (next ≡ length s → ⊥) → Others → (pick t (bad_list at) rest).answer ≡ Bad place → BadAt at place
+      on : (t : Bool) → eqb comma nowhere ≡ t → (next ≡ length s → ⊥) → Others → (pick t (bad_list at) rest).answer ≡ bad_at place → BadAt at place
       on true e far o g =
           let p : at ≡ place = ap place_of g in (
             [],
@@ -334,13 +334,13 @@ module _ (s : List ℕ) (short : length s < nowhere) (slots channels : ℕ) (few
             r.4,
           )
 
-      ended : (t : Bool) → eqb next (length s) ≡ t → Others → (pick t (fine_list with) (pick (eqb comma nowhere) (bad_list at) rest)).answer ≡ Bad place
+      ended : (t : Bool) → eqb next (length s) ≡ t → Others → (pick t (fine_list with) (pick (eqb comma nowhere) (bad_list at) rest)).answer ≡ bad_at place
           → BadAt at place
       ended true e o g = let z : ◌≡◌ {A = ℕ} 0 1 = cc in absurd (omega arith)
       ended false e o g = on (eqb comma nowhere) refl (eqb-false _ _ e) o g
 
 -- a list that is bad at a place has items that fit the site up to there, each with a comma after it, and there none
-pub bad-place : (s : List ℕ) (slots channels at : ℕ) → length s < nowhere → sizes_fit slots channels ≡ true → (read_list s slots channels).answer ≡ Bad at
+pub bad-place : (s : List ℕ) (slots channels at : ℕ) → length s < nowhere → sizes_fit slots channels ≡ true → (read_list s slots channels).answer ≡ bad_at at
     → (l : List Item) × (list_fits slots channels l ≡ true) × (s ≡ begun l ++ drop at s) × (at ≡ length (begun l)) × (ItemHere slots channels (drop at s) → ⊥)
 bad-place s slots channels at short fit h =
     let z = sizes-are slots channels fit in

@@ -7,8 +7,8 @@ use Rattle.text.specs.Decimal.{digits_of, decimal}
 use Rattle.lines.specs.Match.{starts, nowhere, eaten}
 use Rattle.lines.specs.Content.{more, scanned, number_read}
 use Rattle.blocklist.specs.Format.{Item, all, one, range, list_text, list_has}
-use Rattle.blocklist.specs.Read.{span_of, span_read, block_read, list_from, sizes_fit, read_list}
-use Rattle.blocklist.specs.declared.ListAnswer.TheVariants.{Fine, Bad}
+use Rattle.blocklist.specs.Read.{span_of, span_read, block_read, list_from, sizes_fit, read_list, bad_at}
+use Rattle.std.specs.Prelude.{Ok}
 
 -- a plant's Wi-Fi in every slot, and slot 3 on channel 1
 abbrev pub wifi : List Item
@@ -60,6 +60,6 @@ pub places-told :
     ∷ (49 ∷ 46 ∷ 49 ∷ 44 ∷ 44 ∷ 50 ∷ 46 ∷ 50 ∷ [])
     ∷ (49 ∷ 46 ∷ 49 ∷ 44 ∷ 50 ∷ 46 ∷ 50 ∷ 44 ∷ 51 ∷ 46 ∷ 120 ∷ [])
     ∷ [])
-    ≡ Fine ∷ Bad 0 ∷ Bad 0 ∷ Bad 4 ∷ Bad 4 ∷ Bad 4 ∷ Bad 8 ∷ []
+    ≡ Ok tt ∷ bad_at 0 ∷ bad_at 0 ∷ bad_at 4 ∷ bad_at 4 ∷ bad_at 4 ∷ bad_at 8 ∷ []
 unfolding read_list sizes_fit list_from block_read span_read span_of number_read eaten starts scanned more decimal digits_of
 places-told = refl

@@ -1,6 +1,6 @@
 -- What reading a list of blocked positions answers, of any bytes s at all. The items are read from place to place; after what is not there the place is
 -- `nowhere`.
-use Rattle.std.specs.Prelude.{ℕ, zero, suc, Bool, ◌&&◌, ◌||◌, List, [], ◌∷◌, leb, eqb, length}
+use Rattle.std.specs.Prelude.{ℕ, zero, suc, Bool, ◌&&◌, ◌||◌, List, [], ◌∷◌, leb, eqb, length, Result, Ok, Err}
 use Rattle.laws.specs.Choice.{pick}
 use Rattle.lines.specs.Match.{nowhere, eaten}
 use Rattle.lines.specs.Content.{number_read}
@@ -10,7 +10,7 @@ use Rattle.blocklist.specs.Format.{star_byte, between_byte, dash_byte, dot_byte,
 use Rattle.blocklist.specs.declared.Span.{Span}
 use Rattle.blocklist.specs.declared.Block.{Block}
 use Rattle.blocklist.specs.declared.ListRead.{ListRead}
-use Rattle.blocklist.specs.declared.ListAnswer.TheVariants.{Fine, Bad}
+use Rattle.blocklist.specs.declared.BadList.{BadList}
 
 -- the numbers from `from` to `to`: not where that begins with 0 or runs backwards
 unfoldable pub span_of : ℕ → ℕ → ℕ → Span
@@ -44,10 +44,13 @@ unfoldable pub with_block : ℕ → Block → List ℕ → List ℕ
 with_block channels b set = set_of (λ k. blocked_at set k || covers channels b k)
 
 abbrev pub fine_list : List ℕ → ListRead
-fine_list set = record { blocked = set; answer = Fine }
+fine_list set = record { blocked = set; answer = Ok tt }
+
+abbrev pub bad_at : ℕ → Result Unit BadList
+bad_at at = Err (record { 0 = at })
 
 abbrev pub bad_list : ℕ → ListRead
-bad_list at = record { blocked = empty_set; answer = Bad at }
+bad_list at = record { blocked = empty_set; answer = bad_at at }
 
 -- the items from `at` on, at most n of them, where the set has those before: an item, and then the end of the list or a comma and more
 unfoldable pub list_from : ℕ → List ℕ → ℕ → ℕ → List ℕ → ℕ → ListRead

@@ -20,18 +20,15 @@ const DASH: u8 = 45;
 
 const DOT: u8 = 46;
 
-// What the reader answers: the list is read, or the place of the first item that is not one.
+// The place of the first item of a list that is not one.
 #[derive(Clone, Copy)]
-pub enum ListAnswer {
-    Fine,
-    Bad(usize),
-}
+pub struct BadList(pub usize);
 
 // The blocked positions; none beside a refusal.
 #[derive(Clone, Copy)]
 pub struct ListRead {
     pub blocked: [u64; 32],
-    pub answer: ListAnswer,
+    pub answer: Result<(), BadList>,
 }
 
 // The numbers of one side of an item, and the place after it; NOWHERE where it is not of the format.
@@ -156,7 +153,7 @@ fn bad_list(at: usize) -> ListRead
 {
     ListRead {
         blocked: [0; 32],
-        answer: ListAnswer::Bad(at),
+        answer: Err(BadList(at)),
     }
 }
 
@@ -167,15 +164,14 @@ fn read_items(s: &[u8], slots: usize, channels: usize) -> ListRead
 {
     let mut set = [0u64; 32];
     let mut at: usize = 0;
-    let mut left = s.len();
-    while 0 < left {
+    for _ in 0..s.len() {
         let block = read_block(s, at, slots, channels);
         add_block(&mut set, block, channels);
         let next = block.channels.next;
         if next == s.len() {
             return ListRead {
                 blocked: set,
-                answer: ListAnswer::Fine,
+                answer: Ok(()),
             };
         }
         let comma = eat(s, next, COMMA);
@@ -183,7 +179,6 @@ fn read_items(s: &[u8], slots: usize, channels: usize) -> ListRead
             return bad_list(at);
         }
         at = comma;
-        left -= 1;
     }
     bad_list(at)
 }

@@ -19,7 +19,7 @@ pub struct Block {
 }
 
 // A bit's weight where a byte is a reservation, else 0.
-fn weight(byte: u8, w: u8) -> u8
+pub fn bits_if(byte: u8, w: u8) -> u8
     ensures { (result ≡ pick (sends byte) w 0) × (result ≤ w) }
 {
     if byte == 1 {
@@ -33,14 +33,14 @@ fn column(bytes: &[u8], at: usize) -> u8
     requires { at + 113 ≤ length bytes.now }
     ensures { result ≡ column_at bytes.now at }
 {
-    let a = weight(bytes[at], 1);
-    let b = weight(bytes[at + 16], 2);
-    let c = weight(bytes[at + 32], 4);
-    let d = weight(bytes[at + 48], 8);
-    let e = weight(bytes[at + 64], 16);
-    let f = weight(bytes[at + 80], 32);
-    let g = weight(bytes[at + 96], 64);
-    let h = weight(bytes[at + 112], 128);
+    let a = bits_if(bytes[at], 1);
+    let b = bits_if(bytes[at + 16], 2);
+    let c = bits_if(bytes[at + 32], 4);
+    let d = bits_if(bytes[at + 48], 8);
+    let e = bits_if(bytes[at + 64], 16);
+    let f = bits_if(bytes[at + 80], 32);
+    let g = bits_if(bytes[at + 96], 64);
+    let h = bits_if(bytes[at + 112], 128);
     a + b + c + d + e + f + g + h
 }
 
@@ -140,18 +140,17 @@ fn has_place(low: u64, high: u64, k: usize) -> bool
 }
 
 // The lowest position of a block; 128 where it has none.
+#[tactic(auto, using(laws::proofs::Search::found, laws::proofs::Search::missed, laws::proofs::Search::ended))]
 pub fn lowest_place(low: u64, high: u64) -> usize
     ensures { result ≡ first (placed low high) 0 128 }
 {
     if (low | high) == 0 {
         return 128;
     }
-    let mut k: usize = 0;
-    while k < 128 {
+    for k in 0..128 {
         if has_place(low, high, k) {
             return k;
         }
-        k += 1;
     }
-    k
+    128
 }

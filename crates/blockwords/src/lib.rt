@@ -56,6 +56,7 @@ pub fn first_plain(low: u64, high: u64) -> u64
 }
 
 // The other 64.
+// It takes the high halves: one function with the half as an argument would have to choose between the two, so it is no plainer.
 pub fn second_plain(low: u64, high: u64) -> u64
     ensures { result ≡ word_of (plain_bit 4 low high) 64 }
 {

@@ -5,21 +5,21 @@ ghost use Rattle.std.specs.Prelude.{◌≡◌};
 ghost use Rattle.records.specs.Write.{written, laid_over};
 ghost use Rattle.say_answers.specs.Said.{call_said};
 
-use records::Written;
+use records::WriteError;
 use say_answers::put_call;
 use text::put_text;
 
 // A text laid into the output, where there is room for it.
-fn lay_text(text: &[u8], out: &mut [u8]) -> Written
+fn lay_text(text: &[u8], out: &mut [u8]) -> Result<usize, WriteError>
     ensures answer { result ≡ written text.now out.old }
     ensures out { out.new ≡ laid_over text.now out.old }
 {
     let need = text.len();
     if out.len() < need {
-        return Written::OutShort(need);
+        return Err(WriteError::OutShort(need));
     }
     put_text(out, 0, text);
-    Written::Done(need)
+    Ok(need)
 }
 
 // The answer of a call, by its number in the header: the number given back and its values.
@@ -30,7 +30,7 @@ pub fn call_text(
     b: usize,
     c: usize,
     out: &mut [u8],
-) -> Written
+) -> Result<usize, WriteError>
     ensures answer { result ≡ written (call_said call number a b c) out.old }
     ensures out { out.new ≡ laid_over (call_said call number a b c) out.old }
 {

@@ -6,7 +6,7 @@ ghost use Rattle.std.specs.Prelude.{◌≡◌, get_or};
 ghost use Rattle.site.specs.Record.{fault_of};
 ghost use Rattle.site.specs.Reach.{clash_answer};
 ghost use Rattle.site.specs.Edit.{set_load_of, set_reach_of, clear_reach_of};
-ghost use Rattle.site.specs.Given.{fault_given, clash_given};
+ghost use Rattle.site.specs.Given.{done_given, clash_given};
 ghost use Rattle.judges.specs.Judges.{load_answer, chain_answer, class_answer, least_answer};
 ghost use Rattle.judges.specs.Given.{load_given, chain_given, class_given, least_given};
 ghost use Rattle.heaviest.specs.Sets.{heaviest_of};
@@ -64,72 +64,72 @@ const VERSION: usize = 4;
 // The calls. Each makes its call and converts the answer; a cell is named by a number of two bytes.
 #[unsafe(no_mangle)]
 pub extern "C" fn dugg_fault(site: Site) -> Answer
-    ensures { result ≡ told (fault_given (fault_of site)) }
+    ensures { result ≡ told (done_given (fault_of site)) }
 {
-    told::fault_answer(site.fault_in())
+    Answer::from(site.accepted())
 }
 
 #[unsafe(no_mangle)]
 pub extern "C" fn dugg_clash(site: Site, a: u16, b: u16) -> Answer
     ensures { result ≡ told (clash_given (clash_answer site a b)) }
 {
-    told::clash_answer(site.clash(a as usize, b as usize))
+    Answer::from(site.clash(a as usize, b as usize))
 }
 
 #[unsafe(no_mangle)]
 pub extern "C" fn dugg_set_load(site: Site, cell: u16, load: u16) -> EditedSite
     ensures { result ≡ told_edited (set_load_of site cell load) }
 {
-    toldfiles::edited_answer(site.set_load(cell as usize, load))
+    EditedSite::from(site.set_load(cell as usize, load))
 }
 
 #[unsafe(no_mangle)]
 pub extern "C" fn dugg_set_reach(site: Site, from: u16, to: u16) -> EditedSite
     ensures { result ≡ told_edited (set_reach_of site from to) }
 {
-    toldfiles::edited_answer(site.set_reach(from as usize, to as usize))
+    EditedSite::from(site.set_reach(from as usize, to as usize))
 }
 
 #[unsafe(no_mangle)]
 pub extern "C" fn dugg_clear_reach(site: Site, from: u16, to: u16) -> EditedSite
     ensures { result ≡ told_edited (clear_reach_of site from to) }
 {
-    toldfiles::edited_answer(site.clear_reach(from as usize, to as usize))
+    EditedSite::from(site.clear_reach(from as usize, to as usize))
 }
 
 #[unsafe(no_mangle)]
 pub extern "C" fn dugg_load_test(site: Site) -> Answer
     ensures { result ≡ told (load_given (load_answer site)) }
 {
-    told::load_answer(judges::load_test(site))
+    Answer::from(judges::load_test(site))
 }
 
 #[unsafe(no_mangle)]
 pub extern "C" fn dugg_chain(site: Site) -> Answer
     ensures { result ≡ told (chain_given (chain_answer site)) }
 {
-    told::chain_answer(judges::chain(site))
+    Answer::from(judges::chain(site))
 }
 
 #[unsafe(no_mangle)]
 pub extern "C" fn dugg_class(site: Site) -> Answer
     ensures { result ≡ told (class_given (class_answer site)) }
 {
-    told::class_answer(judges::in_class(site))
+    Answer::from(judges::in_class(site))
 }
 
 #[unsafe(no_mangle)]
 pub extern "C" fn dugg_least(site: Site) -> Answer
     ensures { result ≡ told (least_given (least_answer site)) }
 {
-    told::least_answer(judges::least(site))
+    Answer::from(judges::least(site))
 }
 
 #[unsafe(no_mangle)]
 pub extern "C" fn dugg_heaviest(site: Site) -> Answer
     ensures { result ≡ told (heaviest_given (heaviest_of site)) }
 {
-    told::heaviest_answer(heaviest::heaviest(site))
+    Answer::from(heaviest::heaviest(site))
 }
 
 #[unsafe(no_mangle)]
@@ -137,7 +137,7 @@ pub extern "C" fn dugg_plan(site: Site, table: &mut [u8]) -> Answer
     ensures value { result ≡ told (plan_given (plan_answer site table.old)) }
     ensures table_after { table.new ≡ plan_table site table.old }
 {
-    told::plan_answer(planner::plan(site, table))
+    Answer::from(planner::plan(site, table))
 }
 
 #[unsafe(no_mangle)]
@@ -145,7 +145,7 @@ pub extern "C" fn dugg_search(site: Site, limit: u64, table: &mut [u8]) -> Answe
     ensures value { result ≡ told (search_given (search_answer site limit table.old)) }
     ensures table_after { table.new ≡ search_table site limit table.old }
 {
-    told::search_answer(search::search(site, limit, table))
+    Answer::from(search::search(site, limit, table))
 }
 
 #[unsafe(no_mangle)]
@@ -153,14 +153,14 @@ pub extern "C" fn dugg_find(site: Site, limit: u64, table: &mut [u8]) -> Answer
     ensures value { result ≡ told (find_given (find_answer site limit table.old)) }
     ensures table_after { table.new ≡ find_table site limit table.old }
 {
-    told::find_answer(finder::find(site, limit, table))
+    Answer::from(finder::find(site, limit, table))
 }
 
 #[unsafe(no_mangle)]
 pub extern "C" fn dugg_over_full(site: Site, cells: u32) -> Answer
     ensures { result ≡ told (over_full_given (over_full_answer site cells)) }
 {
-    told::over_full_answer(finder::over_full(site, cells))
+    Answer::from(finder::over_full(site, cells))
 }
 
 // The change of a load by value, with its answer as a C caller gets it.
@@ -168,7 +168,7 @@ fn changed_by(site: Site, cell: u16, load: u16, table: &mut [u8]) -> EditedSite
     ensures { (result ≡ told_changed (changed_of site cell load table.old))
         × (table.new ≡ change_table site cell load table.old) }
 {
-    toldfiles::changed_site(handheld::changed_load(site, cell as usize, load, table))
+    EditedSite::from(handheld::changed_load(site, cell as usize, load, table))
 }
 
 #[unsafe(no_mangle)]
@@ -192,7 +192,7 @@ pub extern "C" fn dugg_change_load(
 pub extern "C" fn dugg_check(site: Site, table: &[u8]) -> Answer
     ensures { result ≡ told (check_given (check_answer site table.now)) }
 {
-    told::check_answer(checker::check(site, table))
+    Answer::from(checker::check(site, table))
 }
 
 #[unsafe(no_mangle)]
@@ -200,14 +200,14 @@ pub extern "C" fn dugg_plan_words(site: Site, words: &mut [u32]) -> Answer
     ensures value { result ≡ told (plan_given (plan_words_answer site words.old)) }
     ensures words_after { words.new ≡ plan_words site words.old }
 {
-    told::plan_answer(wordtable::plan_words(site, words))
+    Answer::from(wordtable::plan_words(site, words))
 }
 
 #[unsafe(no_mangle)]
 pub extern "C" fn dugg_check_words(site: Site, words: &[u32]) -> Answer
     ensures { result ≡ told (check_given (check_words_answer site words.now)) }
 {
-    told::check_answer(wordtable::check_words(site, words))
+    Answer::from(wordtable::check_words(site, words))
 }
 
 #[unsafe(no_mangle)]
@@ -215,7 +215,7 @@ pub extern "C" fn dugg_to_words(site: Site, table: &[u8], words: &mut [u32]) -> 
     ensures value { result ≡ told (form_given (form_answer site table.now words.old)) }
     ensures words_after { words.new ≡ to_words site table.now words.old }
 {
-    told::form_answer(wordtable::to_words(site, table, words))
+    Answer::from(wordtable::to_words(site, table, words))
 }
 
 #[unsafe(no_mangle)]
@@ -223,7 +223,7 @@ pub extern "C" fn dugg_to_bytes(site: Site, words: &[u32], table: &mut [u8]) -> 
     ensures value { result ≡ told (form_given (form_answer site table.old words.now)) }
     ensures table_after { table.new ≡ to_bytes site words.now table.old }
 {
-    told::form_answer(wordtable::to_bytes(site, words, table))
+    Answer::from(wordtable::to_bytes(site, words, table))
 }
 
 #[unsafe(no_mangle)]
@@ -232,14 +232,14 @@ pub extern "C" fn dugg_mend(site: Site, table: &mut [u8], changes: &mut [u16]) -
     ensures table_after { table.new ≡ mend_table site table.old changes.old }
     ensures changes_after { changes.new ≡ mend_list site table.old changes.old }
 {
-    told::mend_answer(mender::mend(site, table, changes))
+    Answer::from(mender::mend(site, table, changes))
 }
 
 #[unsafe(no_mangle)]
 pub extern "C" fn dugg_renumber(site: Site) -> RenumberedC
     ensures { result ≡ told_renumbered (renumber_of site) }
 {
-    told::renumbered_site(numbering::renumber(site))
+    RenumberedC::from(numbering::renumber(site))
 }
 
 #[unsafe(no_mangle)]
@@ -247,14 +247,14 @@ pub extern "C" fn dugg_carry(site: Site, from: &[u8], to: &mut [u8]) -> Answer
     ensures value { result ≡ told (carry_given (carry_answer site from.now to.old)) }
     ensures to_after { to.new ≡ carry_table site from.now to.old }
 {
-    told::carry_answer(numbering::carry(site, from, to))
+    Answer::from(numbering::carry(site, from, to))
 }
 
 #[unsafe(no_mangle)]
 pub extern "C" fn dugg_share(slots: u16, burst: u16, period: u16) -> Answer
     ensures { result ≡ told (share_given (share_of slots burst period default_repeats)) }
 {
-    told::share_answer(shares::share(
+    Answer::from(shares::share(
         Slots(slots as u32),
         Fragments(burst as u32),
         Slots(period as u32),
@@ -265,7 +265,7 @@ pub extern "C" fn dugg_share(slots: u16, burst: u16, period: u16) -> Answer
 pub extern "C" fn dugg_share_repeated(slots: u16, burst: u16, period: u16, repeats: u16) -> Answer
     ensures { result ≡ told (share_given (share_of slots burst period repeats)) }
 {
-    told::share_answer(shares::share_of(
+    Answer::from(shares::share_of(
         Slots(slots as u32),
         Fragments(burst as u32),
         Slots(period as u32),
@@ -277,7 +277,7 @@ pub extern "C" fn dugg_share_repeated(slots: u16, burst: u16, period: u16, repea
 pub extern "C" fn dugg_read_site(bytes: &[u8]) -> EditedSite
     ensures { result ≡ told_site_read (read_site bytes.now) }
 {
-    toldfiles::site_read(sitefile::read_site(bytes))
+    EditedSite::from(sitefile::read_site(bytes))
 }
 
 #[unsafe(no_mangle)]
@@ -285,7 +285,7 @@ pub extern "C" fn dugg_write_site(site: Site, out: &mut [u8]) -> Answer
     ensures value { result ≡ told (written_given (site_written site out.old)) }
     ensures out_after { out.new ≡ site_out site out.old }
 {
-    toldfiles::written_answer(sitefile::write_site(site, out))
+    Answer::from(sitefile::write_site(site, out))
 }
 
 #[unsafe(no_mangle)]
@@ -293,7 +293,7 @@ pub extern "C" fn dugg_read_plan(bytes: &[u8], table: &mut [u8]) -> PlanReadC
     ensures value { result ≡ told_plan_read (read_plan bytes.now table.old) }
     ensures table_after { table.new ≡ plan_table_read bytes.now table.old }
 {
-    toldfiles::plan_read(planfile::read_plan(bytes, table))
+    PlanReadC::from(planfile::read_plan(bytes, table))
 }
 
 #[unsafe(no_mangle)]
@@ -301,7 +301,7 @@ pub extern "C" fn dugg_write_plan(site: Site, table: &[u8], out: &mut [u8]) -> A
     ensures value { result ≡ told (plan_written_given (plan_written site table.now out.old)) }
     ensures out_after { out.new ≡ plan_out site table.now out.old }
 {
-    toldfiles::plan_written(planfile::write_plan(site, table, out))
+    Answer::from(planfile::write_plan(site, table, out))
 }
 
 #[unsafe(no_mangle)]
@@ -315,7 +315,7 @@ pub extern "C" fn dugg_read_sheet(
     ensures { result ≡ told_sheet_read (read_sheet bytes.now slots channels blocked.bits rule) }
 {
     let bits = blocked.bits;
-    toldfiles::sheet_read(sheet::read_sheet(bytes, slots, channels, bits, rule))
+    EditedSite::from(sheet::read_sheet(bytes, slots, channels, bits, rule))
 }
 
 #[unsafe(no_mangle)]
@@ -323,7 +323,7 @@ pub extern "C" fn dugg_write_sheet(site: Site, out: &mut [u8]) -> Answer
     ensures value { result ≡ told (written_given (sheet_written site out.old)) }
     ensures out_after { out.new ≡ sheet_out site out.old }
 {
-    toldfiles::written_answer(sheet::write_sheet(site, out))
+    Answer::from(sheet::write_sheet(site, out))
 }
 
 #[unsafe(no_mangle)]
@@ -331,21 +331,21 @@ pub extern "C" fn dugg_tidy(sheet: &[u8], out: &mut [u8]) -> Answer
     ensures value { result ≡ told (tidy_given (tidy_answer sheet.now out.old)) }
     ensures out_after { out.new ≡ tidy_out sheet.now out.old }
 {
-    toldfiles::tidy_answer(tidying::tidy(sheet, out))
+    Answer::from(tidying::tidy(sheet, out))
 }
 
 #[unsafe(no_mangle)]
 pub extern "C" fn dugg_admit(site: Site, flows: &[Flow]) -> Answer
     ensures { result ≡ told (admit_given (admit_answer site flows.now)) }
 {
-    told::admit_answer(admission::admit(site, flows))
+    Answer::from(admission::admit(site, flows))
 }
 
 #[unsafe(no_mangle)]
 pub extern "C" fn dugg_admit_beside(site: Site, flows: &[Flow]) -> Answer
     ensures { result ≡ told (beside_given (beside_answer site flows.now)) }
 {
-    told::beside_answer(admission::admit_beside(site, flows))
+    Answer::from(admission::admit_beside(site, flows))
 }
 
 #[unsafe(no_mangle)]
@@ -356,7 +356,7 @@ pub extern "C" fn dugg_words(given: Answer, call: u64, out: &mut [u8]) -> Answer
         (get_or given.value 2 0)) out.old }
 {
     let value = given.value;
-    toldfiles::written_answer(calltext::call_text(
+    Answer::from(calltext::call_text(
         call as usize,
         given.number as usize,
         value[0] as usize,
@@ -371,7 +371,7 @@ pub extern "C" fn dugg_why(site: Site, out: &mut [u8]) -> Answer
     ensures value { result ≡ told (written_given (why_written site out.old)) }
     ensures out_after { out.new ≡ why_out site out.old }
 {
-    toldfiles::written_answer(whytext::why_text(site, out))
+    Answer::from(whytext::why_text(site, out))
 }
 
 #[unsafe(no_mangle)]
@@ -379,7 +379,7 @@ pub extern "C" fn dugg_list(bytes: &[u8], out: &mut [u8]) -> Answer
     ensures value { result ≡ told (written_given (written (listing bytes.now) out.old)) }
     ensures out_after { out.new ≡ laid_over (listing bytes.now) out.old }
 {
-    toldfiles::written_answer(listtext::list_text(bytes, out))
+    Answer::from(listtext::list_text(bytes, out))
 }
 
 #[unsafe(no_mangle)]

@@ -6,7 +6,7 @@ ghost use Rattle.std.specs.Prelude.{◌≡◌, get_or};
 ghost use Rattle.site.specs.Record.{fault_of};
 ghost use Rattle.site.specs.Reach.{clash_answer};
 ghost use Rattle.site.specs.Edit.{set_load_of, set_reach_of, clear_reach_of};
-ghost use Rattle.site.specs.Given.{fault_given, clash_given};
+ghost use Rattle.site.specs.Given.{done_given, clash_given};
 ghost use Rattle.judges.specs.Judges.{load_answer, chain_answer, class_answer, least_answer};
 ghost use Rattle.judges.specs.Given.{load_given, chain_given, class_given, least_given};
 ghost use Rattle.heaviest.specs.Sets.{heaviest_of};
@@ -59,7 +59,7 @@ use toldfiles::{Blocked, EditedSite, PlanReadC};
 
 #[unsafe(no_mangle)]
 pub extern "C" fn dugg_fault(site: Site) -> Answer
-    ensures { result ≡ told (fault_given (fault_of site)) }
+    ensures { result ≡ told (done_given (fault_of site)) }
 {
     capi::dugg_fault(site)
 }

@@ -4,6 +4,7 @@ use mathlib.Core.Bool.{Bool, true, false, not, ◌&&◌}
 use mathlib.Core.List.{List}
 use mathlib.Core.Logic.{⊎_elim}
 use mathlib.Core.Path.{◌≡◌, refl, sym, ap, ap₂, fun_ext, ◌∙◌}
+use borrow.Author.Tests.{lt-ltb, le-ltb}
 use lib.Bits.{bit_and}
 use lib.Dec.{ltb}
 use lib.ListN.{get_or}
@@ -12,7 +13,7 @@ use Rattle.laws.specs.Choice.{pick}
 use Rattle.laws.specs.Search.{first}
 use Rattle.laws.proofs.Bits.{bit-and}
 use Rattle.laws.proofs.Choice.{cases}
-use Rattle.laws.proofs.Search.{first-most}
+use Rattle.laws.proofs.Search.{found, missed, ended, first-most}
 use Rattle.theory.specs.Net.{Net}
 use Rattle.theory.specs.Verdict.{gap, break_of, near_to, second, splits, split_of, first_split}
 use Rattle.chainwords.specs.Chain.{Mirrored, chain_in, gap_in, break_in, far_in, split_in, first_split_in}
@@ -42,6 +43,11 @@ module _ (rows : List ℕ) (who n a : ℕ) where
       spare e =
           ap (λ t. pick t (first (λ c. bit_at who c && bit_in rows a c) (gap_in (get_or rows a 0) who a n) n) n) e
           ∙ sym (break-none (chain_in n (bit_in rows)) (bit_at who) a h e)
+
+-- what a search for a break asks, and one for a split
+pub ruleset break_laws = (found, missed, ended, break-row, lt-ltb, le-ltb)
+
+pub ruleset split_laws = (found, missed, ended, lt-ltb, le-ltb)
 
 -- rows that state a symmetric relation
 pub mirrored-by : (rows : List ℕ) (clash : ℕ → ℕ → Bool) → bit_in rows ≡ clash → ((a b : ℕ) → clash a b ≡ clash b a) → Mirrored rows

@@ -30,18 +30,17 @@ pub fn break_of(row: u32, who: u32, a: usize, cells: usize) -> usize
 }
 
 // The first cell that some cell breaks the chain with; the number of cells where there is none.
+#[tactic(auto, using(crate::proofs::Rows::break_laws), unfolding(theory::specs::Verdict::first_break))]
 pub fn first_break(clash: &[u32; 32], who: u32, cells: usize) -> usize
     requires { cells ≤ 32 }
     ensures { result ≡ first_break (chain_in cells (bit_in clash.now)) (bit_at who) }
 {
-    let mut a = 0;
-    while a < cells {
+    for a in 0..cells {
         if break_of(clash[a], who, a, cells) < cells {
             return a;
         }
-        a += 1;
     }
-    a
+    cells
 }
 
 // The first cell of `near`, the cells that count and clash with i, that does not clash with a later one of them below i; i where there is none.
@@ -50,6 +49,7 @@ fn first_far(clash: &[u32; 32], near: u32, i: usize) -> usize
     ensures { result ≡ far_in clash.now near i }
 {
     let mut a = lowest(near, 0, i);
+    // From member to member of a word: no index is counted.
     while a < i {
         if gap(clash[a], near, a, i) < i {
             return a;
@@ -71,16 +71,15 @@ pub fn split_of(clash: &[u32; 32], who: u32, i: usize) -> usize
 }
 
 // The first cell with two lower clashing cells that do not clash; the number of cells where there is none.
+#[tactic(auto, using(crate::proofs::Rows::split_laws), unfolding(crate::specs::Chain::first_split_in))]
 pub fn first_split(clash: &[u32; 32], who: u32, cells: usize) -> usize
     requires { cells ≤ 32 }
     ensures { result ≡ first_split_in clash.now who cells }
 {
-    let mut i = 0;
-    while i < cells {
+    for i in 0..cells {
         if split_of(clash, who, i) < i {
             return i;
         }
-        i += 1;
     }
-    i
+    cells
 }

@@ -23,15 +23,8 @@ fn put_text(rt: &HostRuntime, text: &[u8], end: usize, res: bool) -> bool {
     reply::message(rt, text, end)
 }
 
-// Where the bytes of the next cell begin, and whether the text so far was written.
-#[derive(Clone, Copy)]
-struct Row {
-    next: usize,
-    written: bool,
-}
-
 // The changes of a cell in English, a slot at a time, where its bytes begin at `from` in both tables. Where a table ended before, or the text can't be
-// written, it stops there.
+// written, it stops there and gives none; else it gives where the bytes of the next cell begin.
 fn put_row(
     rt: &HostRuntime,
     old: &[u8],
@@ -42,36 +35,24 @@ fn put_row(
     channels: usize,
     cell: usize,
     res: bool,
-) -> Row
+) -> Option<usize>
     requires { (65536 ≤ length text.old) × (channels ≤ 16) }
 {
     let mut at = from;
     for slot in 0..slots {
         if !holds(old, at, channels) {
-            return Row {
-                next: at,
-                written: false,
-            };
+            return None;
         }
         if !holds(new, at, channels) {
-            return Row {
-                next: at,
-                written: false,
-            };
+            return None;
         }
         let end = say_changes::put_changes(text, 0, old, new, at, channels, cell, slot + 1);
         if !put_text(rt, text, end, res) {
-            return Row {
-                next: at,
-                written: false,
-            };
+            return None;
         }
         at += channels;
     }
-    Row {
-        next: at,
-        written: true,
-    }
+    Some(at)
 }
 
 // Each change in English, cell by cell, as a part of the result or as words; whether all of them were written. A site that was read has at most 16 channels,
@@ -94,11 +75,10 @@ pub fn put_all_changes(
     }
     let mut at: usize = 0;
     for i in 0..cells {
-        let row = put_row(rt, old, new, text, at, slots, channels, i + 1, res);
-        if !row.written {
-            return false;
+        match put_row(rt, old, new, text, at, slots, channels, i + 1, res) {
+            Some(next) => at = next,
+            None => return false,
         }
-        at = row.next;
     }
     true
 }

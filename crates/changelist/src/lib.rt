@@ -60,6 +60,7 @@ fn list_word(
 {
     let mut rest = is ^ was;
     let mut next = at;
+    // From change to change of a word: no index is counted.
     while rest != 0 {
         let b = u64::trailing_zeros(rest) as usize;
         let stands = (is >> b) % 2 == 1;

@@ -2,7 +2,7 @@
 -- load and no blocked position, and the search for a wrong count at no clash and no blocked position, so each is stated over a problem without them,
 -- and has the whole problem's answer. Assumes nothing.
 use mathlib.Core.Path.{◌≡◌, refl, sym, ap, ◌∙◌}
-use mathlib.Core.Bool.{Bool, false}
+use mathlib.Core.Bool.{Bool}
 use mathlib.Core.List.{List}
 use Prim.Native.Nat.{ℕ, ◌+◌, ◌*◌, ◌≤◌, ◌<◌, zero-le}
 use native.Mathlib.Omega.{arith}
@@ -32,18 +32,24 @@ use Rattle.theory.specs.Verdict.{
   open_verdict,
   table_verdict,
 }
-use Rattle.site.specs.Record.{positions, size, fault_of, is_fine}
-use Rattle.site.specs.Reach.{clash_of, is_open, net_in, net_of}
+use Rattle.std.specs.Prelude.{Result, Ok, Err}
+use Rattle.site.specs.Record.{positions, size, fault_of}
+use Rattle.site.specs.Reach.{is_open, net_in, net_of}
 use Rattle.site.specs.declared.Site.{Site}
-use Rattle.site.specs.declared.Fault.{Fault}
-use Rattle.site.specs.declared.Fault.TheVariants.{Fine}
+use Rattle.site.proofs.Faults.{fine-sized, few-positions, few_bytes}
 use Rattle.words.specs.Words.{word_at}
 use Rattle.words.specs.Clashes.{second_in, first_in}
 use Rattle.words.proofs.Clashes.{second_word, first_word}
 use Rattle.rowcounts.specs.Counts.{load_net}
 use Rattle.checker.specs.Marks.{bar_net, clash_net, clashing}
 use Rattle.checker.specs.Check.{verdict_of, checked_by, check_answer}
-use Rattle.checker.specs.declared.CheckAnswer.TheVariants.{Valid, TableShort, Blocked, Clash, Count, Refused}
+use Rattle.checker.specs.declared.CheckError.{CheckError}
+use Rattle.checker.specs.declared.CheckError.TheVariants.{Blocked, Clash, Count}
+
+-- a second cell is looked for up to the last cell
+pub second-most : (cells : ℕ) (rows : List ℕ) (word a : ℕ) → a < cells → second_in word rows cells a ≤ cells
+unfolding second_in
+second-most cells rows word a h = first-most _ (a + 1) cells (omega arith)
 
 module _ (cells n : ℕ) (rows t : List ℕ) where
   -- at the lowest position with a clash there is a first cell
@@ -60,10 +66,6 @@ module _ (cells n : ℕ) (rows t : List ℕ) where
 
     pub first-inside : {a : ℕ} → p ≡ lowest_clash (clash_net cells n rows) (reserved n t) → p < n → a ≡ first_in word rows cells → a < cells
     first-inside e h f = rw (is-first f) (first_below e h)
-
-  pub second-most : (word a : ℕ) → a < cells → second_in word rows cells a ≤ cells
-  unfolding second_in
-  second-most word a h = first-most _ (a + 1) cells (omega arith)
 
 module _ (cells n : ℕ) (loads rows t : List ℕ) where
   -- the whole problem, with the rows as its clash relation and nothing blocked
@@ -88,7 +90,7 @@ module _ (cells n : ℕ) (loads rows t : List ℕ) where
 
   module _ {p : ℕ} (lowest : p ≡ lowest_clash (clash_net cells n rows) (reserved n t)) where
     pub is-clash : {word a c : ℕ} → p < n → word ≡ word_at cells (reserved n t) p → a ≡ first_in word rows cells → c ≡ second_in word rows cells a
-        → Clash p (a + 1) (c + 1) ≡ verdict_of (open_verdict whole (reserved n t))
+        → Err (Clash p (a + 1) (c + 1)) ≡ verdict_of (open_verdict whole (reserved n t))
     unfolding open_verdict verdict_of
     is-clash {word} {a} {c} h w f g =
         let at : a < cells = first-inside cells n rows t p w lowest h f in
@@ -102,14 +104,14 @@ module _ (cells n : ℕ) (loads rows t : List ℕ) where
         ap verdict_of e
 
     module _ (none : n ≤ p) {i : ℕ} (low : i ≡ lowest_wrong (load_net cells n loads) (reserved n t)) where
-      pub is-count : {m : ℕ} → i < cells → m ≡ count (reserved n t i) n → Count (i + 1) m ≡ verdict_of (open_verdict whole (reserved n t))
+      pub is-count : {m : ℕ} → i < cells → m ≡ count (reserved n t i) n → Err (Count (i + 1) m) ≡ verdict_of (open_verdict whole (reserved n t))
       unfolding open_verdict verdict_of
       is-count {m} h e =
           let v : wrong i m ≡ open_verdict whole (reserved n t) =
           rw (sym (lowest ∙ same_clash), le-ltb p n none, sym (low ∙ same-wrong), lt-ltb i cells h, sym e) in
           ap verdict_of v
 
-      pub is-valid : cells ≤ i → Valid ≡ verdict_of (open_verdict whole (reserved n t))
+      pub is-valid : cells ≤ i → Ok tt ≡ verdict_of (open_verdict whole (reserved n t))
       unfolding open_verdict verdict_of
       is-valid h =
           let v : valid ≡ open_verdict whole (reserved n t) =
@@ -142,41 +144,39 @@ module _ (cells n : ℕ) (loads : List ℕ) (far : ℕ → ℕ → Bool) (blocke
 
   module _ {p : ℕ} (lowest : p ≡ lowest_barred (bar_net cells n blocked) res) where
     pub is-blocked : {i : ℕ} → p < n → i ≡ first (λ j. res j p) 0 cells
-        → Blocked p (i + 1) ≡ verdict_of (table_verdict (net_in cells n loads far (is_open blocked)) res)
+        → Err (Blocked p (i + 1)) ≡ verdict_of (table_verdict (net_in cells n loads far (is_open blocked)) res)
     unfolding table_verdict verdict_of
     is-blocked {i} h f =
         let e : barred p i ≡ table_verdict (net_in cells n loads far (is_open blocked)) res =
         rw (sym (lowest ∙ same-barred), lt-ltb p n h, sym (holder-is p f)) in
         ap verdict_of e
 
-    pub is_open-law : n ≤ p → verdict_of (open_verdict (net_in cells n loads far unblocked) res)
-        ≡ verdict_of (table_verdict (net_in cells n loads far (is_open blocked)) res)
+    pub is_open-law : (r : Result Unit CheckError) → n ≤ p → r ≡ verdict_of (open_verdict (net_in cells n loads far unblocked) res)
+        → r ≡ verdict_of (table_verdict (net_in cells n loads far (is_open blocked)) res)
     unfolding table_verdict
-    is_open-law h =
+    is_open-law r h is =
         let e : open_verdict (net_in cells n loads far (is_open blocked)) res ≡ table_verdict (net_in cells n loads far (is_open blocked)) res =
         rw (sym (lowest ∙ same-barred), le-ltb p n h) in
-        ap verdict_of (open_any cells n loads far unblocked (is_open blocked) res ∙ e)
+        is ∙ ap verdict_of (open_any cells n loads far unblocked (is_open blocked) res ∙ e)
 
--- ---- the ways of a check, whatever form the table has: so much is lent, and so much is due
+-- ---- what the code asks: the sizes of an accepted record
 
-module _ (s : Site) (res : Reserved) (lent due : ℕ) where
-  pub refused-by : (f : Fault) → f ≡ fault_of s → is_fine f ≡ false → Refused f ≡ checked_by s lent due res
-  refused-by f e h = rw (sym e, h)
+pub sizes_known : (s : Site) → fault_of s ≡ Ok tt → (s.cells ≤ 32) × (positions s ≤ 2048) × (size s ≤ 65536)
+sizes_known s fine = let z = fine-sized s fine in (z.cells_most, few-positions z, few_bytes z)
 
-  module _ (ok : fault_of s ≡ Fine) where
-    pub short-by : lent < due → TableShort ≡ checked_by s lent due res
-    short-by h = rw (ok, lt-ltb lent due h)
+-- ---- the check of an accepted record, whatever form the table has: so much is lent, and so much is due
 
-    pub judged-by : due ≤ lent → verdict_of (table_verdict (net_of s) res) ≡ checked_by s lent due res
-    judged-by h = rw (ok, le-ltb lent due h)
-
-    -- by the clash rows of the site
-    pub rows-by : due ≤ lent → (rows : List ℕ) → bit_in rows ≡ clash_of s
-        → verdict_of (table_verdict (net_in s.cells (positions s) s.loads (bit_in rows) (is_open s.blocked)) res) ≡ checked_by s lent due res
-    rows-by h rows e = ap (λ clash. verdict_of (table_verdict (net_in s.cells (positions s) s.loads clash (is_open s.blocked)) res)) e ∙ judged-by h
+pub judged-by : (s : Site) (res : Reserved) (lent due : ℕ) → fault_of s ≡ Ok tt → due ≤ lent
+    → verdict_of (table_verdict (net_of s) res) ≡ checked_by s lent due res
+judged-by s res lent due fine h = rw (fine, le-ltb lent due h)
 
 -- the check of a site with no fault and a table that is long enough
-pub check-judged : (s : Site) (t : List ℕ) → fault_of s ≡ Fine → s.cells * positions s ≤ length t
+pub check-judged : (s : Site) (t : List ℕ) → fault_of s ≡ Ok tt → s.cells * positions s ≤ length t
     → verdict_of (table_verdict (net_of s) (reserved (positions s) t)) ≡ check_answer s t
 unfolding check_answer
 check-judged s t = judged-by s (reserved (positions s) t) (length t) (size s)
+
+-- what the verdicts on a table use of the searches
+pub ruleset open_laws = (first-inside, second-most, is-clash, is-count, is-valid)
+
+pub ruleset barred_laws = (first-most, holder-word, is-blocked, is_open-law)

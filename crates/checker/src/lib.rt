@@ -8,17 +8,18 @@
 // Where some of 128 positions are blocked, each row is read there once more; where none is, only their two words are looked at.
 #![tactic(auto)]
 
-ghost use Rattle.std.specs.Prelude.{◌≡◌, ◌&&◌, not, ◌+◌, ◌-◌, ◌*◌, ◌≤◌, ◌<◌, eqb, length};
+ghost use Rattle.std.specs.Prelude.{◌≡◌, ◌&&◌, not, ◌+◌, ◌-◌, ◌*◌, ◌%◌, ◌≤◌, ◌<◌, eqb, length};
 ghost use Rattle.laws.specs.Bits.{bit_at, bit_in, word_of};
 ghost use Rattle.laws.specs.Choice.{pick};
 ghost use Rattle.laws.specs.Search.{first};
 ghost use Rattle.theory.specs.Net.{unblocked};
 ghost use Rattle.theory.specs.Greedy.{sends, reserved};
-ghost use Rattle.theory.specs.Verdict.{lowest_barred, lowest_clash, open_verdict, table_verdict};
+ghost use Rattle.theory.specs.Verdict.{barred_at, lowest_barred, lowest_clash, open_verdict, table_verdict};
 ghost use Rattle.site.specs.Reach.{is_open, net_in};
 ghost use Rattle.checker.specs.Marks.{bar_net, clash_net, clashing_in, held_in, mark_set, Marks, held_row};
 ghost use Rattle.blocks.specs.Order.{low_order, high_order, bit_of_two};
 ghost use Rattle.checker.specs.Check.{verdict_of, check_answer};
+ghost use Rattle.checker.specs.declared.CheckError.TheVariants.{Record};
 ghost use Rattle.laws.specs.Part.{Zeros};
 
 use blocks::{Block, block_of, block_of_bits, lowest_place};
@@ -26,16 +27,23 @@ use clashblocks::block_clash;
 use rowcounts::{cell_count, lowest_wrong};
 use site::{Fault, Site};
 
-// The answer to a check. Cells are numbered from 1, positions from 0.
-// Blocked: position, cell. Clash: position, first cell, second cell. Count: cell, its count.
+// Why a table is not valid. Cells are numbered from 1, positions from 0.
+// Blocked: position, cell. Clash: position, first cell, second cell. Count: cell, its count. Record: what is wrong with the record.
 #[derive(Clone, Copy)]
-pub enum CheckAnswer {
-    Valid,
+pub enum CheckError {
     TableShort,
     Blocked(usize, usize),
     Clash(usize, usize, usize),
     Count(usize, usize),
-    Refused(Fault),
+    Record(Fault),
+}
+
+impl From<Fault> for CheckError {
+    ghost from_gives = { λ f e. e ≡ Record f };
+
+    fn from(fault: Fault) -> CheckError {
+        CheckError::Record(fault)
+    }
 }
 
 // Marks each of m positions, from `from` on, that has a clash: there the mark is not 0. Cells are joined from the highest down, so each meets those
@@ -54,26 +62,23 @@ fn mark_clashes(
     requires zeros { Zeros m words.old × Zeros m marks.old }
     ensures { Marks (clashing_in cells n clash.now table.now) from m marks.new }
 {
-    let mut a = cells;
-    while 0 < a {
-        a -= 1;
+    for a in (0..cells).rev() {
         words::join_row(words, marks, table, a * n + from, m, 1 << a, clash[a]);
     }
 }
 
 // The lowest of the first n positions that is marked; n where there is none.
+#[tactic(auto, using(laws::proofs::Search::found, laws::proofs::Search::missed, laws::proofs::Search::ended))]
 fn lowest_marked(marks: &[u32], n: usize) -> usize
     requires { n ≤ length marks.now }
     ensures { result ≡ first (mark_set marks.now) 0 n }
 {
-    let mut p = 0;
-    while p < n {
+    for p in 0..n {
         if marks[p] != 0 {
             return p;
         }
-        p += 1;
     }
-    p
+    n
 }
 
 // The lowest of m positions, from `from` on, that has a clash, counted from `from`; m where there is none.
@@ -96,43 +101,19 @@ fn clash_block(table: &[u8], n: usize, at: usize, clash: &[u32; 32], cells: usiz
     lowest_place(met.low, met.high)
 }
 
-// Where the block begins that has position `from`: there, or 128 before the end where fewer are left.
-fn block_at(from: usize, n: usize) -> usize
-    requires { (from < n) × (128 ≤ n) }
-    ensures { (result ≤ from) × (from < result + 128) × (result + 128 ≤ n) }
-{
-    if n - from < 128 {
-        return n - 128;
-    }
-    from
-}
-
 // The lowest position with a clash, a block at a time; n where there is none. The last block may begin inside the one before it.
 fn clash_by_blocks(table: &[u8], n: usize, clash: &[u32; 32], cells: usize) -> usize
     requires { (cells ≤ 32) × (128 ≤ n) × (cells * n ≤ length table.now) }
     ensures { result ≡ lowest_clash (clash_net cells n clash.now) (reserved n table.now) }
 {
-    let mut from: usize = 0;
-    while from < n {
-        let at = block_at(from, n);
+    for from in (0..n).step_by(128) {
+        let at = from.min(n - 128);
         let p = clash_block(table, n, at, clash, cells);
         if p < 128 {
             return at + p;
         }
-        from = at + 128;
     }
-    from
-}
-
-// How many of the positions that are left are looked at together.
-fn together(left: usize) -> usize
-    requires { 0 < left }
-    ensures { (result ≤ left) × (result ≤ 64) × (0 < result) × (left - 64 ≡ left - result) }
-{
-    if left < 64 {
-        return left;
-    }
-    64
+    n
 }
 
 // The lowest position with a clash, 64 positions at a time; n where there is none.
@@ -140,16 +121,14 @@ fn clash_by_words(table: &[u8], n: usize, clash: &[u32; 32], cells: usize) -> us
     requires { (cells ≤ 32) × (cells * n ≤ length table.now) }
     ensures { result ≡ lowest_clash (clash_net cells n clash.now) (reserved n table.now) }
 {
-    let mut from: usize = 0;
-    while from < n {
-        let m = together(n - from);
+    for from in (0..n).step_by(64) {
+        let m = (n - from).min(64);
         let p = clash_in(table, n, from, m, clash, cells);
         if p < m {
             return from + p;
         }
-        from += m;
     }
-    from
+    n
 }
 
 // The lowest position with a clash; n where there is none. Fewer positions than a block has are looked at by words.
@@ -206,18 +185,17 @@ fn mark_in(word: u64, mark: u8, p: usize) -> bool
 }
 
 // The lowest of the first m positions that is marked and in the word; m where there is none.
+#[tactic(auto, using(laws::proofs::Search::found, laws::proofs::Search::missed, laws::proofs::Search::ended))]
 fn lowest_in(word: u64, marks: &[u8], m: usize) -> usize
     requires { (m ≤ length marks.now) × (m ≤ 64) }
     ensures { result ≡ first (λ k. bit_at word k && mark_set marks.now k) 0 m }
 {
-    let mut k = 0;
-    while k < m {
+    for k in 0..m {
         if mark_in(word, marks[k], k) {
             return k;
         }
-        k += 1;
     }
-    k
+    m
 }
 
 // The lowest of m positions, from `from` on, that is in the word and that some cell reserves, counted from `from`; m where there is none.
@@ -265,46 +243,52 @@ fn barred_block(table: &[u8], n: usize, from: usize, x: u64, y: u64, cells: usiz
     lowest_place(shut.low & held.low, shut.high & held.high)
 }
 
-// The lowest blocked position that some cell reserves; n where there is none.
+// The lowest blocked position at or past `from` that some cell reserves, 64 positions at a time; n where there is none.
+fn barred_by_words(table: &[u8], n: usize, from: usize, blocked: &[u64; 32], cells: usize) -> usize
+    requires { (cells ≤ 32) × (n ≤ 2048) × (cells * n ≤ length table.now) × (from ≤ n) × (from % 64 ≡ 0) }
+    ensures { result ≡ first (barred_at (bar_net cells n blocked.now) (reserved n table.now)) from n }
+{
+    for at in (from..n).step_by(64) {
+        let m = (n - at).min(64);
+        let p = barred_in(table, n, at, m, blocked[at / 64], cells);
+        if p < m {
+            return at + p;
+        }
+    }
+    n
+}
+
+// The lowest blocked position that some cell reserves, a block at a time, and past the last block by words; n where there is none.
 fn lowest_barred(table: &[u8], n: usize, blocked: &[u64; 32], cells: usize) -> usize
     requires { (cells ≤ 32) × (n ≤ 2048) × (cells * n ≤ length table.now) }
     ensures { result ≡ lowest_barred (bar_net cells n blocked.now) (reserved n table.now) }
 {
-    let mut from: usize = 0;
-    while from < n {
-        if 128 <= n - from {
-            let q = barred_block(
-                table,
-                n,
-                from,
-                blocked[from / 64],
-                blocked[from / 64 + 1],
-                cells,
-            );
-            if q < 128 {
-                return from + q;
-            }
-            from += 128;
-            continue;
+    let blocks = n / 128 * 128;
+    for from in (0..blocks).step_by(128) {
+        let q = barred_block(
+            table,
+            n,
+            from,
+            blocked[from / 64],
+            blocked[from / 64 + 1],
+            cells,
+        );
+        if q < 128 {
+            return from + q;
         }
-        let m = together(n - from);
-        let p = barred_in(table, n, from, m, blocked[from / 64], cells);
-        if p < m {
-            return from + p;
-        }
-        from += m;
     }
-    from
+    barred_by_words(table, n, blocks, blocked, cells)
 }
 
 // The verdict on a table that is long enough, with no reservation on a blocked position: its first clash, else its first wrong count.
+#[tactic(auto, using(crate::proofs::Judged::open_laws))]
 fn judge_open(
     table: &[u8],
     n: usize,
     clash: &[u32; 32],
     loads: [u16; 32],
     cells: usize,
-) -> CheckAnswer
+) -> Result<(), CheckError>
     requires { (cells ≤ 32) × (n ≤ 2048) × (cells * n ≤ length table.now) }
     ensures { result ≡ verdict_of (open_verdict (net_in cells n loads (bit_in clash.now) unblocked) (reserved n table.now)) }
 {
@@ -313,16 +297,17 @@ fn judge_open(
         let word = words::word_at(table, n, cells, p);
         let a = words::first_in(word, clash, cells);
         let c = words::second_in(word, clash, cells, a);
-        return CheckAnswer::Clash(p, a + 1, c + 1);
+        return Err(CheckError::Clash(p, a + 1, c + 1));
     }
     let i = lowest_wrong(table, n, loads, cells);
     if i < cells {
-        return CheckAnswer::Count(i + 1, cell_count(table, n, i));
+        return Err(CheckError::Count(i + 1, cell_count(table, n, i)));
     }
-    CheckAnswer::Valid
+    Ok(())
 }
 
 // The verdict on a table that is long enough: its first reservation on a blocked position, there of the lowest cell, else what is said without them.
+#[tactic(auto, using(crate::proofs::Judged::barred_laws))]
 fn judge(
     table: &[u8],
     n: usize,
@@ -330,31 +315,29 @@ fn judge(
     loads: [u16; 32],
     cells: usize,
     blocked: &[u64; 32],
-) -> CheckAnswer
+) -> Result<(), CheckError>
     requires { (cells ≤ 32) × (n ≤ 2048) × (cells * n ≤ length table.now) }
     ensures { result ≡ verdict_of (table_verdict (net_in cells n loads (bit_in clash.now) (is_open blocked.now)) (reserved n table.now)) }
 {
     let p = lowest_barred(table, n, blocked, cells);
     if p < n {
         let word = words::word_at(table, n, cells, p);
-        return CheckAnswer::Blocked(p, words::lowest(word, 0, cells) + 1);
+        return Err(CheckError::Blocked(p, words::lowest(word, 0, cells) + 1));
     }
     judge_open(table, n, clash, loads, cells)
 }
 
 // Whether a table is valid for a site; if not, its first reservation on a blocked position, else its first clash, else its first wrong count.
 // Refuses a site at fault, then a table that is too short.
-pub fn check(site: Site, table: &[u8]) -> CheckAnswer
+#[tactic(auto, using(crate::proofs::Judged::sizes_known), unfolding(crate::specs::Check::check_answer))]
+pub fn check(site: Site, table: &[u8]) -> Result<(), CheckError>
     ensures { result ≡ check_answer site table.now }
 {
-    let fault = site.fault_in();
-    let Fault::Fine = fault else {
-        return CheckAnswer::Refused(fault);
-    };
+    site.accepted()?;
     let cells = site.cells as usize;
     let n = (site.slots as usize) * (site.channels as usize);
     if table.len() < cells * n {
-        return CheckAnswer::TableShort;
+        return Err(CheckError::TableShort);
     }
     let clash = site.clash_rows();
     let loads = site.loads;

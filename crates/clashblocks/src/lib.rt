@@ -17,6 +17,7 @@ fn united(lows: &[u64; 32], highs: &[u64; 32], word: u32) -> Block
     let mut low: u64 = 0;
     let mut high: u64 = 0;
     let mut rest = word;
+    // From member to member of a word: no index is counted.
     while rest != 0 {
         let c = u32::trailing_zeros(rest) as usize;
         low = low | lows[c];
@@ -63,6 +64,7 @@ fn met_above(
 }
 
 // The positions from `from` on, 128 of them, that have a clash.
+#[tactic(auto, using(laws::proofs::Grid::row_before))]
 pub fn block_clash(table: &[u8], n: usize, from: usize, clash: &[u32; 32], cells: usize) -> Block
     requires { (cells ≤ 32) × (from + 128 ≤ n) × (cells * n ≤ length table.now) }
     ensures low { result.low ≡ word_of (low_order (clash_from cells n clash.now table.now from)) 64 }
@@ -74,9 +76,7 @@ pub fn block_clash(table: &[u8], n: usize, from: usize, clash: &[u32; 32], cells
     let mut high: u64 = 0;
     let mut met_low: u64 = 0;
     let mut met_high: u64 = 0;
-    let mut i = cells;
-    while 0 < i {
-        i -= 1;
+    for i in (0..cells).rev() {
         let b = block_of(table, i * n + from);
         let x = b.low;
         let y = b.high;

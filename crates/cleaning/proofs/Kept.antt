@@ -11,6 +11,7 @@ use Rattle.laws.specs.Choice.{pick}
 use Rattle.laws.proofs.Stores.{sets-front}
 use Rattle.lines.specs.Format.{comma_byte}
 use Rattle.lines.specs.Match.{starts, eaten, nowhere}
+use Rattle.lines.proofs.Match.{starts-long}
 use Rattle.cleaning.specs.Clean.{is_separator, separator_in, order_mark, first_spot, begins, out_of, step_of, end_of, clean_from, cleaned}
 use Rattle.cleaning.specs.Clean.{unchanged, line_after, noted, changes_from}
 use Rattle.cleaning.specs.Kept.{Kept}
@@ -128,6 +129,14 @@ module _ (s : List ℕ) where
       by : (t : Bool) → r ≡ pick t 3 nowhere → ◌≡◌ {A = ℕ} 0 (pick t 3 0)
       by true q = absurd (h q)
       by false q = refl
+
+  pub begins-inside : begins s ≤ length s
+  unfolding begins
+  begins-inside = by (starts order_mark s) refl
+    where
+      by : (t : Bool) → starts order_mark s ≡ t → pick t 3 0 ≤ length s
+      by true e = starts-long order_mark s e
+      by false e = omega arith
 
   pub mark-there : begins s ≡ 3 → starts order_mark s ≡ true
   unfolding begins

@@ -82,13 +82,10 @@ fn is_separator(b: u8) -> bool
 fn separator(s: &[u8]) -> u8
     ensures { result ≡ separator_in s.now }
 {
-    let mut i: usize = 0;
-    while i < s.len() {
-        let b = s[i];
-        if is_separator(b) {
-            return b;
+    for &byte in s {
+        if is_separator(byte) {
+            return byte;
         }
-        i += 1;
     }
     COMMA
 }
@@ -656,6 +653,7 @@ pub fn clean(s: &[u8], out: &mut [u8]) -> usize
     let mut spot = first_spot();
     let mut at: usize = 0;
     let mut i = begin(s);
+    // A field or a byte alone is taken: the step differs from one to the next.
     while i < s.len() {
         let taken = take_next(s, i, sep, spot);
         let stepped = taken.step;
@@ -753,14 +751,12 @@ pub fn changed_in(s: &[u8], kind: u8) -> Tidied
     let mut spot = first_spot();
     let mut line: usize = 1;
     let mut so_far = none_changed();
-    let mut i = begin(s);
-    while i < s.len() {
-        let b = s[i];
-        let stepped = step_of(sep, spot, b);
+    let from = begin(s);
+    for &byte in &s[from..] {
+        let stepped = step_of(sep, spot, byte);
         so_far = note(kind, stepped, line, so_far);
-        line = line_after(line, b);
+        line = line_after(line, byte);
         spot = stepped.spot;
-        i += 1;
     }
     note(kind, end_of(spot), line, so_far)
 }

@@ -3,9 +3,21 @@
 use Rattle.std.specs.Prelude.{Bool, List, refl, ℕ, ◌≡◌}
 use Rattle.blocks.specs.Order.{bit_of_two, high_order, high_sends, low_order, low_sends, meeting, placed}
 use Rattle.blocks.specs.declared.Block.{Block}
-use Rattle.contracts.specs.BlocksSays.{BlocksBlockOf, BlocksBlockOfBits, BlocksBlocksMeet, BlocksLowestPlace}
+use Rattle.contracts.specs.BlocksSays.{BlocksBitsIf, BlocksBlockOf, BlocksBlockOfBits, BlocksBlocksMeet, BlocksLowestPlace}
 use Rattle.laws.specs.Bits.{word_of}
+use Rattle.laws.specs.Choice.{pick}
 use Rattle.laws.specs.Search.{first}
+use Rattle.theory.specs.Greedy.{sends}
+
+-- blocks::bits_if
+pub blocks_bits_if-one : (byte : ℕ) (w : ℕ)
+    → (r : ℕ) × (BlocksBitsIf byte w r)
+    × ((q : ℕ) → BlocksBitsIf byte w q → (q ≡ r))
+blocks_bits_if-one byte w = (
+  pick (sends byte) w 0,
+  record { answer = refl },
+  λ q says. says.answer,
+)
 
 -- blocks::block_of
 pub blocks_block_of-one : (bytes : List ℕ) (from : ℕ)

@@ -41,7 +41,7 @@ use Rattle.shares.specs.Share.{default_repeats, share_of}
 use Rattle.sheet.specs.Read.{read_sheet}
 use Rattle.sheet.specs.Write.{sheet_out, sheet_written}
 use Rattle.site.specs.Edit.{clear_reach_of, set_load_of, set_reach_of}
-use Rattle.site.specs.Given.{clash_given, fault_given}
+use Rattle.site.specs.Given.{clash_given, done_given}
 use Rattle.site.specs.Reach.{clash_answer}
 use Rattle.site.specs.Record.{fault_of}
 use Rattle.site.specs.declared.Site.{Site}
@@ -67,7 +67,7 @@ pub dugg_fault-one : (site : Site)
     → (r : Answer) × (DuggFault site r)
     × ((q : Answer) → DuggFault site q → (q ≡ r))
 dugg_fault-one site = (
-  told (fault_given (fault_of site)),
+  told (done_given (fault_of site)),
   record { answer = refl },
   λ q says. says.answer,
 )

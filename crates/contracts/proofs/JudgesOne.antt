@@ -1,18 +1,19 @@
 -- For any arguments one answer and one content of what is lent meet the contract, and no other, in crate `judges`: by its equalities alone.
 -- Made by tools/surface from the source. Assumes nothing.
-use Rattle.std.specs.Prelude.{refl, ◌≡◌}
+use Rattle.std.specs.Prelude.{Result, refl, ◌≡◌}
 use Rattle.contracts.specs.JudgesSays.{Chain, InClass, Least, LoadTest}
 use Rattle.judges.specs.Judges.{chain_answer, class_answer, least_answer, load_answer}
-use Rattle.judges.specs.declared.ChainAnswer.{ChainAnswer}
-use Rattle.judges.specs.declared.ClassAnswer.{ClassAnswer}
-use Rattle.judges.specs.declared.LeastAnswer.{LeastAnswer}
-use Rattle.judges.specs.declared.LoadAnswer.{LoadAnswer}
+use Rattle.judges.specs.declared.ChainVerdict.{ChainVerdict}
+use Rattle.judges.specs.declared.ClassVerdict.{ClassVerdict}
+use Rattle.judges.specs.declared.LeastVerdict.{LeastVerdict}
+use Rattle.judges.specs.declared.LoadVerdict.{LoadVerdict}
+use Rattle.site.specs.declared.Fault.{Fault}
 use Rattle.site.specs.declared.Site.{Site}
 
 -- judges::load_test
 pub load_test-one : (site : Site)
-    → (r : LoadAnswer) × (LoadTest site r)
-    × ((q : LoadAnswer) → LoadTest site q → (q ≡ r))
+    → (r : Result LoadVerdict Fault) × (LoadTest site r)
+    × ((q : Result LoadVerdict Fault) → LoadTest site q → (q ≡ r))
 load_test-one site = (
   load_answer site,
   record { answer = refl },
@@ -21,8 +22,8 @@ load_test-one site = (
 
 -- judges::chain
 pub chain-one : (site : Site)
-    → (r : ChainAnswer) × (Chain site r)
-    × ((q : ChainAnswer) → Chain site q → (q ≡ r))
+    → (r : Result ChainVerdict Fault) × (Chain site r)
+    × ((q : Result ChainVerdict Fault) → Chain site q → (q ≡ r))
 chain-one site = (
   chain_answer site,
   record { answer = refl },
@@ -31,8 +32,8 @@ chain-one site = (
 
 -- judges::in_class
 pub in_class-one : (site : Site)
-    → (r : ClassAnswer) × (InClass site r)
-    × ((q : ClassAnswer) → InClass site q → (q ≡ r))
+    → (r : Result ClassVerdict Fault) × (InClass site r)
+    × ((q : Result ClassVerdict Fault) → InClass site q → (q ≡ r))
 in_class-one site = (
   class_answer site,
   record { answer = refl },
@@ -41,8 +42,8 @@ in_class-one site = (
 
 -- judges::least
 pub least-one : (site : Site)
-    → (r : LeastAnswer) × (Least site r)
-    × ((q : LeastAnswer) → Least site q → (q ≡ r))
+    → (r : Result LeastVerdict Fault) × (Least site r)
+    × ((q : Result LeastVerdict Fault) → Least site q → (q ≡ r))
 least-one site = (
   least_answer site,
   record { answer = refl },

@@ -50,7 +50,6 @@ pub mod LinesOne
 pub mod PutlinesOne
 pub mod BlocklistOne
 pub mod EditlistOne
-pub mod PutblocksOne
 pub mod FlowsheetOne
 pub mod SiteheadOne
 pub mod ReachpairsOne
@@ -64,6 +63,7 @@ pub mod SheetOne
 pub mod TidyingOne
 pub mod SpeechOne
 pub mod PhrasesOne
+pub mod PutblocksOne
 pub mod EscapingOne
 pub mod InputsOne
 pub mod SayRefusalsOne
@@ -95,8 +95,8 @@ pub mod SayFindOne
 pub mod SayRuleOne
 pub mod SayClashesOne
 pub mod SayFlowsOne
-pub mod AuditingOne
 pub mod WhyrowsOne
+pub mod AuditingOne
 pub mod SayWhyOne
 pub mod SayRoomOne
 pub mod SayAuditOne

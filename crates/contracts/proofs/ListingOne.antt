@@ -1,16 +1,16 @@
 -- For any arguments one answer and one content of what is lent meet the contract, and no other, in crate `listing`: by its equalities alone.
 -- Made by tools/surface from the source. Assumes nothing.
-use Rattle.std.specs.Prelude.{List, length, refl, ℕ, ◌+◌, ◌≡◌}
+use Rattle.std.specs.Prelude.{List, Result, length, refl, ℕ, ◌+◌, ◌≡◌}
 use Rattle.contracts.specs.ListingSays.{ListingPutAnswers, ListingRowCount, ListingRowLine}
 use Rattle.listing.specs.Answers.{head_with, row_count}
-use Rattle.planner.specs.declared.PlanAnswer.{PlanAnswer}
+use Rattle.planner.specs.declared.PlanError.{PlanError}
 use Rattle.say_listing.specs.Lines.{cell_listed}
 use Rattle.site.specs.declared.Site.{Site}
 use Rattle.std.proofs.lemmas.List.Edits.{sets}
 use Rattle.theory.specs.Greedy.{row_at}
 
 -- listing::row_count
-pub listing_row_count-one : (reply : PlanAnswer) (cells : ℕ)
+pub listing_row_count-one : (reply : Result Unit PlanError) (cells : ℕ)
     → (r : ℕ) × (ListingRowCount reply cells r)
     × ((q : ℕ) → ListingRowCount reply cells q → (q ≡ r))
 listing_row_count-one reply cells = (
@@ -20,7 +20,7 @@ listing_row_count-one reply cells = (
 )
 
 -- listing::put_answers
-pub listing_put_answers-one : (out : List ℕ) (site : Site) (reply : PlanAnswer)
+pub listing_put_answers-one : (out : List ℕ) (site : Site) (reply : Result Unit PlanError)
     → (r : ℕ) × (out' : List ℕ) × (ListingPutAnswers out site reply r out')
     × ((q : ℕ) (out'' : List ℕ) → ListingPutAnswers out site reply q out'' → (q ≡ r) × (out'' ≡ out'))
 listing_put_answers-one out site reply = (

@@ -1,6 +1,6 @@
 -- For any arguments one answer and one content of what is lent meet the contract, and no other, in crate `numberrows`: by its equalities alone.
 -- Made by tools/surface from the source. Assumes nothing.
-use Rattle.std.specs.Prelude.{Bool, List, refl, ℕ, ◌≡◌}
+use Rattle.std.specs.Prelude.{Bool, List, Option, refl, ℕ, ◌≡◌}
 use Rattle.contracts.specs.NumberrowsSays.{NumberrowsAllClash, NumberrowsCarryRows, NumberrowsCellAt, NumberrowsMovedLoads, NumberrowsMovedRows}
 use Rattle.contracts.specs.NumberrowsSays.{NumberrowsNumberCells}
 use Rattle.laws.specs.Bits.{bit_in}
@@ -22,8 +22,8 @@ numberrows_all_clash-one rows near = (
 
 -- numberrows::number_cells
 pub numberrows_number_cells-one : (rows : List ℕ) (cells : ℕ)
-    → (r : Numbers) × (NumberrowsNumberCells rows cells r)
-    × ((q : Numbers) → NumberrowsNumberCells rows cells q → (q ≡ r))
+    → (r : Option Numbers) × (NumberrowsNumberCells rows cells r)
+    × ((q : Option Numbers) → NumberrowsNumberCells rows cells q → (q ≡ r))
 numberrows_number_cells-one rows cells = (
   numbers_of (numbering 32 (bit_in rows) cells),
   record { answer = refl },

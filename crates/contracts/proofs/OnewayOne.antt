@@ -1,7 +1,7 @@
 -- For any arguments one answer and one content of what is lent meet the contract, and no other, in crate `oneway`: by its equalities alone.
 -- Made by tools/surface from the source. Assumes nothing.
-use Rattle.std.specs.Prelude.{Bool, List, refl, ℕ, ◌≡◌}
-use Rattle.checker.specs.declared.CheckAnswer.{CheckAnswer}
+use Rattle.std.specs.Prelude.{Bool, List, Result, refl, ℕ, ◌≡◌}
+use Rattle.checker.specs.declared.CheckError.{CheckError}
 use Rattle.contracts.specs.OnewaySays.{OnewayIsValid, OnewayTwoWay, OnewayUnseen}
 use Rattle.oneway.specs.TwoWay.{is_valid, two_way, unseen_in}
 use Rattle.site.specs.declared.Site.{Site}
@@ -17,7 +17,7 @@ oneway_two_way-one site = (
 )
 
 -- oneway::is_valid
-pub oneway_is_valid-one : (reply : CheckAnswer)
+pub oneway_is_valid-one : (reply : Result Unit CheckError)
     → (r : Bool) × (OnewayIsValid reply r)
     × ((q : Bool) → OnewayIsValid reply q → (q ≡ r))
 oneway_is_valid-one reply = (

@@ -1,7 +1,7 @@
 -- For any arguments one answer and one content of what is lent meet the contract, and no other, in crate `planrows`: by its equalities alone.
 -- Made by tools/surface from the source. Assumes nothing.
-use Rattle.std.specs.Prelude.{List, refl, ℕ, ◌*◌, ◌≡◌}
-use Rattle.contracts.specs.PlanrowsSays.{PlanrowsGroupOf, PlanrowsNearOf, PlanrowsPlanRow}
+use Rattle.std.specs.Prelude.{List, get_or, refl, ℕ, ◌*◌, ◌≡◌}
+use Rattle.contracts.specs.PlanrowsSays.{PlanrowsGroupOf, PlanrowsNearOf, PlanrowsPlaceOf, PlanrowsPlanRow}
 use Rattle.laws.specs.Bits.{bit_in, set_bit}
 use Rattle.planrows.specs.Row.{marks_in, near_in, opens, row_planned}
 use Rattle.rows.specs.Bars.{bar_row}
@@ -24,6 +24,16 @@ pub planrows_group_of-one : (clash : List ℕ) (i : ℕ)
     × ((q : ℕ) → PlanrowsGroupOf clash i q → (q ≡ r))
 planrows_group_of-one clash i = (
   set_bit (near_in clash i) i,
+  record { answer = refl },
+  λ q says. says.answer,
+)
+
+-- planrows::place_of
+pub planrows_place_of-one : (places : List ℕ) (j : ℕ)
+    → (r : ℕ) × (PlanrowsPlaceOf places j r)
+    × ((q : ℕ) → PlanrowsPlaceOf places j q → (q ≡ r))
+planrows_place_of-one places j = (
+  get_or places j 0,
   record { answer = refl },
   λ q says. says.answer,
 )

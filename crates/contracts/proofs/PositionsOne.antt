@@ -1,13 +1,23 @@
 -- For any arguments one answer and one content of what is lent meet the contract, and no other, in crate `positions`: by its equalities alone.
 -- Made by tools/surface from the source. Assumes nothing.
 use Rattle.std.specs.Prelude.{Bool, List, length, not, refl, ℕ, ◌^◌, ◌≡◌}
-use Rattle.contracts.specs.PositionsSays.{PositionsBars, PositionsBitWeight, PositionsBitsIn, PositionsFirstPast, PositionsIsBlocked, PositionsNoneBlocked}
-use Rattle.contracts.specs.PositionsSays.{PositionsOpenCount}
+use Rattle.contracts.specs.PositionsSays.{PositionsBars, PositionsBitWeight, PositionsBitsIn, PositionsFirstPast, PositionsHasBit, PositionsIsBlocked}
+use Rattle.contracts.specs.PositionsSays.{PositionsNoneBlocked, PositionsOpenCount}
 use Rattle.laws.specs.Bits.{bit_at}
 use Rattle.laws.specs.Choice.{pick}
 use Rattle.laws.specs.Part.{list_of}
 use Rattle.laws.specs.Sum.{count}
 use Rattle.positions.specs.Blocked.{any_in, bar_of, blocked_at, first_past, most_positions, open_in}
+
+-- positions::has_bit
+pub positions_has_bit-one : (x : ℕ) (b : ℕ)
+    → (r : Bool) × (PositionsHasBit x b r)
+    × ((q : Bool) → PositionsHasBit x b q → (q ≡ r))
+positions_has_bit-one x b = (
+  bit_at x b,
+  record { answer = refl },
+  λ q says. says.answer,
+)
 
 -- positions::bits_in
 pub positions_bits_in-one : (x : ℕ)

@@ -1,16 +1,16 @@
 -- For any arguments one answer and one content of what is lent meet the contract, and no other, in crate `reachpairs`: by its equalities alone.
 -- Made by tools/surface from the source. Assumes nothing.
-use Rattle.std.specs.Prelude.{List, length, refl, ℕ, ◌≡◌}
+use Rattle.std.specs.Prelude.{List, Result, length, refl, ℕ, ◌≡◌}
 use Rattle.contracts.specs.ReachpairsSays.{ReachpairsPairsLen, ReachpairsPutPairs, ReachpairsReadReach}
 use Rattle.reachpairs.specs.Loop.{reach_read}
 use Rattle.reachpairs.specs.Pairs.{pair_bytes}
-use Rattle.records.specs.declared.ReadAnswer.{ReadAnswer}
+use Rattle.records.specs.declared.Refusal.{Refusal}
 use Rattle.std.proofs.lemmas.List.Edits.{sets}
 
 -- reachpairs::read_reach
 pub reachpairs_read_reach-one : (s : List ℕ) (at : ℕ) (cells : ℕ) (reach : List ℕ)
-    → (r : ReadAnswer) × (reach' : List ℕ) × (ReachpairsReadReach s at cells reach r reach')
-    × ((q : ReadAnswer) (reach'' : List ℕ) → ReachpairsReadReach s at cells reach q reach'' → (q ≡ r) × (reach'' ≡ reach'))
+    → (r : Result Unit Refusal) × (reach' : List ℕ) × (ReachpairsReadReach s at cells reach r reach')
+    × ((q : Result Unit Refusal) (reach'' : List ℕ) → ReachpairsReadReach s at cells reach q reach'' → (q ≡ r) × (reach'' ≡ reach'))
 reachpairs_read_reach-one s at cells reach = (
   (reach_read s at cells).answer,
   (reach_read s at cells).reach,

@@ -2,7 +2,7 @@
 -- Made by tools/surface from the source. Assumes nothing.
 use Rattle.std.specs.Prelude.{Bool, List, get_or, ltb, refl, replicate, ℕ, ◌≡◌}
 use Rattle.contracts.specs.ReachrowsSays.{ReachrowsBadRow, ReachrowsExtraLoad, ReachrowsFewRows, ReachrowsManyRows, ReachrowsPairClashes, ReachrowsPutBit}
-use Rattle.contracts.specs.ReachrowsSays.{ReachrowsThirdRows}
+use Rattle.contracts.specs.ReachrowsSays.{ReachrowsThirdRows, ReachrowsWithBit}
 use Rattle.laws.specs.Bits.{clear_bit, set_bit, word_of}
 use Rattle.laws.specs.Choice.{pick}
 use Rattle.laws.specs.Part.{list_of}
@@ -66,6 +66,16 @@ pub reachrows_pair_clashes-one : (reach : List ℕ) (rule : ℕ) (a : ℕ) (b : 
     × ((q : Bool) → ReachrowsPairClashes reach rule a b q → (q ≡ r))
 reachrows_pair_clashes-one reach rule a b = (
   clash_in rule reach a b,
+  record { answer = refl },
+  λ q says. says.answer,
+)
+
+-- reachrows::with_bit
+pub reachrows_with_bit-one : (x : ℕ) (b : ℕ)
+    → (r : ℕ) × (ReachrowsWithBit x b r)
+    × ((q : ℕ) → ReachrowsWithBit x b q → (q ≡ r))
+reachrows_with_bit-one x b = (
+  set_bit x b,
   record { answer = refl },
   λ q says. says.answer,
 )

@@ -1,16 +1,39 @@
 -- For any arguments one answer and one content of what is lent meet the contract, and no other, in crate `records`: by its equalities alone.
 -- Made by tools/surface from the source. Assumes nothing.
-use Rattle.std.specs.Prelude.{Bool, List, [], refl, ℕ, ◌∷◌, ◌≡◌}
+use Rattle.std.specs.Prelude.{Bool, List, Result, [], refl, ℕ, ◌∷◌, ◌≡◌}
 use Rattle.contracts.specs.RecordsSays.{RecordsHeadAnswer, RecordsLeftOver, RecordsOpen, RecordsOpenedAnswer, RecordsPutHead, RecordsPutStart, RecordsPutTwo}
-use Rattle.contracts.specs.RecordsSays.{RecordsPutTwoBytes, RecordsTwoBytes}
+use Rattle.contracts.specs.RecordsSays.{RecordsPutTwoBytes, RecordsRefuse, RecordsTwoBytes, RecordsWriteErrorFromFault}
 use Rattle.records.specs.Bits.{left_over}
 use Rattle.records.specs.Bytes.{le16, two_bytes_each}
 use Rattle.records.specs.Head.{head_answer, head_record}
 use Rattle.records.specs.Opener.{open_answer, open_at}
+use Rattle.records.specs.Reasons.{refusal}
 use Rattle.records.specs.declared.Length.{Length}
-use Rattle.records.specs.declared.Opened.{Opened}
-use Rattle.records.specs.declared.ReadAnswer.{ReadAnswer}
+use Rattle.records.specs.declared.Refusal.{Refusal}
+use Rattle.records.specs.declared.WriteError.{WriteError}
+use Rattle.records.specs.declared.WriteError.TheVariants.{Record}
+use Rattle.site.specs.declared.Fault.{Fault}
 use Rattle.std.proofs.lemmas.List.Edits.{sets}
+
+-- records::WriteError::from_fault
+pub records_write_error_from_fault-one : (f : Fault)
+    → (r : WriteError) × (RecordsWriteErrorFromFault f r)
+    × ((q : WriteError) → RecordsWriteErrorFromFault f q → (q ≡ r))
+records_write_error_from_fault-one f = (
+  Record f,
+  record { answer = refl },
+  λ q says. says.answer,
+)
+
+-- records::refuse
+pub records_refuse-one : (number : ℕ) (place : ℕ)
+    → (r : Refusal) × (RecordsRefuse number place r)
+    × ((q : Refusal) → RecordsRefuse number place q → (q ≡ r))
+records_refuse-one number place = (
+  refusal number place,
+  record { answer = refl },
+  λ q says. says.answer,
+)
 
 -- records::two_bytes
 pub records_two_bytes-one : (s : List ℕ) (k : ℕ)
@@ -24,8 +47,8 @@ records_two_bytes-one s k = (
 
 -- records::open
 pub records_open-one : (s : List ℕ) (at : ℕ) (kind : ℕ) (rule : Length)
-    → (r : Opened) × (RecordsOpen s at kind rule r)
-    × ((q : Opened) → RecordsOpen s at kind rule q → (q ≡ r))
+    → (r : Result (ℕ × ℕ) Refusal) × (RecordsOpen s at kind rule r)
+    × ((q : Result (ℕ × ℕ) Refusal) → RecordsOpen s at kind rule q → (q ≡ r))
 records_open-one s at kind rule = (
   open_at s at kind rule,
   record { answer = refl },
@@ -33,9 +56,9 @@ records_open-one s at kind rule = (
 )
 
 -- records::opened_answer
-pub records_opened_answer-one : (o : Opened)
-    → (r : ReadAnswer) × (RecordsOpenedAnswer o r)
-    × ((q : ReadAnswer) → RecordsOpenedAnswer o q → (q ≡ r))
+pub records_opened_answer-one : (o : Result (ℕ × ℕ) Refusal)
+    → (r : Result Unit Refusal) × (RecordsOpenedAnswer o r)
+    × ((q : Result Unit Refusal) → RecordsOpenedAnswer o q → (q ≡ r))
 records_opened_answer-one o = (
   open_answer o,
   record { answer = refl },
@@ -44,8 +67,8 @@ records_opened_answer-one o = (
 
 -- records::head_answer
 pub records_head_answer-one : (s : List ℕ)
-    → (r : ReadAnswer) × (RecordsHeadAnswer s r)
-    × ((q : ReadAnswer) → RecordsHeadAnswer s q → (q ≡ r))
+    → (r : Result Unit Refusal) × (RecordsHeadAnswer s r)
+    × ((q : Result Unit Refusal) → RecordsHeadAnswer s q → (q ≡ r))
 records_head_answer-one s = (
   head_answer s,
   record { answer = refl },

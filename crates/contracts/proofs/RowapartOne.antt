@@ -1,7 +1,7 @@
 -- For any arguments one answer and one content of what is lent meet the contract, and no other, in crate `rowapart`: by its equalities alone.
 -- Made by tools/surface from the source. Assumes nothing.
-use Rattle.std.specs.Prelude.{List, get_or, refl, ℕ, ◌*◌, ◌≡◌}
-use Rattle.contracts.specs.RowapartSays.{RowapartLoadOf, RowapartMakeRow, RowapartMaskSize}
+use Rattle.std.specs.Prelude.{List, refl, ℕ, ◌*◌, ◌≡◌}
+use Rattle.contracts.specs.RowapartSays.{RowapartMakeRow, RowapartMaskSize}
 use Rattle.laws.specs.Bits.{bit_in}
 use Rattle.planrows.specs.Row.{marks_in, opens}
 use Rattle.rowapart.specs.Code.{mask_size}
@@ -11,8 +11,8 @@ use Rattle.rows.specs.declared.Filled.{Filled}
 use Rattle.theory.specs.Greedy.{fill}
 
 -- rowapart::make_row
-pub rowapart_make_row-one : (row : List ℕ) (table : List ℕ) (slots : ℕ) (channels : ℕ) (i : ℕ) (load : ℕ) (clash : List ℕ) (mask : List ℕ) (starts : List ℕ)
-    (ends : List ℕ)
+pub rowapart_make_row-one : (row : List ℕ) (table : List ℕ) (slots : ℕ) (channels : ℕ) (i : ℕ) (load : ℕ) (clash : List ℕ) (mask : List ℕ)
+    (starts : List ℕ) (ends : List ℕ)
     → (r : Filled) × (row' : List ℕ) × (RowapartMakeRow row table slots channels i load clash mask starts ends r row')
     × ((q : Filled) (row'' : List ℕ) → RowapartMakeRow row table slots channels i load clash mask starts ends q row'' → (q ≡ r) × (row'' ≡ row'))
 rowapart_make_row-one row table slots channels i load clash mask starts ends = (
@@ -20,16 +20,6 @@ rowapart_make_row-one row table slots channels i load clash mask starts ends = (
   fill (opens mask) 0 load (marks_in (slots * channels) (bit_in clash) table i),
   record { answer = refl; row_after = refl },
   λ q row'' says. (says.answer, says.row_after),
-)
-
--- rowapart::load_of
-pub rowapart_load_of-one : (loads : List ℕ) (i : ℕ)
-    → (r : ℕ) × (RowapartLoadOf loads i r)
-    × ((q : ℕ) → RowapartLoadOf loads i q → (q ≡ r))
-rowapart_load_of-one loads i = (
-  get_or loads i 0,
-  record { answer = refl },
-  λ q says. says.answer,
 )
 
 -- rowapart::mask_size

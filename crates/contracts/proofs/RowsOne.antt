@@ -1,12 +1,13 @@
 -- For any arguments one answer and one content of what is lent meet the contract, and no other, in crate `rows`: by its equalities alone.
 -- Made by tools/surface from the source. Assumes nothing.
-use Rattle.std.specs.Prelude.{List, length, refl, replicate, take, ℕ, ◌*◌, ◌≡◌}
-use Rattle.contracts.specs.RowsSays.{RowsClear, RowsCoverRow, RowsFillRow, RowsForbidRow, RowsLayMask, RowsLift}
+use Rattle.std.specs.Prelude.{List, eqb, length, refl, replicate, take, ℕ, ◌*◌, ◌≡◌}
+use Rattle.contracts.specs.RowsSays.{RowsClear, RowsCover, RowsCoverRow, RowsFillRow, RowsForbidRow, RowsLayMask, RowsLift, RowsMark}
+use Rattle.laws.specs.Choice.{pick}
 use Rattle.laws.specs.Part.{list_of, part, put}
 use Rattle.rows.specs.Bars.{lifted}
 use Rattle.rows.specs.Stretch.{cover_at, filled_by}
 use Rattle.rows.specs.declared.Filled.{Filled}
-use Rattle.theory.specs.Greedy.{fill, forbid}
+use Rattle.theory.specs.Greedy.{fill, forbid, sends}
 use Rattle.theory.specs.Net.{unblocked}
 
 -- rows::fill_row
@@ -20,6 +21,16 @@ rows_fill_row-one row slots channels load = (
   λ q row'' says. (says.answer, says.row_after),
 )
 
+-- rows::mark
+pub rows_mark-one : (earlier : ℕ) (byte : ℕ)
+    → (r : ℕ) × (RowsMark earlier byte r)
+    × ((q : ℕ) → RowsMark earlier byte q → (q ≡ r))
+rows_mark-one earlier byte = (
+  pick (sends earlier) 2 byte,
+  record { answer = refl },
+  λ q says. says.answer,
+)
+
 -- rows::forbid_row
 pub rows_forbid_row-one : (table : List ℕ) (n : ℕ) (j : ℕ) (i : ℕ) (start : ℕ) (end : ℕ)
     → (table' : List ℕ) × (RowsForbidRow table n j i start end table')
@@ -28,6 +39,16 @@ rows_forbid_row-one table n j i start end = (
   put (i * n) n (forbid (part (j * n) n table) (part (i * n) n table)) table,
   record { table_after = refl },
   λ table'' says. says.table_after,
+)
+
+-- rows::cover
+pub rows_cover-one : (earlier : ℕ) (byte : ℕ)
+    → (r : ℕ) × (RowsCover earlier byte r)
+    × ((q : ℕ) → RowsCover earlier byte q → (q ≡ r))
+rows_cover-one earlier byte = (
+  pick (eqb earlier 0) byte 2,
+  record { answer = refl },
+  λ q says. says.answer,
 )
 
 -- rows::cover_row

@@ -1,14 +1,15 @@
 -- For any arguments one answer and one content of what is lent meet the contract, and no other, in crate `say_audit`: by its equalities alone.
 -- Made by tools/surface from the source. Assumes nothing.
-use Rattle.std.specs.Prelude.{Bool, List, length, refl, ℕ, ◌+◌, ◌≡◌}
+use Rattle.std.specs.Prelude.{Bool, List, Result, length, refl, ℕ, ◌+◌, ◌≡◌}
 use Rattle.auditing.specs.declared.Extent.{Extent}
 use Rattle.auditing.specs.declared.Form.{Form}
-use Rattle.checker.specs.declared.CheckAnswer.{CheckAnswer}
+use Rattle.checker.specs.declared.CheckError.{CheckError}
 use Rattle.contracts.specs.SayAuditSays.{SayAuditPutAudited, SayAuditPutChecked, SayAuditPutLineEnd, SayAuditPutOtherSize, SayAuditPutPlanRefused}
 use Rattle.contracts.specs.SayAuditSays.{SayAuditPutShown, SayAuditPutSiteRefused, SayAuditPutUnread, SayAuditPutUnreadPlan}
-use Rattle.finder.specs.declared.FindAnswer.{FindAnswer}
-use Rattle.mender.specs.declared.MendAnswer.{MendAnswer}
-use Rattle.records.specs.declared.ReadAnswer.{ReadAnswer}
+use Rattle.finder.specs.declared.FindError.{FindError}
+use Rattle.finder.specs.declared.Way.{Way}
+use Rattle.mender.specs.declared.MendError.{MendError}
+use Rattle.records.specs.declared.Refusal.{Refusal}
 use Rattle.say_audit.specs.Said.{audited_said, checked_said, line_end, other_size_said, plan_refused, shown_name, site_refused, unread_plan, unread_said}
 use Rattle.site.specs.declared.Site.{Site}
 use Rattle.std.proofs.lemmas.List.Edits.{sets}
@@ -25,7 +26,7 @@ say_audit_put_shown-one out at name = (
 )
 
 -- say_audit::put_audited
-pub say_audit_put_audited-one : (out : List ℕ) (at : ℕ) (site : Site) (form : Form) (found : FindAnswer) (takes : Extent) (room : ℕ)
+pub say_audit_put_audited-one : (out : List ℕ) (at : ℕ) (site : Site) (form : Form) (found : Result Way FindError) (takes : Extent) (room : ℕ)
     → (r : ℕ) × (out' : List ℕ) × (SayAuditPutAudited out at site form found takes room r out')
     × ((q : ℕ) (out'' : List ℕ) → SayAuditPutAudited out at site form found takes room q out'' → (q ≡ r) × (out'' ≡ out'))
 say_audit_put_audited-one out at site form found takes room = (
@@ -47,7 +48,7 @@ say_audit_put_line_end-one out at = (
 )
 
 -- say_audit::put_checked
-pub say_audit_put_checked-one : (out : List ℕ) (at : ℕ) (site : Site) (verdict : CheckAnswer) (mended : MendAnswer) (unseen : Bool)
+pub say_audit_put_checked-one : (out : List ℕ) (at : ℕ) (site : Site) (verdict : Result Unit CheckError) (mended : Result ℕ MendError) (unseen : Bool)
     → (r : ℕ) × (out' : List ℕ) × (SayAuditPutChecked out at site verdict mended unseen r out')
     × ((q : ℕ) (out'' : List ℕ) → SayAuditPutChecked out at site verdict mended unseen q out'' → (q ≡ r) × (out'' ≡ out'))
 say_audit_put_checked-one out at site verdict mended unseen = (
@@ -58,7 +59,7 @@ say_audit_put_checked-one out at site verdict mended unseen = (
 )
 
 -- say_audit::put_site_refused
-pub say_audit_put_site_refused-one : (out : List ℕ) (at : ℕ) (reply : ReadAnswer)
+pub say_audit_put_site_refused-one : (out : List ℕ) (at : ℕ) (reply : Result Unit Refusal)
     → (r : ℕ) × (out' : List ℕ) × (SayAuditPutSiteRefused out at reply r out')
     × ((q : ℕ) (out'' : List ℕ) → SayAuditPutSiteRefused out at reply q out'' → (q ≡ r) × (out'' ≡ out'))
 say_audit_put_site_refused-one out at reply = (
@@ -69,7 +70,7 @@ say_audit_put_site_refused-one out at reply = (
 )
 
 -- say_audit::put_plan_refused
-pub say_audit_put_plan_refused-one : (out : List ℕ) (at : ℕ) (reply : ReadAnswer)
+pub say_audit_put_plan_refused-one : (out : List ℕ) (at : ℕ) (reply : Result Unit Refusal)
     → (r : ℕ) × (out' : List ℕ) × (SayAuditPutPlanRefused out at reply r out')
     × ((q : ℕ) (out'' : List ℕ) → SayAuditPutPlanRefused out at reply q out'' → (q ≡ r) × (out'' ≡ out'))
 say_audit_put_plan_refused-one out at reply = (

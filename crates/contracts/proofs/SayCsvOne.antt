@@ -1,11 +1,12 @@
 -- For any arguments one answer and one content of what is lent meet the contract, and no other, in crate `say_csv`: by its equalities alone.
 -- Made by tools/surface from the source. Assumes nothing.
-use Rattle.std.specs.Prelude.{List, length, refl, ℕ, ◌+◌, ◌≡◌}
+use Rattle.std.specs.Prelude.{List, Result, length, refl, ℕ, ◌+◌, ◌≡◌}
 use Rattle.auditing.specs.declared.Extent.{Extent}
 use Rattle.auditing.specs.declared.Form.{Form}
 use Rattle.contracts.specs.SayCsvSays.{SayCsvPutFirst, SayCsvPutPlanFields, SayCsvPutRefusedFields, SayCsvPutSite, SayCsvPutUnreadFields}
-use Rattle.finder.specs.declared.FindAnswer.{FindAnswer}
-use Rattle.records.specs.declared.ReadAnswer.{ReadAnswer}
+use Rattle.finder.specs.declared.FindError.{FindError}
+use Rattle.finder.specs.declared.Way.{Way}
+use Rattle.records.specs.declared.Refusal.{Refusal}
 use Rattle.say_csv.specs.Fields.{first_line, plan_field, refused_line_fields, site_fields, unread_fields}
 use Rattle.say_csv.specs.declared.PlanTold.{PlanTold}
 use Rattle.site.specs.declared.Site.{Site}
@@ -23,7 +24,7 @@ say_csv_put_first-one out at = (
 )
 
 -- say_csv::put_refused_fields
-pub say_csv_put_refused_fields-one : (out : List ℕ) (at : ℕ) (reply : ReadAnswer)
+pub say_csv_put_refused_fields-one : (out : List ℕ) (at : ℕ) (reply : Result Unit Refusal)
     → (r : ℕ) × (out' : List ℕ) × (SayCsvPutRefusedFields out at reply r out')
     × ((q : ℕ) (out'' : List ℕ) → SayCsvPutRefusedFields out at reply q out'' → (q ≡ r) × (out'' ≡ out'))
 say_csv_put_refused_fields-one out at reply = (
@@ -45,7 +46,7 @@ say_csv_put_unread_fields-one out at = (
 )
 
 -- say_csv::put_site
-pub say_csv_put_site-one : (out : List ℕ) (at : ℕ) (site : Site) (form : Form) (found : FindAnswer) (takes : Extent) (room : ℕ)
+pub say_csv_put_site-one : (out : List ℕ) (at : ℕ) (site : Site) (form : Form) (found : Result Way FindError) (takes : Extent) (room : ℕ)
     → (r : ℕ) × (out' : List ℕ) × (SayCsvPutSite out at site form found takes room r out')
     × ((q : ℕ) (out'' : List ℕ) → SayCsvPutSite out at site form found takes room q out'' → (q ≡ r) × (out'' ≡ out'))
 say_csv_put_site-one out at site form found takes room = (

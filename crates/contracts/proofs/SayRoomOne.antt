@@ -1,8 +1,9 @@
 -- For any arguments one answer and one content of what is lent meet the contract, and no other, in crate `say_room`: by its equalities alone.
 -- Made by tools/surface from the source. Assumes nothing.
-use Rattle.std.specs.Prelude.{List, length, refl, ℕ, ◌+◌, ◌≡◌}
+use Rattle.std.specs.Prelude.{List, Result, length, refl, ℕ, ◌+◌, ◌≡◌}
 use Rattle.contracts.specs.SayRoomSays.{SayRoomPutRoom, SayRoomPutSize, SayRoomPutWordEnd}
-use Rattle.finder.specs.declared.FindAnswer.{FindAnswer}
+use Rattle.finder.specs.declared.FindError.{FindError}
+use Rattle.finder.specs.declared.Way.{Way}
 use Rattle.phrases.specs.Phrases.{phrase}
 use Rattle.say_room.specs.Lines.{room_lines}
 use Rattle.say_room.specs.Said.{room_phrase, size_said, word_end}
@@ -10,7 +11,7 @@ use Rattle.site.specs.declared.Site.{Site}
 use Rattle.std.proofs.lemmas.List.Edits.{sets}
 
 -- say_room::put_word_end
-pub say_room_put_word_end-one : (out : List ℕ) (at : ℕ) (reply : FindAnswer)
+pub say_room_put_word_end-one : (out : List ℕ) (at : ℕ) (reply : Result Way FindError)
     → (r : ℕ) × (out' : List ℕ) × (SayRoomPutWordEnd out at reply r out')
     × ((q : ℕ) (out'' : List ℕ) → SayRoomPutWordEnd out at reply q out'' → (q ≡ r) × (out'' ≡ out'))
 say_room_put_word_end-one out at reply = (
@@ -21,7 +22,7 @@ say_room_put_word_end-one out at reply = (
 )
 
 -- say_room::put_room
-pub say_room_put_room-one : (out : List ℕ) (at : ℕ) (site : Site) (i : ℕ) (reply : FindAnswer)
+pub say_room_put_room-one : (out : List ℕ) (at : ℕ) (site : Site) (i : ℕ) (reply : Result Way FindError)
     → (r : ℕ) × (out' : List ℕ) × (SayRoomPutRoom out at site i reply r out')
     × ((q : ℕ) (out'' : List ℕ) → SayRoomPutRoom out at site i reply q out'' → (q ≡ r) × (out'' ≡ out'))
 say_room_put_room-one out at site i reply = (
@@ -32,7 +33,7 @@ say_room_put_room-one out at site i reply = (
 )
 
 -- say_room::put_size
-pub say_room_put_size-one : (out : List ℕ) (at : ℕ) (site : Site) (reply : FindAnswer)
+pub say_room_put_size-one : (out : List ℕ) (at : ℕ) (site : Site) (reply : Result Way FindError)
     → (r : ℕ) × (out' : List ℕ) × (SayRoomPutSize out at site reply r out')
     × ((q : ℕ) (out'' : List ℕ) → SayRoomPutSize out at site reply q out'' → (q ≡ r) × (out'' ≡ out'))
 say_room_put_size-one out at site reply = (

@@ -1,10 +1,10 @@
 -- For any arguments one answer and one content of what is lent meet the contract, and no other, in crate `say_search`: by its equalities alone.
 -- Made by tools/surface from the source. Assumes nothing.
-use Rattle.std.specs.Prelude.{List, length, refl, ℕ, ◌+◌, ◌≡◌}
+use Rattle.std.specs.Prelude.{List, Result, length, refl, ℕ, ◌+◌, ◌≡◌}
 use Rattle.contracts.specs.SaySearchSays.{SaySearchPutOn, SaySearchPutSearch, SaySearchTriesPhrase}
 use Rattle.phrases.specs.declared.Phrase.{Phrase}
 use Rattle.say_search.specs.Said.{on_said, search_said, tries_phrase}
-use Rattle.search.specs.declared.SearchAnswer.{SearchAnswer}
+use Rattle.search.specs.declared.SearchError.{SearchError}
 use Rattle.std.proofs.lemmas.List.Edits.{sets}
 
 -- say_search::tries_phrase
@@ -18,7 +18,7 @@ say_search_tries_phrase-one row tries = (
 )
 
 -- say_search::put_search
-pub say_search_put_search-one : (out : List ℕ) (at : ℕ) (reply : SearchAnswer)
+pub say_search_put_search-one : (out : List ℕ) (at : ℕ) (reply : Result ℕ SearchError)
     → (r : ℕ) × (out' : List ℕ) × (SaySearchPutSearch out at reply r out')
     × ((q : ℕ) (out'' : List ℕ) → SaySearchPutSearch out at reply q out'' → (q ≡ r) × (out'' ≡ out'))
 say_search_put_search-one out at reply = (

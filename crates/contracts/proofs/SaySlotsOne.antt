@@ -1,24 +1,14 @@
 -- For any arguments one answer and one content of what is lent meet the contract, and no other, in crate `say_slots`: by its equalities alone.
 -- Made by tools/surface from the source. Assumes nothing.
 use Rattle.std.specs.Prelude.{List, length, refl, ℕ, ◌+◌, ◌≡◌}
-use Rattle.contracts.specs.SaySlotsSays.{SaySlotsChannelHigh, SaySlotsEverySlot, SaySlotsLessOf, SaySlotsPutBand, SaySlotsPutBandName, SaySlotsPutEdge}
-use Rattle.contracts.specs.SaySlotsSays.{SaySlotsPutMarks, SaySlotsPutNumbers, SaySlotsSlotWide}
+use Rattle.contracts.specs.SaySlotsSays.{SaySlotsChannelHigh, SaySlotsEverySlot, SaySlotsPutBand, SaySlotsPutBandName, SaySlotsPutEdge, SaySlotsPutMarks}
+use Rattle.contracts.specs.SaySlotsSays.{SaySlotsPutNumbers, SaySlotsSlotWide}
 use Rattle.drawing.specs.Lines.{band_lines}
-use Rattle.drawing.specs.Places.{channel_high, lesser, slot_wide}
+use Rattle.drawing.specs.Places.{channel_high, slot_wide}
 use Rattle.drawing.specs.Slots.{edge_phrase, every_slot, frame_phrase, marks_of_kind, name_phrase, slot_numbers}
 use Rattle.phrases.specs.Phrases.{phrase}
 use Rattle.site.specs.declared.Site.{Site}
 use Rattle.std.proofs.lemmas.List.Edits.{sets}
-
--- say_slots::less_of
-pub say_slots_less_of-one : (a : ℕ) (b : ℕ)
-    → (r : ℕ) × (SaySlotsLessOf a b r)
-    × ((q : ℕ) → SaySlotsLessOf a b q → (q ≡ r))
-say_slots_less_of-one a b = (
-  lesser a b,
-  record { answer = refl },
-  λ q says. says.answer,
-)
 
 -- say_slots::slot_wide
 pub say_slots_slot_wide-one : (site : Site)

@@ -1,16 +1,17 @@
 -- For any arguments one answer and one content of what is lent meet the contract, and no other, in crate `say_tally`: by its equalities alone.
 -- Made by tools/surface from the source. Assumes nothing.
-use Rattle.std.specs.Prelude.{Bool, List, length, refl, ℕ, ◌+◌, ◌≡◌}
-use Rattle.checker.specs.declared.CheckAnswer.{CheckAnswer}
+use Rattle.std.specs.Prelude.{Bool, List, Result, length, refl, ℕ, ◌+◌, ◌≡◌}
+use Rattle.checker.specs.declared.CheckError.{CheckError}
 use Rattle.contracts.specs.SayTallySays.{SayTallyAllWell, SayTallyMarkOf, SayTallyPutTotals, SayTallyRefusedMark, SayTallyVerdictSaid}
-use Rattle.finder.specs.declared.FindAnswer.{FindAnswer}
+use Rattle.finder.specs.declared.FindError.{FindError}
+use Rattle.finder.specs.declared.Way.{Way}
 use Rattle.say_tally.specs.Marks.{mark_of, refused_mark, verdict_said}
 use Rattle.say_tally.specs.Said.{all_well, totals_said}
 use Rattle.say_tally.specs.declared.PlanSaid.{PlanSaid}
 use Rattle.std.proofs.lemmas.List.Edits.{sets}
 
 -- say_tally::verdict_said
-pub say_tally_verdict_said-one : (verdict : CheckAnswer) (unseen : Bool)
+pub say_tally_verdict_said-one : (verdict : Result Unit CheckError) (unseen : Bool)
     → (r : PlanSaid) × (SayTallyVerdictSaid verdict unseen r)
     × ((q : PlanSaid) → SayTallyVerdictSaid verdict unseen q → (q ≡ r))
 say_tally_verdict_said-one verdict unseen = (
@@ -20,7 +21,7 @@ say_tally_verdict_said-one verdict unseen = (
 )
 
 -- say_tally::mark_of
-pub say_tally_mark_of-one : (found : FindAnswer) (plan : PlanSaid)
+pub say_tally_mark_of-one : (found : Result Way FindError) (plan : PlanSaid)
     → (r : ℕ) × (SayTallyMarkOf found plan r)
     × ((q : ℕ) → SayTallyMarkOf found plan q → (q ≡ r))
 say_tally_mark_of-one found plan = (

@@ -1,14 +1,16 @@
 -- For any arguments one answer and one content of what is lent meet the contract, and no other, in crate `say_verdicts`: by its equalities alone.
 -- Made by tools/surface from the source. Assumes nothing.
-use Rattle.std.specs.Prelude.{List, length, refl, ℕ, ◌+◌, ◌≡◌}
-use Rattle.checker.specs.declared.CheckAnswer.{CheckAnswer}
+use Rattle.std.specs.Prelude.{List, Result, length, refl, ℕ, ◌+◌, ◌≡◌}
+use Rattle.checker.specs.declared.CheckError.{CheckError}
 use Rattle.contracts.specs.SayVerdictsSays.{SayVerdictsPutBadList, SayVerdictsPutCheck, SayVerdictsPutFault, SayVerdictsPutMend, SayVerdictsPutOtherPlan}
 use Rattle.contracts.specs.SayVerdictsSays.{SayVerdictsPutPlan, SayVerdictsPutRead, SayVerdictsPutRepeats, SayVerdictsPutShare, SayVerdictsPutSheetRead}
-use Rattle.mender.specs.declared.MendAnswer.{MendAnswer}
-use Rattle.planner.specs.declared.PlanAnswer.{PlanAnswer}
-use Rattle.records.specs.declared.ReadAnswer.{ReadAnswer}
-use Rattle.shares.specs.declared.ShareAnswer.{ShareAnswer}
-use Rattle.sheet.specs.declared.SheetAnswer.{SheetAnswer}
+use Rattle.mender.specs.declared.MendError.{MendError}
+use Rattle.planner.specs.declared.PlanError.{PlanError}
+use Rattle.records.specs.declared.Refusal.{Refusal}
+use Rattle.shares.specs.declared.Fragments.{Fragments}
+use Rattle.shares.specs.declared.ShareError.{ShareError}
+use Rattle.shares.specs.declared.Slots.{Slots}
+use Rattle.sheet.specs.declared.SheetError.{SheetError}
 use Rattle.site.specs.declared.Fault.{Fault}
 use Rattle.site.specs.declared.Site.{Site}
 use Rattle.std.proofs.lemmas.List.Edits.{sets}
@@ -16,18 +18,18 @@ use Rattle.verdicts.specs.Said.{bad_list_line, check_said, fault_said, mend_said
 use Rattle.verdicts.specs.declared.File.{File}
 
 -- say_verdicts::put_fault
-pub say_verdicts_put_fault-one : (out : List ℕ) (at : ℕ) (reply : Fault)
-    → (r : ℕ) × (out' : List ℕ) × (SayVerdictsPutFault out at reply r out')
-    × ((q : ℕ) (out'' : List ℕ) → SayVerdictsPutFault out at reply q out'' → (q ≡ r) × (out'' ≡ out'))
-say_verdicts_put_fault-one out at reply = (
-  at + length (fault_said reply),
-  sets out at (fault_said reply),
+pub say_verdicts_put_fault-one : (out : List ℕ) (at : ℕ) (fault : Fault)
+    → (r : ℕ) × (out' : List ℕ) × (SayVerdictsPutFault out at fault r out')
+    × ((q : ℕ) (out'' : List ℕ) → SayVerdictsPutFault out at fault q out'' → (q ≡ r) × (out'' ≡ out'))
+say_verdicts_put_fault-one out at fault = (
+  at + length (fault_said fault),
+  sets out at (fault_said fault),
   record { answer = refl; out_after = refl },
   λ q out'' says. (says.answer, says.out_after),
 )
 
 -- say_verdicts::put_read
-pub say_verdicts_put_read-one : (out : List ℕ) (at : ℕ) (file : File) (reply : ReadAnswer)
+pub say_verdicts_put_read-one : (out : List ℕ) (at : ℕ) (file : File) (reply : Result Unit Refusal)
     → (r : ℕ) × (out' : List ℕ) × (SayVerdictsPutRead out at file reply r out')
     × ((q : ℕ) (out'' : List ℕ) → SayVerdictsPutRead out at file reply q out'' → (q ≡ r) × (out'' ≡ out'))
 say_verdicts_put_read-one out at file reply = (
@@ -38,7 +40,7 @@ say_verdicts_put_read-one out at file reply = (
 )
 
 -- say_verdicts::put_sheet_read
-pub say_verdicts_put_sheet_read-one : (out : List ℕ) (at : ℕ) (reply : SheetAnswer)
+pub say_verdicts_put_sheet_read-one : (out : List ℕ) (at : ℕ) (reply : Result Unit SheetError)
     → (r : ℕ) × (out' : List ℕ) × (SayVerdictsPutSheetRead out at reply r out')
     × ((q : ℕ) (out'' : List ℕ) → SayVerdictsPutSheetRead out at reply q out'' → (q ≡ r) × (out'' ≡ out'))
 say_verdicts_put_sheet_read-one out at reply = (
@@ -49,7 +51,7 @@ say_verdicts_put_sheet_read-one out at reply = (
 )
 
 -- say_verdicts::put_check
-pub say_verdicts_put_check-one : (out : List ℕ) (at : ℕ) (site : Site) (reply : CheckAnswer)
+pub say_verdicts_put_check-one : (out : List ℕ) (at : ℕ) (site : Site) (reply : Result Unit CheckError)
     → (r : ℕ) × (out' : List ℕ) × (SayVerdictsPutCheck out at site reply r out')
     × ((q : ℕ) (out'' : List ℕ) → SayVerdictsPutCheck out at site reply q out'' → (q ≡ r) × (out'' ≡ out'))
 say_verdicts_put_check-one out at site reply = (
@@ -60,7 +62,7 @@ say_verdicts_put_check-one out at site reply = (
 )
 
 -- say_verdicts::put_plan
-pub say_verdicts_put_plan-one : (out : List ℕ) (at : ℕ) (site : Site) (reply : PlanAnswer)
+pub say_verdicts_put_plan-one : (out : List ℕ) (at : ℕ) (site : Site) (reply : Result Unit PlanError)
     → (r : ℕ) × (out' : List ℕ) × (SayVerdictsPutPlan out at site reply r out')
     × ((q : ℕ) (out'' : List ℕ) → SayVerdictsPutPlan out at site reply q out'' → (q ≡ r) × (out'' ≡ out'))
 say_verdicts_put_plan-one out at site reply = (
@@ -104,7 +106,7 @@ say_verdicts_put_repeats-one out at repeats = (
 )
 
 -- say_verdicts::put_share
-pub say_verdicts_put_share-one : (out : List ℕ) (at : ℕ) (burst : ℕ) (period : ℕ) (reply : ShareAnswer)
+pub say_verdicts_put_share-one : (out : List ℕ) (at : ℕ) (burst : ℕ) (period : ℕ) (reply : Result (Fragments × Fragments × Slots) ShareError)
     → (r : ℕ) × (out' : List ℕ) × (SayVerdictsPutShare out at burst period reply r out')
     × ((q : ℕ) (out'' : List ℕ) → SayVerdictsPutShare out at burst period reply q out'' → (q ≡ r) × (out'' ≡ out'))
 say_verdicts_put_share-one out at burst period reply = (
@@ -115,7 +117,7 @@ say_verdicts_put_share-one out at burst period reply = (
 )
 
 -- say_verdicts::put_mend
-pub say_verdicts_put_mend-one : (out : List ℕ) (at : ℕ) (reply : MendAnswer)
+pub say_verdicts_put_mend-one : (out : List ℕ) (at : ℕ) (reply : Result ℕ MendError)
     → (r : ℕ) × (out' : List ℕ) × (SayVerdictsPutMend out at reply r out')
     × ((q : ℕ) (out'' : List ℕ) → SayVerdictsPutMend out at reply q out'' → (q ≡ r) × (out'' ≡ out'))
 say_verdicts_put_mend-one out at reply = (

@@ -1,22 +1,11 @@
 -- For any arguments one answer and one content of what is lent meet the contract, and no other, in crate `say_why`: by its equalities alone.
 -- Made by tools/surface from the source. Assumes nothing.
 use Rattle.std.specs.Prelude.{List, length, refl, ℕ, ◌+◌, ◌≡◌}
-use Rattle.contracts.specs.SayWhySays.{SayWhyFewest, SayWhyLeastNumber, SayWhyPutWhy}
-use Rattle.judges.specs.declared.LeastAnswer.{LeastAnswer}
+use Rattle.contracts.specs.SayWhySays.{SayWhyFewest, SayWhyPutWhy}
 use Rattle.planner.specs.Plan.{plan_table}
 use Rattle.site.specs.declared.Site.{Site}
 use Rattle.std.proofs.lemmas.List.Edits.{sets}
-use Rattle.why.specs.Said.{fewest, least_number, why_said}
-
--- say_why::least_number
-pub say_why_least_number-one : (reply : LeastAnswer)
-    → (r : ℕ) × (SayWhyLeastNumber reply r)
-    × ((q : ℕ) → SayWhyLeastNumber reply q → (q ≡ r))
-say_why_least_number-one reply = (
-  least_number reply,
-  record { answer = refl },
-  λ q says. says.answer,
-)
+use Rattle.why.specs.Said.{fewest, why_said}
 
 -- say_why::fewest
 pub say_why_fewest-one : (n : ℕ) (f : ℕ)

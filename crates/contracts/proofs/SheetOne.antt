@@ -1,8 +1,8 @@
 -- For any arguments one answer and one content of what is lent meet the contract, and no other, in crate `sheet`: by its equalities alone.
 -- Made by tools/surface from the source. Assumes nothing.
-use Rattle.std.specs.Prelude.{List, refl, ℕ, ◌≡◌}
+use Rattle.std.specs.Prelude.{List, Result, refl, ℕ, ◌≡◌}
 use Rattle.contracts.specs.SheetSays.{ReadSheet, WriteSheet}
-use Rattle.records.specs.declared.Written.{Written}
+use Rattle.records.specs.declared.WriteError.{WriteError}
 use Rattle.sheet.specs.Read.{read_sheet}
 use Rattle.sheet.specs.Write.{sheet_out, sheet_written}
 use Rattle.sheet.specs.declared.SheetRead.{SheetRead}
@@ -20,8 +20,8 @@ read_sheet-one bytes slots channels blocked rule = (
 
 -- sheet::write_sheet
 pub write_sheet-one : (site : Site) (out : List ℕ)
-    → (r : Written) × (out' : List ℕ) × (WriteSheet site out r out')
-    × ((q : Written) (out'' : List ℕ) → WriteSheet site out q out'' → (q ≡ r) × (out'' ≡ out'))
+    → (r : Result ℕ WriteError) × (out' : List ℕ) × (WriteSheet site out r out')
+    × ((q : Result ℕ WriteError) (out'' : List ℕ) → WriteSheet site out q out'' → (q ≡ r) × (out'' ≡ out'))
 write_sheet-one site out = (
   sheet_written site out,
   sheet_out site out,

@@ -1,11 +1,10 @@
 -- For any arguments one answer and one content of what is lent meet the contract, and no other, in crate `site`: by its equalities alone.
 -- Made by tools/surface from the source. Assumes nothing.
-use Rattle.std.specs.Prelude.{Bool, List, refl, ℕ, ◌≡◌}
-use Rattle.contracts.specs.SiteSays.{RuleOk, SiteClash, SiteClashRows, SiteClearReach, SiteFaultIn, SiteSetLoad, SiteSetReach, SiteZeros, SizeOk, Within}
+use Rattle.std.specs.Prelude.{Bool, List, Result, refl, ℕ, ◌≡◌}
+use Rattle.contracts.specs.SiteSays.{RuleOk, SiteAccepted, SiteClash, SiteClashRows, SiteClearReach, SiteSetLoad, SiteSetReach, SiteZeros, SizeOk, Within}
 use Rattle.site.specs.Edit.{clear_reach_of, set_load_of, set_reach_of}
 use Rattle.site.specs.Reach.{clash_answer, clash_rows}
 use Rattle.site.specs.Record.{fault_of, rule_ok, size_ok, up_to, zero_site}
-use Rattle.site.specs.declared.ClashAnswer.{ClashAnswer}
 use Rattle.site.specs.declared.Edited.{Edited}
 use Rattle.site.specs.declared.Fault.{Fault}
 use Rattle.site.specs.declared.Site.{Site}
@@ -49,11 +48,11 @@ site_zeros-one = (
   λ q says. says.answer,
 )
 
--- site::Site::fault_in
-pub site_fault_in-one : (self : Site)
-    → (r : Fault) × (SiteFaultIn self r)
-    × ((q : Fault) → SiteFaultIn self q → (q ≡ r))
-site_fault_in-one self = (
+-- site::Site::accepted
+pub site_accepted-one : (self : Site)
+    → (r : Result Unit Fault) × (SiteAccepted self r)
+    × ((q : Result Unit Fault) → SiteAccepted self q → (q ≡ r))
+site_accepted-one self = (
   fault_of self,
   record { answer = refl },
   λ q says. says.answer,
@@ -71,8 +70,8 @@ site_clash_rows-one self = (
 
 -- site::Site::clash
 pub site_clash-one : (self : Site) (a : ℕ) (b : ℕ)
-    → (r : ClashAnswer) × (SiteClash self a b r)
-    × ((q : ClashAnswer) → SiteClash self a b q → (q ≡ r))
+    → (r : Result Bool Fault) × (SiteClash self a b r)
+    × ((q : Result Bool Fault) → SiteClash self a b q → (q ≡ r))
 site_clash-one self a b = (
   clash_answer self a b,
   record { answer = refl },

@@ -1,8 +1,8 @@
 -- For any arguments one answer and one content of what is lent meet the contract, and no other, in crate `sitefile`: by its equalities alone.
 -- Made by tools/surface from the source. Assumes nothing.
-use Rattle.std.specs.Prelude.{List, refl, ℕ, ◌≡◌}
+use Rattle.std.specs.Prelude.{List, Result, refl, ℕ, ◌≡◌}
 use Rattle.contracts.specs.SitefileSays.{ReadSite, WriteSite}
-use Rattle.records.specs.declared.Written.{Written}
+use Rattle.records.specs.declared.WriteError.{WriteError}
 use Rattle.site.specs.declared.Site.{Site}
 use Rattle.sitefile.specs.Read.{read_site}
 use Rattle.sitefile.specs.Write.{site_out, site_written}
@@ -20,8 +20,8 @@ read_site-one bytes = (
 
 -- sitefile::write_site
 pub write_site-one : (site : Site) (out : List ℕ)
-    → (r : Written) × (out' : List ℕ) × (WriteSite site out r out')
-    × ((q : Written) (out'' : List ℕ) → WriteSite site out q out'' → (q ≡ r) × (out'' ≡ out'))
+    → (r : Result ℕ WriteError) × (out' : List ℕ) × (WriteSite site out r out')
+    × ((q : Result ℕ WriteError) (out'' : List ℕ) → WriteSite site out q out'' → (q ≡ r) × (out'' ≡ out'))
 write_site-one site out = (
   site_written site out,
   site_out site out,

@@ -1,15 +1,15 @@
 -- For any arguments one answer and one content of what is lent meet the contract, and no other, in crate `sitehead`: by its equalities alone.
 -- Made by tools/surface from the source. Assumes nothing.
-use Rattle.std.specs.Prelude.{List, refl, ℕ, ◌≡◌}
+use Rattle.std.specs.Prelude.{List, Result, refl, ℕ, ◌≡◌}
 use Rattle.contracts.specs.SiteheadSays.{SiteheadHeadLen, SiteheadPutSiteHead, SiteheadRuleOf, SiteheadSiteHead}
-use Rattle.records.specs.declared.ReadAnswer.{ReadAnswer}
+use Rattle.records.specs.declared.Refusal.{Refusal}
 use Rattle.sitehead.specs.Head.{head_length, rule_of_head, site_head, site_head_answer}
 use Rattle.std.proofs.lemmas.List.Edits.{sets}
 
 -- sitehead::site_head
 pub sitehead_site_head-one : (s : List ℕ)
-    → (r : ReadAnswer) × (SiteheadSiteHead s r)
-    × ((q : ReadAnswer) → SiteheadSiteHead s q → (q ≡ r))
+    → (r : Result Unit Refusal) × (SiteheadSiteHead s r)
+    × ((q : Result Unit Refusal) → SiteheadSiteHead s q → (q ≡ r))
 sitehead_site_head-one s = (
   site_head_answer s,
   record { answer = refl },

@@ -1,16 +1,16 @@
 -- For any arguments one answer and one content of what is lent meet the contract, and no other, in crate `tidying`: by its equalities alone.
 -- Made by tools/surface from the source. Assumes nothing.
-use Rattle.std.specs.Prelude.{List, refl, ℕ, ◌≡◌}
+use Rattle.std.specs.Prelude.{List, Result, refl, ℕ, ◌≡◌}
 use Rattle.cleaning.specs.Clean.{changes_of}
 use Rattle.cleaning.specs.declared.Tidied.{Tidied}
 use Rattle.contracts.specs.TidyingSays.{ChangesMade, Tidy}
 use Rattle.tidying.specs.Tidy.{tidy_answer, tidy_out}
-use Rattle.tidying.specs.declared.TidyAnswer.{TidyAnswer}
+use Rattle.tidying.specs.declared.TidyError.{TidyError}
 
 -- tidying::tidy
 pub tidy-one : (sheet : List ℕ) (out : List ℕ)
-    → (r : TidyAnswer) × (out' : List ℕ) × (Tidy sheet out r out')
-    × ((q : TidyAnswer) (out'' : List ℕ) → Tidy sheet out q out'' → (q ≡ r) × (out'' ≡ out'))
+    → (r : Result ℕ TidyError) × (out' : List ℕ) × (Tidy sheet out r out')
+    × ((q : Result ℕ TidyError) (out'' : List ℕ) → Tidy sheet out q out'' → (q ≡ r) × (out'' ≡ out'))
 tidy-one sheet out = (
   tidy_answer sheet out,
   tidy_out sheet out,

@@ -4,7 +4,13 @@ use Rattle.std.specs.Prelude.{Bool, List, ℕ, ◌≡◌}
 use Rattle.blocks.specs.Order.{bit_of_two, high_order, high_sends, low_order, low_sends, meeting, placed}
 use Rattle.blocks.specs.declared.Block.{Block}
 use Rattle.laws.specs.Bits.{word_of}
+use Rattle.laws.specs.Choice.{pick}
 use Rattle.laws.specs.Search.{first}
+use Rattle.theory.specs.Greedy.{sends}
+
+-- blocks::bits_if
+pub record BlocksBitsIf (byte : ℕ) (w : ℕ) (r : ℕ) : Type 0 where
+  pub answer : r ≡ pick (sends byte) w 0
 
 -- blocks::block_of
 pub record BlocksBlockOf (bytes : List ℕ) (from : ℕ) (r : Block) : Type 0 where

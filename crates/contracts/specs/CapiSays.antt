@@ -36,7 +36,7 @@ use Rattle.shares.specs.Share.{default_repeats, share_of}
 use Rattle.sheet.specs.Read.{read_sheet}
 use Rattle.sheet.specs.Write.{sheet_out, sheet_written}
 use Rattle.site.specs.Edit.{clear_reach_of, set_load_of, set_reach_of}
-use Rattle.site.specs.Given.{clash_given, fault_given}
+use Rattle.site.specs.Given.{clash_given, done_given}
 use Rattle.site.specs.Reach.{clash_answer}
 use Rattle.site.specs.Record.{fault_of}
 use Rattle.site.specs.declared.Site.{Site}
@@ -59,7 +59,7 @@ use Rattle.wordtable.specs.Plan.{plan_words, plan_words_answer}
 
 -- capi::dugg_fault
 pub record DuggFault (site : Site) (r : Answer) : Type 0 where
-  pub answer : r ≡ told (fault_given (fault_of site))
+  pub answer : r ≡ told (done_given (fault_of site))
 
 -- capi::dugg_clash
 pub record DuggClash (site : Site) (a : ℕ) (b : ℕ) (r : Answer) : Type 0 where

@@ -7,8 +7,8 @@ use Rattle.standing.specs.Sets.{stands_in}
 use Rattle.std.proofs.lemmas.List.Edits.{sets}
 
 -- changelist::list_cell
-pub record ChangelistListCell (table : List ℕ) (list : List ℕ) (stands : List ℕ) (old : List ℕ) (w : ℕ) (n : ℕ) (i : ℕ) (at : ℕ) (r : ℕ) (table' : List ℕ)
-    (list' : List ℕ) : Type 0 where
+pub record ChangelistListCell (table : List ℕ) (list : List ℕ) (stands : List ℕ) (old : List ℕ) (w : ℕ) (n : ℕ) (i : ℕ) (at : ℕ) (r : ℕ)
+    (table' : List ℕ) (list' : List ℕ) : Type 0 where
   pub answer : r ≡ at + 4 * cell_count w i stands old
   pub table_after : table' ≡ follow n (cell_changes (stands_in w stands) (stands_in w old) i (64 * w)) table
   pub list_after : list' ≡ sets list at (cell_changes (stands_in w stands) (stands_in w old) i (64 * w))

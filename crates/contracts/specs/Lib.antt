@@ -50,7 +50,6 @@ pub mod LinesSays
 pub mod PutlinesSays
 pub mod BlocklistSays
 pub mod EditlistSays
-pub mod PutblocksSays
 pub mod FlowsheetSays
 pub mod SiteheadSays
 pub mod ReachpairsSays
@@ -64,6 +63,7 @@ pub mod SheetSays
 pub mod TidyingSays
 pub mod SpeechSays
 pub mod PhrasesSays
+pub mod PutblocksSays
 pub mod EscapingSays
 pub mod InputsSays
 pub mod SayRefusalsSays
@@ -95,8 +95,8 @@ pub mod SayFindSays
 pub mod SayRuleSays
 pub mod SayClashesSays
 pub mod SayFlowsSays
-pub mod AuditingSays
 pub mod WhyrowsSays
+pub mod AuditingSays
 pub mod SayWhySays
 pub mod SayRoomSays
 pub mod SayAuditSays

@@ -1,6 +1,6 @@
 -- The equalities that the contracts of crate `numberrows` state: r is the answer, and x' what a lent x holds afterwards.
 -- Made by tools/surface from the source.
-use Rattle.std.specs.Prelude.{Bool, List, ℕ, ◌≡◌}
+use Rattle.std.specs.Prelude.{Bool, List, Option, ℕ, ◌≡◌}
 use Rattle.laws.specs.Bits.{bit_in}
 use Rattle.numberrows.specs.Numbers.{moved_by, moved_rows, numbers_of}
 use Rattle.numberrows.specs.Words.{close_in}
@@ -13,7 +13,7 @@ pub record NumberrowsAllClash (rows : List ℕ) (near : ℕ) (r : Bool) : Type 0
   pub answer : r ≡ close_in rows near
 
 -- numberrows::number_cells
-pub record NumberrowsNumberCells (rows : List ℕ) (cells : ℕ) (r : Numbers) : Type 0 where
+pub record NumberrowsNumberCells (rows : List ℕ) (cells : ℕ) (r : Option Numbers) : Type 0 where
   pub answer : r ≡ numbers_of (numbering 32 (bit_in rows) cells)
 
 -- numberrows::cell_at

@@ -1,7 +1,7 @@
 -- The equalities that the contracts of crate `oneway` state: r is the answer, and x' what a lent x holds afterwards.
 -- Made by tools/surface from the source.
-use Rattle.std.specs.Prelude.{Bool, List, ℕ, ◌≡◌}
-use Rattle.checker.specs.declared.CheckAnswer.{CheckAnswer}
+use Rattle.std.specs.Prelude.{Bool, List, Result, ℕ, ◌≡◌}
+use Rattle.checker.specs.declared.CheckError.{CheckError}
 use Rattle.oneway.specs.TwoWay.{is_valid, two_way, unseen_in}
 use Rattle.site.specs.declared.Site.{Site}
 
@@ -10,7 +10,7 @@ pub record OnewayTwoWay (site : Site) (r : Site) : Type 0 where
   pub answer : r ≡ two_way site
 
 -- oneway::is_valid
-pub record OnewayIsValid (reply : CheckAnswer) (r : Bool) : Type 0 where
+pub record OnewayIsValid (reply : Result Unit CheckError) (r : Bool) : Type 0 where
   pub answer : r ≡ is_valid reply
 
 -- oneway::unseen

@@ -7,6 +7,10 @@ use Rattle.laws.specs.Part.{list_of}
 use Rattle.laws.specs.Sum.{count}
 use Rattle.positions.specs.Blocked.{any_in, bar_of, blocked_at, first_past, most_positions, open_in}
 
+-- positions::has_bit
+pub record PositionsHasBit (x : ℕ) (b : ℕ) (r : Bool) : Type 0 where
+  pub answer : r ≡ bit_at x b
+
 -- positions::bits_in
 pub record PositionsBitsIn (x : ℕ) (r : ℕ) : Type 0 where
   pub answer : r ≡ count (bit_at x) 64

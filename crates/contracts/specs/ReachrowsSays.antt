@@ -32,6 +32,10 @@ pub record ReachrowsThirdRows (reach : List ℕ) (cells : ℕ) (r : List ℕ) : 
 pub record ReachrowsPairClashes (reach : List ℕ) (rule : ℕ) (a : ℕ) (b : ℕ) (r : Bool) : Type 0 where
   pub answer : r ≡ clash_in rule reach a b
 
+-- reachrows::with_bit
+pub record ReachrowsWithBit (x : ℕ) (b : ℕ) (r : ℕ) : Type 0 where
+  pub answer : r ≡ set_bit x b
+
 -- reachrows::put_bit
 pub record ReachrowsPutBit (x : ℕ) (b : ℕ) (set : Bool) (r : ℕ) : Type 0 where
   pub answer : r ≡ pick set set_bit clear_bit x b

@@ -1,9 +1,9 @@
 -- The equalities that the contracts of crate `say_search` state: r is the answer, and x' what a lent x holds afterwards.
 -- Made by tools/surface from the source.
-use Rattle.std.specs.Prelude.{List, length, ℕ, ◌+◌, ◌≡◌}
+use Rattle.std.specs.Prelude.{List, Result, length, ℕ, ◌+◌, ◌≡◌}
 use Rattle.phrases.specs.declared.Phrase.{Phrase}
 use Rattle.say_search.specs.Said.{on_said, search_said, tries_phrase}
-use Rattle.search.specs.declared.SearchAnswer.{SearchAnswer}
+use Rattle.search.specs.declared.SearchError.{SearchError}
 use Rattle.std.proofs.lemmas.List.Edits.{sets}
 
 -- say_search::tries_phrase
@@ -11,7 +11,7 @@ pub record SaySearchTriesPhrase (row : ℕ) (tries : ℕ) (r : Phrase) : Type 0 
   pub answer : r ≡ tries_phrase row tries
 
 -- say_search::put_search
-pub record SaySearchPutSearch (out : List ℕ) (at : ℕ) (reply : SearchAnswer) (r : ℕ) (out' : List ℕ) : Type 0 where
+pub record SaySearchPutSearch (out : List ℕ) (at : ℕ) (reply : Result ℕ SearchError) (r : ℕ) (out' : List ℕ) : Type 0 where
   pub answer : r ≡ at + length (search_said reply)
   pub out_after : out' ≡ sets out at (search_said reply)
 

@@ -2,15 +2,11 @@
 -- Made by tools/surface from the source.
 use Rattle.std.specs.Prelude.{List, length, ℕ, ◌+◌, ◌≡◌}
 use Rattle.drawing.specs.Lines.{band_lines}
-use Rattle.drawing.specs.Places.{channel_high, lesser, slot_wide}
+use Rattle.drawing.specs.Places.{channel_high, slot_wide}
 use Rattle.drawing.specs.Slots.{edge_phrase, every_slot, frame_phrase, marks_of_kind, name_phrase, slot_numbers}
 use Rattle.phrases.specs.Phrases.{phrase}
 use Rattle.site.specs.declared.Site.{Site}
 use Rattle.std.proofs.lemmas.List.Edits.{sets}
-
--- say_slots::less_of
-pub record SaySlotsLessOf (a : ℕ) (b : ℕ) (r : ℕ) : Type 0 where
-  pub answer : r ≡ lesser a b
 
 -- say_slots::slot_wide
 pub record SaySlotsSlotWide (site : Site) (r : ℕ) : Type 0 where

@@ -1,15 +1,10 @@
 -- The equalities that the contracts of crate `say_why` state: r is the answer, and x' what a lent x holds afterwards.
 -- Made by tools/surface from the source.
 use Rattle.std.specs.Prelude.{List, length, ℕ, ◌+◌, ◌≡◌}
-use Rattle.judges.specs.declared.LeastAnswer.{LeastAnswer}
 use Rattle.planner.specs.Plan.{plan_table}
 use Rattle.site.specs.declared.Site.{Site}
 use Rattle.std.proofs.lemmas.List.Edits.{sets}
-use Rattle.why.specs.Said.{fewest, least_number, why_said}
-
--- say_why::least_number
-pub record SayWhyLeastNumber (reply : LeastAnswer) (r : ℕ) : Type 0 where
-  pub answer : r ≡ least_number reply
+use Rattle.why.specs.Said.{fewest, why_said}
 
 -- say_why::fewest
 pub record SayWhyFewest (n : ℕ) (f : ℕ) (r : ℕ) : Type 0 where

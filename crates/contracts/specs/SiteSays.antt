@@ -1,10 +1,9 @@
 -- The equalities that the contracts of crate `site` state: r is the answer, and x' what a lent x holds afterwards.
 -- Made by tools/surface from the source.
-use Rattle.std.specs.Prelude.{Bool, List, ℕ, ◌≡◌}
+use Rattle.std.specs.Prelude.{Bool, List, Result, ℕ, ◌≡◌}
 use Rattle.site.specs.Edit.{clear_reach_of, set_load_of, set_reach_of}
 use Rattle.site.specs.Reach.{clash_answer, clash_rows}
 use Rattle.site.specs.Record.{fault_of, rule_ok, size_ok, up_to, zero_site}
-use Rattle.site.specs.declared.ClashAnswer.{ClashAnswer}
 use Rattle.site.specs.declared.Edited.{Edited}
 use Rattle.site.specs.declared.Fault.{Fault}
 use Rattle.site.specs.declared.Site.{Site}
@@ -25,8 +24,8 @@ pub record RuleOk (rule : ℕ) (r : Bool) : Type 0 where
 pub record SiteZeros (r : Site) : Type 0 where
   pub answer : r ≡ zero_site
 
--- site::Site::fault_in
-pub record SiteFaultIn (self : Site) (r : Fault) : Type 0 where
+-- site::Site::accepted
+pub record SiteAccepted (self : Site) (r : Result Unit Fault) : Type 0 where
   pub answer : r ≡ fault_of self
 
 -- site::Site::clash_rows
@@ -34,7 +33,7 @@ pub record SiteClashRows (self : Site) (r : List ℕ) : Type 0 where
   pub answer : r ≡ clash_rows self
 
 -- site::Site::clash
-pub record SiteClash (self : Site) (a : ℕ) (b : ℕ) (r : ClashAnswer) : Type 0 where
+pub record SiteClash (self : Site) (a : ℕ) (b : ℕ) (r : Result Bool Fault) : Type 0 where
   pub answer : r ≡ clash_answer self a b
 
 -- site::Site::set_load

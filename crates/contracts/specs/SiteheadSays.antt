@@ -1,12 +1,12 @@
 -- The equalities that the contracts of crate `sitehead` state: r is the answer, and x' what a lent x holds afterwards.
 -- Made by tools/surface from the source.
-use Rattle.std.specs.Prelude.{List, ℕ, ◌≡◌}
-use Rattle.records.specs.declared.ReadAnswer.{ReadAnswer}
+use Rattle.std.specs.Prelude.{List, Result, ℕ, ◌≡◌}
+use Rattle.records.specs.declared.Refusal.{Refusal}
 use Rattle.sitehead.specs.Head.{head_length, rule_of_head, site_head, site_head_answer}
 use Rattle.std.proofs.lemmas.List.Edits.{sets}
 
 -- sitehead::site_head
-pub record SiteheadSiteHead (s : List ℕ) (r : ReadAnswer) : Type 0 where
+pub record SiteheadSiteHead (s : List ℕ) (r : Result Unit Refusal) : Type 0 where
   pub answer : r ≡ site_head_answer s
 
 -- sitehead::rule_of

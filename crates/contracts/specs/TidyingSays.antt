@@ -1,13 +1,13 @@
 -- The equalities that the contracts of crate `tidying` state: r is the answer, and x' what a lent x holds afterwards.
 -- Made by tools/surface from the source.
-use Rattle.std.specs.Prelude.{List, ℕ, ◌≡◌}
+use Rattle.std.specs.Prelude.{List, Result, ℕ, ◌≡◌}
 use Rattle.cleaning.specs.Clean.{changes_of}
 use Rattle.cleaning.specs.declared.Tidied.{Tidied}
 use Rattle.tidying.specs.Tidy.{tidy_answer, tidy_out}
-use Rattle.tidying.specs.declared.TidyAnswer.{TidyAnswer}
+use Rattle.tidying.specs.declared.TidyError.{TidyError}
 
 -- tidying::tidy
-pub record Tidy (sheet : List ℕ) (out : List ℕ) (r : TidyAnswer) (out' : List ℕ) : Type 0 where
+pub record Tidy (sheet : List ℕ) (out : List ℕ) (r : Result ℕ TidyError) (out' : List ℕ) : Type 0 where
   pub answer : r ≡ tidy_answer sheet out
   pub out_after : out' ≡ tidy_out sheet out
 

@@ -3,32 +3,31 @@
 -- third cell is one of the others, or the spare cell, whom two reach that clash without it.
 -- Assumes nothing.
 use Prim.Native.Nat.{ℕ, ◌+◌, ◌-◌, ◌≤◌, ◌<◌}
-use mathlib.Core.Bool.{Bool, true, false}
+use mathlib.Core.Bool.{true}
 use mathlib.Core.List.{[], ◌∷◌}
 use mathlib.Core.Logic.{◌⊎◌, inl, inr, ⊎_elim}
 use mathlib.Core.Path.{◌≡◌, refl, sym, ap, subst, ◌∙◌}
 use native.Mathlib.Omega.{arith}
 use borrow.Author.Tests.{le-leb, lt-leb, ltb-true, ltb-false}
 use lib.Dec.{ltb}
-use Rattle.laws.specs.Choice.{pick}
 use Rattle.laws.proofs.Choice.{cases, alike}
 use Rattle.theory.specs.Spare.{past, SparePut, load_past, chain_past, class_past}
-use Rattle.theory.specs.Verdict.{LoadVerdict, holds, over, load_verdict, most_demand, ChainVerdict, chained, broken, chain_verdict}
-use Rattle.theory.specs.Verdict.{ClassVerdict, in_class, outside, class_verdict}
+use Rattle.theory.specs.Verdict as theory
+use Rattle.theory.specs.Verdict.{holds, over, load_verdict, most_demand, chained, broken, chain_verdict, in_class, outside, class_verdict}
 use Rattle.theory.proofs.Spare.{past-below, past-above, load_past-law, most-past, chain-past, class-past}
-use Rattle.site.specs.Given.{fault_given}
+use Rattle.std.specs.Prelude.{Ok, Err}
+use Rattle.site.specs.Given.{done_given}
 use Rattle.site.specs.Record.{load_at, fault_of}
 use Rattle.site.specs.Reach.{clash_of, clash_named, clash_answer, net_of}
 use Rattle.site.specs.Means.{UpTo, Reaches, Third, Clashing}
 use Rattle.site.specs.declared.Site.{Site}
-use Rattle.site.specs.declared.Fault.TheVariants.{Fine, Size}
-use Rattle.site.specs.declared.ClashAnswer.TheVariants.{Clash, Clear}
+use Rattle.site.specs.declared.Fault.TheVariants.{Size}
 use Rattle.site.proofs.Accepted.{net-open}
 use Rattle.site.proofs.Faults.{up-to-is}
 use Rattle.site.proofs.Means.{fault-only, is-clashing, clash-only}
 use Rattle.judges.specs.Judges.{counted, load_of, load_answer, chain_of, chain_answer, class_of, class_answer, least_of, least_answer}
 use Rattle.judges.specs.Given.{load_given, chain_given, class_given, least_given}
-use Rattle.judges.proofs.Meaning.{load-fine, chain-fine, class-fine}
+use Rattle.judges.proofs.Meaning.{told, load-fine, chain-fine, class-fine}
 use Rattle.demanded.specs.Numbers.{done_with, refused}
 use Rattle.demanded.specs.Demands.{Accepted}
 use Rattle.demanded.specs.Spare.{moved, SpareIn, load_moved, chain_moved, class_moved}
@@ -60,11 +59,7 @@ less_one n = omega arith
 
 -- ---- who clashes, by index and by number
 
-picked : (t : Bool) → pick t Clash Clear ≡ Clash → t ≡ true
-picked true e = refl
-picked false e = let z : ◌≡◌ {A = ℕ} 0 1 = cc in absurd (omega arith)
-
-module _ (s : Site) (fine : fault_of s ≡ Fine) (a b : ℕ) (l : a < s.cells) (m : b < s.cells) where
+module _ (s : Site) (fine : fault_of s ≡ Ok tt) (a b : ℕ) (l : a < s.cells) (m : b < s.cells) where
   named : clash_named s (a + 1) (b + 1) ≡ clash_of s a b
   named =
       rw (up-to-is s.cells (a + 1) (omega arith, omega arith), up-to-is s.cells (b + 1) (omega arith, omega arith), less_one a, less_one b)
@@ -74,7 +69,7 @@ module _ (s : Site) (fine : fault_of s ≡ Fine) (a b : ℕ) (l : a < s.cells) (
 
   clash_is : Clashing s (a + 1) (b + 1) → clash_of s a b ≡ true
   unfolding clash_answer
-  clash_is c = sym named ∙ picked (clash_named s (a + 1) (b + 1)) (rw fine at (clash-only s (a + 1) (b + 1) Clash (fine, c)))
+  clash_is c = sym named ∙ (told (fault_of s) (clash_named s (a + 1) (b + 1)) true (clash-only s (a + 1) (b + 1) (Ok true) (fine, c))).1
 
 module _ (p : ℕ) (s t : Site) (put : SpareIn p s t) where
   at-past : (i : ℕ) → moved p (i + 1) - 1 ≡ past p i
@@ -166,7 +161,7 @@ module _ (p : ℕ) (s t : Site) (put : SpareIn p s t) where
       why (inr (inl r)) = record { first_in_holds = u; second_in_holds = v; two = n; why = inr (inl ((put.same_reach b a v u).0 r)) }
       why (inr (inr (two, (x, h)))) = third (sym put.same_rule ∙ two) x h (moved-from x h.inside)
 
-  module _ (fine : fault_of s ≡ Fine) (fine' : fault_of t ≡ Fine) where
+  module _ (fine : fault_of s ≡ Ok tt) (fine' : fault_of t ≡ Ok tt) where
     in-new : (i : ℕ) → i < s.cells → past p i < t.cells
     in-new i l = omega (arith, moved_in (i + 1) (omega arith, omega arith), moved-past p i)
 
@@ -190,47 +185,47 @@ module _ (p : ℕ) (s t : Site) (put : SpareIn p s t) where
       same_clash = clash;
     }
 
-load-of : (p : ℕ) (v : LoadVerdict) → load_of (load_past p v) ≡ load_moved p (load_of v)
+load-of : (p : ℕ) (v : theory.LoadVerdict) → Ok (load_of (load_past p v)) ≡ load_moved p (Ok (load_of v))
 load-of p holds = refl
 load-of p (over i m) = rw (moved-past p i)
 
-chain-of : (p : ℕ) (v : ChainVerdict) → chain_of (chain_past p v) ≡ chain_moved p (chain_of v)
+chain-of : (p : ℕ) (v : theory.ChainVerdict) → Ok (chain_of (chain_past p v)) ≡ chain_moved p (Ok (chain_of v))
 chain-of p chained = refl
 chain-of p (broken a b c) = rw (moved-past p a, moved-past p b, moved-past p c)
 
-class-of : (p : ℕ) (v : ClassVerdict) → class_of (class_past p v) ≡ class_moved p (class_of v)
+class-of : (p : ℕ) (v : theory.ClassVerdict) → Ok (class_of (class_past p v)) ≡ class_moved p (Ok (class_of v))
 class-of p in_class = refl
 class-of p (outside a b i) = rw (moved-past p a, moved-past p b, moved-past p i)
 
-least-of : (p n : ℕ) (v : ClassVerdict) → least_of (class_past p v) n ≡ least_of v n
+least-of : (p n : ℕ) (v : theory.ClassVerdict) → least_of (class_past p v) n ≡ least_of v n
 least-of p n in_class = refl
 least-of p n (outside a b i) = refl
 
 module _ (p : ℕ) (s t : Site) (put : SpareIn p s t) (accepted : Accepted s) (accepted' : Accepted t) where
-  abbrev ok : fault_of s ≡ Fine
+  abbrev ok : fault_of s ≡ Ok tt
   ok = (accepted-number s).0 accepted
 
-  abbrev ok' : fault_of t ≡ Fine
+  abbrev ok' : fault_of t ≡ Ok tt
   ok' = (accepted-number t).0 accepted'
 
   -- no verdict changes: the same cells are named, by their new numbers
   pub spare-load : load_given (load_answer t) ≡ load_given (load_moved p (load_answer s))
   spare-load =
       ap load_given
-      (load-fine t ok' ∙ ap load_of (load_past-law p (net_of s) (net_of t) (put_in p s t put ok ok')) ∙ load-of p (load_verdict (net_of s) (counted s))
-      ∙ ap (load_moved p) (sym (load-fine s ok)))
+      (load-fine t ok' ∙ ap (λ v. Ok (load_of v)) (load_past-law p (net_of s) (net_of t) (put_in p s t put ok ok'))
+      ∙ load-of p (load_verdict (net_of s) (counted s)) ∙ ap (load_moved p) (sym (load-fine s ok)))
 
   pub spare-chain : chain_given (chain_answer t) ≡ chain_given (chain_moved p (chain_answer s))
   spare-chain =
       ap chain_given
-      (chain-fine t ok' ∙ ap chain_of (chain-past p (net_of s) (net_of t) (put_in p s t put ok ok')) ∙ chain-of p (chain_verdict (net_of s) (counted s))
-      ∙ ap (chain_moved p) (sym (chain-fine s ok)))
+      (chain-fine t ok' ∙ ap (λ v. Ok (chain_of v)) (chain-past p (net_of s) (net_of t) (put_in p s t put ok ok'))
+      ∙ chain-of p (chain_verdict (net_of s) (counted s)) ∙ ap (chain_moved p) (sym (chain-fine s ok)))
 
   pub spare-class : class_given (class_answer t) ≡ class_given (class_moved p (class_answer s))
   spare-class =
       ap class_given
-      (class-fine t ok' ∙ ap class_of (class-past p (net_of s) (net_of t) (put_in p s t put ok ok')) ∙ class-of p (class_verdict (net_of s) (counted s))
-      ∙ ap (class_moved p) (sym (class-fine s ok)))
+      (class-fine t ok' ∙ ap (λ v. Ok (class_of v)) (class-past p (net_of s) (net_of t) (put_in p s t put ok ok'))
+      ∙ class-of p (class_verdict (net_of s) (counted s)) ∙ ap (class_moved p) (sym (class-fine s ok)))
 
   -- nor does the number of channel-slots that do
   pub spare-least : least_given (least_answer t) ≡ least_given (least_answer s)
@@ -238,7 +233,7 @@ module _ (p : ℕ) (s t : Site) (put : SpareIn p s t) (accepted : Accepted s) (a
   spare-least =
       let in' = put_in p s t put ok ok' in
       rw (ok, ok', class-past p (net_of s) (net_of t) in', most-past p (net_of s) (net_of t) in')
-      (ap least_given (least-of p (most_demand (net_of s) (counted s)) (class_verdict (net_of s) (counted s))))
+      (ap (λ a. least_given (Ok a)) (least-of p (most_demand (net_of s) (counted s)) (class_verdict (net_of s) (counted s))))
 
   -- a cell keeps its load
   keeps : (i : ℕ) → i < s.cells → (cell : ℕ) → cell ≡ i + 1 → load_at t (moved p cell - 1) ≡ load_at s (cell - 1)
@@ -264,5 +259,5 @@ module _ (p : ℕ) (s t : Site) (put : SpareIn p s t) (accepted : Accepted s) (a
       )
 
 -- up to 32 cells in all: a 33rd cell is a 1
-pub thirty-third : (p : ℕ) (s t : Site) → SpareIn p s t → s.cells ≡ 32 → fault_given (fault_of t) ≡ refused 1 []
-thirty-third p s t put full = ap fault_given (fault-only t Size (λ z. omega (arith, put.one_more, z.cells_most)))
+pub thirty-third : (p : ℕ) (s t : Site) → SpareIn p s t → s.cells ≡ 32 → done_given (fault_of t) ≡ refused 1 []
+thirty-third p s t put full = ap done_given (fault-only t (Err Size) (λ z. omega (arith, put.one_more, z.cells_most)))

@@ -9,13 +9,13 @@ use Rattle.theory.specs.Figure.{figure_one}
 use Rattle.positions.specs.Blocked.{blocked_at, open_in}
 use Rattle.site.specs.Record.{positions, load_at, fault_of, size}
 use Rattle.site.specs.Reach.{clash_of, net_of}
-use Rattle.site.specs.Given.{fault_given}
+use Rattle.site.specs.Given.{done_given}
 use Rattle.site.specs.declared.Site.{Site}
 use Rattle.demanded.specs.Numbers.{done}
 
--- "accepted": the record's fault is number 0, none; any other is 1, 24, 2, 3 or 20, and every call that takes the record refuses it with that
+-- "accepted": the record has no fault, number 0; one that has is 1, 24, 2, 3 or 20, and every call that takes the record refuses it with that
 abbrev pub Accepted : Site → Type 0
-Accepted s = fault_given (fault_of s) ≡ done
+Accepted s = done_given (fault_of s) ≡ done
 
 -- a long enough table: a byte for each cell and position, or more
 abbrev pub LongEnough : Site → List ℕ → Type 0

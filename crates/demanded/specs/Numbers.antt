@@ -1,5 +1,5 @@
 -- "Numbers given back", as the promises speak of them: document 01's number, and the values that come with it in its order.
--- A call's answer is put into these by the definition of its crate: `fault_given`, `load_given`, `chain_given`, `least_given`, `heaviest_given`, `plan_given`,
+-- A call's answer is put into these by the definition of its crate: `done_given`, `load_given`, `chain_given`, `least_given`, `heaviest_given`, `plan_given`,
 -- `check_given`, `form_given`, `mend_given`, `read_given`, `written_given`, `plan_written_given`, `sheet_given`, `flows_given`, `admit_given`, `search_given`,
 -- `find_given`, `over_full_given`.
 use Rattle.std.specs.Prelude.{List, [], ◌∷◌, ℕ, ◌+◌}

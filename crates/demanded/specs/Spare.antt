@@ -1,16 +1,17 @@
 -- W2's spare cells: "Customers number spare cells into a tunnel for later. A spare has load 0". One is put in after the first p cells, and becomes cell p + 1.
 -- Cells are counted from 1 here, as the calls name them.
-use Rattle.std.specs.Prelude.{ℕ, ◌+◌, ◌-◌, ◌≤◌, ◌↔◌, ◌≡◌, leb}
+use Rattle.std.specs.Prelude.{ℕ, ◌+◌, ◌-◌, ◌≤◌, ◌↔◌, ◌≡◌, leb, Result, Ok, Err}
 use Rattle.laws.specs.Choice.{pick}
 use Rattle.site.specs.Means.{UpTo, Reaches, Clashing}
 use Rattle.site.specs.Record.{load_at}
 use Rattle.site.specs.declared.Site.{Site}
-use Rattle.judges.specs.declared.LoadAnswer.{LoadAnswer}
-use Rattle.judges.specs.declared.LoadAnswer.TheVariants as load
-use Rattle.judges.specs.declared.ChainAnswer.{ChainAnswer}
-use Rattle.judges.specs.declared.ChainAnswer.TheVariants as chain
-use Rattle.judges.specs.declared.ClassAnswer.{ClassAnswer}
-use Rattle.judges.specs.declared.ClassAnswer.TheVariants as class
+use Rattle.site.specs.declared.Fault.{Fault}
+use Rattle.judges.specs.declared.LoadVerdict.{LoadVerdict}
+use Rattle.judges.specs.declared.LoadVerdict.TheVariants as load
+use Rattle.judges.specs.declared.ChainVerdict.{ChainVerdict}
+use Rattle.judges.specs.declared.ChainVerdict.TheVariants as chain
+use Rattle.judges.specs.declared.ClassVerdict.{ClassVerdict}
+use Rattle.judges.specs.declared.ClassVerdict.TheVariants as class
 
 -- the number of a cell then: the cells after it move up by one
 unfoldable pub moved : ℕ → ℕ → ℕ
@@ -33,17 +34,17 @@ pub record SpareIn (p : ℕ) (s t : Site) : Type 0 where
       → Reaches t (moved p a) (p + 1) → Reaches t (moved p b) (p + 1) → Clashing s a b
 
 -- an answer of the load test, and of the two judges, with the cells that it names by their new numbers
-abbrev pub load_moved : ℕ → LoadAnswer → LoadAnswer
-load_moved p load.Holds = load.Holds
-load_moved p (load.Over cell m) = load.Over (moved p cell) m
-load_moved p (load.Refused f) = load.Refused f
+abbrev pub load_moved : ℕ → Result LoadVerdict Fault → Result LoadVerdict Fault
+load_moved p (Ok load.Holds) = Ok load.Holds
+load_moved p (Ok (load.Over cell m)) = Ok (load.Over (moved p cell) m)
+load_moved p (Err f) = Err f
 
-abbrev pub chain_moved : ℕ → ChainAnswer → ChainAnswer
-chain_moved p chain.Chained = chain.Chained
-chain_moved p (chain.Broken a b c) = chain.Broken (moved p a) (moved p b) (moved p c)
-chain_moved p (chain.Refused f) = chain.Refused f
+abbrev pub chain_moved : ℕ → Result ChainVerdict Fault → Result ChainVerdict Fault
+chain_moved p (Ok chain.Chained) = Ok chain.Chained
+chain_moved p (Ok (chain.Broken a b c)) = Ok (chain.Broken (moved p a) (moved p b) (moved p c))
+chain_moved p (Err f) = Err f
 
-abbrev pub class_moved : ℕ → ClassAnswer → ClassAnswer
-class_moved p class.InClass = class.InClass
-class_moved p (class.Outside a b i) = class.Outside (moved p a) (moved p b) (moved p i)
-class_moved p (class.Refused f) = class.Refused f
+abbrev pub class_moved : ℕ → Result ClassVerdict Fault → Result ClassVerdict Fault
+class_moved p (Ok class.InClass) = Ok class.InClass
+class_moved p (Ok (class.Outside a b i)) = Ok (class.Outside (moved p a) (moved p b) (moved p i))
+class_moved p (Err f) = Err f

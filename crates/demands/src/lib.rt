@@ -29,18 +29,17 @@ fn is_over(loads: &[u16; 32], row: u32, who: u32, room: u32, i: usize) -> bool
 }
 
 // The lowest cell that counts and whose demand is above the room; the number of cells where there is none.
+#[tactic(auto, using(laws::proofs::Search::found, laws::proofs::Search::missed, laws::proofs::Search::ended))]
 pub fn first_over(loads: &[u16; 32], clash: &[u32; 32], who: u32, cells: usize, room: u32) -> usize
     requires { cells ≤ 32 }
     ensures { result ≡ first (λ i. over_in loads.now (get_or clash.now i 0) who room i) 0 cells }
 {
-    let mut i = 0;
-    while i < cells {
+    for i in 0..cells {
         if is_over(loads, clash[i], who, room, i) {
             return i;
         }
-        i += 1;
     }
-    i
+    cells
 }
 
 // What a cell asks of the room: its demand where it counts, else 0.
@@ -60,10 +59,8 @@ pub fn most_demand(loads: &[u16; 32], clash: &[u32; 32], who: u32, cells: usize)
     ensures { result ≡ most (λ i. demand_counted loads.now (get_or clash.now i 0) who i) cells }
 {
     let mut greatest: u32 = 0;
-    let mut i = 0;
-    while i < cells {
+    for i in 0..cells {
         greatest = greater(greatest, asked(loads, clash[i], who, i));
-        i += 1;
     }
     greatest
 }

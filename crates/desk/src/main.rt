@@ -23,13 +23,9 @@ fn seen_asked(
 ) -> bool
     requires { 65536 ≤ length text.old }
 {
-    if showdesk::show::show_commands(rt, input, second, table, text) {
-        return true;
-    }
-    if showdesk::picture::picture_commands(rt, input, second, table, text) {
-        return true;
-    }
-    showdesk::list::list_commands(rt, input, second, third, old, table, text)
+    showdesk::show::show_commands(rt, input, second, table, text)
+        || showdesk::picture::picture_commands(rt, input, second, table, text)
+        || showdesk::list::list_commands(rt, input, second, third, old, table, text)
 }
 
 // The commands that look at a plan; whether it is one of them.
@@ -45,13 +41,9 @@ fn plan_asked(
 ) -> bool
     requires { 65536 ≤ length text.old }
 {
-    if seen_asked(rt, input, second, third, old, table, text) {
-        return true;
-    }
-    if plandesk::plan::plan_commands(rt, input, second, old, table, out, text) {
-        return true;
-    }
-    plandesk::number::number_commands(rt, input, second, old, table, out, text)
+    seen_asked(rt, input, second, third, old, table, text)
+        || plandesk::plan::plan_commands(rt, input, second, old, table, out, text)
+        || plandesk::number::number_commands(rt, input, second, old, table, out, text)
 }
 
 // The commands that look at a site or a sheet alone; whether it is one of them.
@@ -65,16 +57,10 @@ fn site_asked(
     requires in_bounds { 65536 ≤ length table.old }
     requires in_bounds_2 { 65536 ≤ length text.old }
 {
-    if plandesk::find::find_commands(rt, input, table, out, text) {
-        return true;
-    }
-    if plandesk::room::room_commands(rt, input, table, text) {
-        return true;
-    }
-    if sitedesk::sheets::sheet_commands(rt, input, out, text) {
-        return true;
-    }
-    sitedesk::set::set_commands(rt, input, out, text)
+    plandesk::find::find_commands(rt, input, table, out, text)
+        || plandesk::room::room_commands(rt, input, table, text)
+        || sitedesk::sheets::sheet_commands(rt, input, out, text)
+        || sitedesk::set::set_commands(rt, input, out, text)
 }
 
 // The commands on flows, on all sites at once, and the parts of a report; whether it is one of them.
@@ -82,13 +68,9 @@ fn text_asked(rt: &HostRuntime, input: &[u8], second: &[u8], ended: bool, text: 
     requires in_bounds { 65536 ≤ length text.old }
     requires input_len_bound { length input.now ≤ 65536 }
 {
-    if sitedesk::flow::flow_commands(rt, input, second, ended, text) {
-        return true;
-    }
-    if auditdesk::audit_commands(rt, input, text) {
-        return true;
-    }
-    showdesk::report::report_commands(rt, input, text)
+    sitedesk::flow::flow_commands(rt, input, second, ended, text)
+        || auditdesk::audit_commands(rt, input, text)
+        || showdesk::report::report_commands(rt, input, text)
 }
 
 // Does what the command says: each module of the desk's crates knows its own commands. `ended` is whether the second input was read to its end.
@@ -107,16 +89,12 @@ fn answer(
     requires in_bounds_2 { 65536 ≤ length text.old }
     requires input_len_bound { length input.now ≤ 65536 }
 {
-    if site_asked(rt, input, table, out, text) {
-        return;
+    let known = site_asked(rt, input, table, out, text)
+        || text_asked(rt, input, second, ended, text)
+        || plan_asked(rt, input, second, third, old, table, out, text);
+    if !known {
+        no(rt, b"duggfrask: there is no such command\n", 36);
     }
-    if text_asked(rt, input, second, ended, text) {
-        return;
-    }
-    if plan_asked(rt, input, second, third, old, table, out, text) {
-        return;
-    }
-    no(rt, b"duggfrask: there is no such command\n", 36);
 }
 
 // Reads the inputs, and answers.

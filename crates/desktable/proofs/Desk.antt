@@ -12,7 +12,8 @@ use Rattle.theory.specs.Verdict.{second, splits, split_of, first_split, class_ve
 use Rattle.theory.specs.Verdict.{holder_at, barred_at, lowest_barred, second_at, clashes_at, first_at, lowest_clash, wrong_in, lowest_wrong, open_verdict}
 use Rattle.theory.specs.Verdict.{table_verdict}
 use Rattle.site.specs.Record.{up_to, size_ok, rule_ok, row_bad, extra_load, bad_row, fault_of}
-use Rattle.site.specs.declared.Fault.TheVariants.{Fine, Size, Rule, Load, Reach, Blocked}
+use Rattle.site.specs.declared.Fault.TheVariants.{Size, Rule, Load, Reach, Blocked}
+use Rattle.std.specs.Prelude.{Ok, Err}
 use Rattle.site.specs.Reach.{reaches, reached_by_both, clash_in}
 use Rattle.planner.specs.Plan.{plan_answer, plan_table}
 use Rattle.judges.specs.Judges.{load_answer, chain_answer, class_answer, least_answer}
@@ -30,7 +31,7 @@ use Rattle.mender.specs.Mend.{mend_answer, mend_table, mend_list}
 use Rattle.renumbering.specs.Numbering.{last, missing, odd, fit, give_numbers, numbering}
 use Rattle.renumbering.specs.Carry.{carried}
 use Rattle.numberrows.specs.Numbers.{moved_by, moved_rows}
-use Rattle.numbering.specs.Renumber.{numbering_of, moved_site, renumber_of}
+use Rattle.numbering.specs.Renumber.{numbering_of, site_numbers, moved_site, renumber_of}
 use Rattle.numbering.specs.Carried.{carry_answer, carry_table}
 use Rattle.desktable.specs.Desk.{with_zeros, P1, P1spare, P2, P3, P3spare, P4, P6, P7, alone, spare_first, pair, no_channels}
 use Rattle.desktable.specs.Desk.{P1blocked, P1lighter, P1far, alone_blocked, side_drift_site, P4inARow, ring}
@@ -40,30 +41,30 @@ use Rattle.desktable.specs.Desk.{desk_edge, desk_ruled, desk_faults, desk_air, d
 use Rattle.desktable.proofs.Faults.{used_words, used_to, past_in, fault_in, fault-in}
 
 -- what is wrong with each site: nothing, or what its line says
-faults : (fault_of P1 ≡ Fine)
-    × (fault_of P1spare ≡ Fine)
-    × (fault_of P2 ≡ Fine)
-    × (fault_of P3 ≡ Fine)
-    × (fault_of P3spare ≡ Fine)
-    × (fault_of P4 ≡ Fine)
-    × (fault_of P6 ≡ Fine)
-    × (fault_of P7 ≡ Fine)
-    × (fault_of (alone 0) ≡ Fine)
-    × (fault_of (alone 1) ≡ Fine)
-    × (fault_of (alone 2) ≡ Fine)
-    × (fault_of spare_first ≡ Fine)
-    × (fault_of pair ≡ Fine)
-    × (fault_of no_channels ≡ Size)
-    × (fault_of (P1blocked 1) ≡ Fine)
-    × (fault_of (P1lighter 1) ≡ Fine)
-    × (fault_of (P1blocked 10) ≡ Fine)
-    × (fault_of (P1blocked 63) ≡ Fine)
-    × (fault_of alone_blocked ≡ Fine)
-    × (fault_of (P1blocked 193) ≡ Blocked 6)
-    × (fault_of P1far ≡ Blocked 65)
-    × (fault_of side_drift_site ≡ Fine)
-    × (fault_of P4inARow ≡ Fine)
-    × (fault_of ring ≡ Fine)
+faults : (fault_of P1 ≡ Ok tt)
+    × (fault_of P1spare ≡ Ok tt)
+    × (fault_of P2 ≡ Ok tt)
+    × (fault_of P3 ≡ Ok tt)
+    × (fault_of P3spare ≡ Ok tt)
+    × (fault_of P4 ≡ Ok tt)
+    × (fault_of P6 ≡ Ok tt)
+    × (fault_of P7 ≡ Ok tt)
+    × (fault_of (alone 0) ≡ Ok tt)
+    × (fault_of (alone 1) ≡ Ok tt)
+    × (fault_of (alone 2) ≡ Ok tt)
+    × (fault_of spare_first ≡ Ok tt)
+    × (fault_of pair ≡ Ok tt)
+    × (fault_of no_channels ≡ Err Size)
+    × (fault_of (P1blocked 1) ≡ Ok tt)
+    × (fault_of (P1lighter 1) ≡ Ok tt)
+    × (fault_of (P1blocked 10) ≡ Ok tt)
+    × (fault_of (P1blocked 63) ≡ Ok tt)
+    × (fault_of alone_blocked ≡ Ok tt)
+    × (fault_of (P1blocked 193) ≡ Err (Blocked 6))
+    × (fault_of P1far ≡ Err (Blocked 65))
+    × (fault_of side_drift_site ≡ Ok tt)
+    × (fault_of P4inARow ≡ Ok tt)
+    × (fault_of ring ≡ Ok tt)
 unfolding with_zeros first_of up_to size_ok rule_ok row_bad extra_load bad_row used_words used_to past_in fault_in
 faults = (
   fault-in P1,
@@ -93,24 +94,24 @@ faults = (
 )
 
 -- and with W11's
-air-faults : (fault_of (edge_site 1) ≡ Fine)
-    × (fault_of (edge_site 2) ≡ Fine)
-    × (fault_of (P3ruled 2) ≡ Fine)
-    × (fault_of (P3ruled 3) ≡ Fine)
-    × (fault_of all_clash ≡ Fine)
-    × (fault_of (ring_ruled 1) ≡ Fine)
-    × (fault_of (ring_ruled 2) ≡ Fine)
-    × (fault_of (edge_site 0) ≡ Rule)
-    × (fault_of (edge_site 3) ≡ Rule)
-    × (fault_of (faulty 0 0 5 1 2) ≡ Size)
-    × (fault_of (faulty 1 0 5 1 2) ≡ Rule)
-    × (fault_of (faulty 1 2 5 1 2) ≡ Load 2)
-    × (fault_of (faulty 1 2 0 1 2) ≡ Reach 1)
-    × (fault_of (faulty 1 2 0 0 2) ≡ Blocked 1)
-    × (fault_of (faulty 1 2 0 0 0) ≡ Fine)
-    × (fault_of two_apart ≡ Fine)
-    × (fault_of (spare_reached 1) ≡ Fine)
-    × (fault_of (spare_reached 2) ≡ Fine)
+air-faults : (fault_of (edge_site 1) ≡ Ok tt)
+    × (fault_of (edge_site 2) ≡ Ok tt)
+    × (fault_of (P3ruled 2) ≡ Ok tt)
+    × (fault_of (P3ruled 3) ≡ Ok tt)
+    × (fault_of all_clash ≡ Ok tt)
+    × (fault_of (ring_ruled 1) ≡ Ok tt)
+    × (fault_of (ring_ruled 2) ≡ Ok tt)
+    × (fault_of (edge_site 0) ≡ Err Rule)
+    × (fault_of (edge_site 3) ≡ Err Rule)
+    × (fault_of (faulty 0 0 5 1 2) ≡ Err Size)
+    × (fault_of (faulty 1 0 5 1 2) ≡ Err Rule)
+    × (fault_of (faulty 1 2 5 1 2) ≡ Err (Load 2))
+    × (fault_of (faulty 1 2 0 1 2) ≡ Err (Reach 1))
+    × (fault_of (faulty 1 2 0 0 2) ≡ Err (Blocked 1))
+    × (fault_of (faulty 1 2 0 0 0) ≡ Ok tt)
+    × (fault_of two_apart ≡ Ok tt)
+    × (fault_of (spare_reached 1) ≡ Ok tt)
+    × (fault_of (spare_reached 2) ≡ Ok tt)
 unfolding with_zeros first_of up_to size_ok rule_ok row_bad extra_load bad_row used_words used_to past_in fault_in
 air-faults = (
   fault-in (edge_site 1),
@@ -179,7 +180,7 @@ unfolding with_zeros first_of sum any part put list_of forbid marked fill unmet 
     first_at
     lowest_clash wrong_in lowest_wrong open_verdict table_verdict verdict_of check_answer plan_answer plan_table word_of last missing odd fit give_numbers
     numbering
-    carried moved_by moved_rows numbering_of moved_site renumber_of carry_answer carry_table
+    carried moved_by moved_rows numbering_of site_numbers moved_site renumber_of carry_answer carry_table
 renumbered = rw (faults.0, faults.5, faults.7, faults.13, faults.22, faults.23) refl
 
 edge : Answered desk_edge
@@ -197,7 +198,7 @@ unfolding with_zeros first_of sum any part put list_of forbid marked fill unmet 
     gap breaks break_of first_break chain_verdict chain_answer second splits split_of first_split class_verdict class_answer holder_at barred_at lowest_barred
     second_at clashes_at first_at lowest_clash wrong_in lowest_wrong open_verdict table_verdict verdict_of check_answer plan_answer plan_table word_of last
     missing odd
-    fit give_numbers numbering moved_by moved_rows numbering_of moved_site renumber_of
+    fit give_numbers numbering moved_by moved_rows numbering_of site_numbers moved_site renumber_of
 ruled =
     let f = air-faults in
     rw (f.2, f.3, f.4, f.5, f.6, f.15, f.16, f.17) refl

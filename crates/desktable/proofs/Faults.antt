@@ -17,7 +17,8 @@ use Rattle.positions.specs.Blocked.{most_positions, blocked_at, first_past}
 use Rattle.site.specs.Record.{positions, size_ok, rule_ok, extra_load, bad_row, extra_blocked, fault_of}
 use Rattle.site.specs.declared.Site.{Site}
 use Rattle.site.specs.declared.Fault.{Fault}
-use Rattle.site.specs.declared.Fault.TheVariants.{Fine, Size, Rule, Load, Reach, Blocked}
+use Rattle.site.specs.declared.Fault.TheVariants.{Size, Rule, Load, Reach, Blocked}
+use Rattle.std.specs.Prelude.{Result, Ok, Err}
 
 -- how many words stand up to the last that is not 0
 unfoldable pub used_words : List ℕ → ℕ
@@ -89,17 +90,17 @@ module _ (set : List ℕ) (n : ℕ) where
   past-in = either (dec_lt most_positions n)
 
 -- the fault, computed so
-unfoldable pub fault_in : Site → Fault
+unfoldable pub fault_in : Site → Result Unit Fault
 fault_in s =
     pick (size_ok s.cells s.slots s.channels)
     (pick (rule_ok s.rule)
     (pick (ltb (extra_load s) 32)
-    (Load (extra_load s + 1))
+    (Err (Load (extra_load s + 1)))
     (pick (ltb (bad_row s) 32)
-    (Reach (bad_row s + 1))
-    (pick (ltb (past_in s.blocked (positions s)) most_positions) (Blocked (past_in s.blocked (positions s))) Fine)))
-    Rule)
-    Size
+    (Err (Reach (bad_row s + 1)))
+    (pick (ltb (past_in s.blocked (positions s)) most_positions) (Err (Blocked (past_in s.blocked (positions s)))) (Ok tt))))
+    (Err Rule))
+    (Err Size)
 
 pub fault-in : (s : Site) → fault_of s ≡ fault_in s
 unfolding fault_of fault_in extra_blocked

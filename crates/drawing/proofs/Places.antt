@@ -12,43 +12,21 @@ use Rattle.laws.proofs.Choice.{at_least}
 use Rattle.laws.proofs.Grid.{row_before, same_place}
 use Rattle.site.specs.declared.Site.{Site}
 use Rattle.site.proofs.Faults.{Sized}
-use Rattle.drawing.specs.Places.{lesser, slot_wide, channel_high, band_step, across_of, down_of}
-
--- the less of two is at most each, and some where both are
-pub lesser-most : (a b : ℕ) → lesser a b ≤ a
-lesser-most a b = go (ltb b a) refl
-  where
-    go : (t : Bool) → ltb b a ≡ t → pick t b a ≤ a
-    go true e = omega (arith, ltb-true b a e)
-    go false e = omega arith
-
-pub lesser-other : (a b : ℕ) → lesser a b ≤ b
-lesser-other a b = go (ltb b a) refl
-  where
-    go : (t : Bool) → ltb b a ≡ t → pick t b a ≤ b
-    go true e = omega arith
-    go false e = omega (arith, ltb-false b a e)
-
-pub lesser-some : (a b : ℕ) → 0 < a → 0 < b → 0 < lesser a b
-lesser-some a b h l = go (ltb b a)
-  where
-    go : (t : Bool) → 0 < pick t b a
-    go true = l
-    go false = h
+use Rattle.drawing.specs.Places.{slot_wide, channel_high, band_step, across_of, down_of}
 
 module _ (s : Site) where
   pub wide-most : slot_wide s ≤ 416
   unfolding slot_wide
-  wide-most = lesser-most 416 (1664 / s.slots)
+  wide-most = omega arith
 
   pub high-most : channel_high s ≤ 48
   unfolding channel_high
-  high-most = lesser-most 48 (1536 / (s.cells * s.channels))
+  high-most = omega arith
 
   module _ (sizes : Sized s) where
     pub wide-some : 0 < slot_wide s
     unfolding slot_wide
-    wide-some = lesser-some 416 (1664 / s.slots) (omega arith) ((le-div_iff_mul-le sizes.slots_some).1 (omega (arith, sizes.slots_most)))
+    wide-some = let some : 1 ≤ 1664 / s.slots = (le-div_iff_mul-le sizes.slots_some).1 (omega (arith, sizes.slots_most)) in omega (arith, some)
 
     pub rows-some : 0 < s.cells * s.channels
     rows-some = omega (arith, mul-le-mul sizes.cells_some sizes.channels_some)
@@ -58,12 +36,12 @@ module _ (s : Site) where
 
     pub high-some : 0 < channel_high s
     unfolding channel_high
-    high-some = lesser-some 48 (1536 / (s.cells * s.channels)) (omega arith) ((le-div_iff_mul-le rows-some).1 (omega (arith, rows-most)))
+    high-some = let some : 1 ≤ 1536 / (s.cells * s.channels) = (le-div_iff_mul-le rows-some).1 (omega (arith, rows-most)) in omega (arith, some)
 
     -- the channels of all cells, and their bands with what is between them
     pub high-share : channel_high s * (s.cells * s.channels) ≤ 1536
     unfolding channel_high
-    high-share = (le-div_iff_mul-le rows-some).0 (lesser-other 48 (1536 / (s.cells * s.channels)))
+    high-share = (le-div_iff_mul-le rows-some).0 (omega arith)
 
     pub bands-most : s.cells * band_step s ≤ 1920
     bands-most =

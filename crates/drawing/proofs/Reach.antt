@@ -26,7 +26,6 @@ use Rattle.site.specs.declared.Site.{Site}
 use Rattle.site.proofs.Faults.{Sized}
 use Rattle.drawing.specs.Range.{reach_lines, arc_line, arrow_line, cell_step, cell_at, bend_of, both_ways, one_way, drawn_third, line_phrase, lines_said}
 use Rattle.drawing.specs.Read.{some_of, goes_from, drawn_from}
-use Rattle.drawing.proofs.Places.{lesser-most, lesser-some}
 use Rattle.drawing.proofs.Gives.{Gives, gives-joined, some-joined, some_one, one-some}
 
 abbrev pub arc_tail : List ℕ
@@ -61,12 +60,12 @@ line-arrow false false false a m u d b p q r z rest = refl
 module _ (s : Site) where
   pub step-most : cell_step s ≤ 860
   unfolding cell_step
-  step-most = lesser-most 860 (1720 / s.cells)
+  step-most = omega arith
 
   module _ (sizes : Sized s) where
     pub step-some : 0 < cell_step s
     unfolding cell_step
-    step-some = lesser-some 860 (1720 / s.cells) (omega arith) ((le-div_iff_mul-le sizes.cells_some).1 (omega (arith, sizes.cells_most)))
+    step-some = let some : 1 ≤ 1720 / s.cells = (le-div_iff_mul-le sizes.cells_some).1 (omega (arith, sizes.cells_most)) in omega (arith, some)
 
     pub cell-most : (i : ℕ) → i < s.cells → cell_at s i ≤ 27190
     cell-most i l =

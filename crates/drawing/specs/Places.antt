@@ -1,12 +1,7 @@
 -- Where things stand in a picture. Its unit is a tenth of a millimetre; it is 1,900 units wide, and at 32 cells by 128 slots by 16 channels as high as an A4
 -- page. "Numbers are whole."
-use Rattle.std.specs.Prelude.{ℕ, ◌+◌, ◌*◌, ◌/◌, ltb}
-use Rattle.laws.specs.Choice.{pick}
+use Rattle.std.specs.Prelude.{ℕ, ◌+◌, ◌*◌, ◌/◌, min}
 use Rattle.site.specs.declared.Site.{Site}
-
--- the less of two
-abbrev pub lesser : ℕ → ℕ → ℕ
-lesser a b = pick (ltb b a) b a
 
 -- the slot map begins here, across and down
 abbrev pub map_left : ℕ
@@ -22,11 +17,11 @@ band_gap = 12
 module _ (s : Site) where
   -- how wide a slot is: all of them in 1,664 units, and none wider than 416
   unfoldable pub slot_wide : ℕ
-  slot_wide = lesser 416 (1664 / s.slots)
+  slot_wide = min 416 (1664 / s.slots)
 
   -- how high a channel is in a band: all of them, of all cells, in 1,536 units, and none higher than 48
   unfoldable pub channel_high : ℕ
-  channel_high = lesser 48 (1536 / (s.cells * s.channels))
+  channel_high = min 48 (1536 / (s.cells * s.channels))
 
   -- from a band to the next
   abbrev pub band_step : ℕ

@@ -1,6 +1,6 @@
 -- The range map: "cells in a line along the tunnel, an arc for a two-way range, an arrow below for a one-way one, dotted for a clash by a third cell, spare
 -- cells open, the heaviest clash marked". Cells are counted from 0.
-use Rattle.std.specs.Prelude.{ℕ, ◌+◌, ◌-◌, ◌*◌, ◌/◌, Bool, ◌&&◌, not, List, [], ◌∷◌, ◌++◌, eqb, ltb}
+use Rattle.std.specs.Prelude.{min, ℕ, ◌+◌, ◌-◌, ◌*◌, ◌/◌, Bool, ◌&&◌, not, List, [], ◌∷◌, ◌++◌, eqb, ltb}
 use Prim.Native.String.{String}
 use Rattle.laws.specs.Bits.{bit_at}
 use Rattle.laws.specs.Choice.{pick}
@@ -11,7 +11,6 @@ use Rattle.site.specs.declared.Site.{Site}
 use Rattle.phrases.specs.Phrases.{phrase}
 use Rattle.phrases.specs.declared.Phrase.{Phrase}
 use Rattle.phrases.specs.declared.Phrase.TheVariants.{Silent, Row}
-use Rattle.drawing.specs.Places.{lesser}
 
 -- from the middle of a cell, by a point above or below, to the middle of another: a range both ways, a range one way, a clash by a third cell
 unfoldable pub reach_lines : List String
@@ -57,7 +56,7 @@ ring_row = 2
 module _ (s : Site) where
   -- from a cell to the next: all of them in 1,720 units, and none farther than 860
   unfoldable pub cell_step : ℕ
-  cell_step = lesser 860 (1720 / s.cells)
+  cell_step = min 860 (1720 / s.cells)
 
   -- the middle of a cell
   abbrev pub cell_at : ℕ → ℕ

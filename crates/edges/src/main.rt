@@ -2,7 +2,7 @@
 // 65,536 bytes and of one byte less, and sites of 33 cells, 129 slots and 17 channels.
 #![tactic(auto)]
 
-use planner::PlanAnswer;
+use planner::PlanError;
 use site::{Fault, Site};
 use std::io::Print;
 
@@ -14,7 +14,6 @@ fn put(rt: &HostRuntime, text: &[u8]) {
 // A fault's number.
 fn refused(rt: &HostRuntime, f: Fault) {
     match f {
-        Fault::Fine => put(rt, b"0"),
         Fault::Size => put(rt, b"1"),
         Fault::Rule => put(rt, b"24"),
         Fault::Load(_) => put(rt, b"2"),
@@ -29,12 +28,12 @@ fn short(rt: &HostRuntime, cell: usize, fragments: usize) {
 }
 
 // The answer's number and values, and a line feed.
-fn say(rt: &HostRuntime, a: PlanAnswer) {
+fn say(rt: &HostRuntime, a: Result<(), PlanError>) {
     match a {
-        PlanAnswer::Done => put(rt, b"0"),
-        PlanAnswer::TableShort => put(rt, b"4"),
-        PlanAnswer::NoRoom(cell, fragments) => short(rt, cell, fragments),
-        PlanAnswer::Refused(f) => refused(rt, f),
+        Ok(()) => put(rt, b"0"),
+        Err(PlanError::TableShort) => put(rt, b"4"),
+        Err(PlanError::NoRoom(cell, fragments)) => short(rt, cell, fragments),
+        Err(PlanError::Record(f)) => refused(rt, f),
     }
     put(rt, b"\n");
 }

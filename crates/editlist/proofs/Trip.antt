@@ -3,6 +3,7 @@
 use Prim.Native.Nat.{ℕ, ◌+◌, ◌*◌, ◌-◌, ◌≤◌}
 use mathlib.Core.Bool.{Bool, true, false, ◌&&◌}
 use mathlib.Core.List.{List, [], ◌∷◌, ◌++◌, append-nil}
+use Rattle.std.specs.Prelude.{Ok}
 use mathlib.Core.Path.{◌≡◌, refl, sym, ◌∙◌}
 use native.Mathlib.Omega.{arith}
 use borrow.Author.Tests.{le-leb, leb-true, eq-eqb}
@@ -16,14 +17,14 @@ use Rattle.lines.specs.Content.{more, scanned, number_read}
 use Rattle.lines.proofs.Numbers.{scanned-end}
 use Rattle.blocklist.proofs.Sides.{after_text, eaten-yes, number_at}
 use Rattle.editlist.specs.Format.{equals_mark, dash_mark, largest, edit_name, edit_value, edit_fits}
-use Rattle.editlist.specs.Read.{is_text, kind_of, one_read, two_read, load_read, reach_typed, clear_read, list_read, rule_read, slots_read, channels_read}
+use Rattle.editlist.specs.Read.{is_text, kind_of, one_read, two_read, load_edit}
 use Rattle.editlist.specs.Read.{read_edit}
 use Rattle.editlist.specs.declared.Edit.{Edit}
 use Rattle.editlist.specs.declared.Edit.TheVariants.{SetLoad, SetReach, ClearReach, SetRule, SetSlots, SetChannels, Unblock}
 use Rattle.editlist.specs.declared.EditRead.TheVariants.{Done}
 
 -- a number alone
-one-back : (v : ℕ) → v ≤ largest → one_read (decimal v) ≡ record { value = v; good = true }
+one-back : (v : ℕ) → v ≤ largest → one_read (decimal v) ≡ Ok v
 unfolding one_read scanned
 one-back v l =
     let h : number_read (decimal v) 0 largest ≡ record { value = v; next = 0 + length (decimal v) } =
@@ -32,7 +33,7 @@ one-back v l =
 
 -- two numbers with a mark between that is no digit
 two_back : (a b mark : ℕ) → ((r : List ℕ) → scanned a (mark ∷ r) ≡ a) → a ≤ largest → b ≤ largest
-    → two_read (decimal a ++ mark ∷ decimal b) mark ≡ record { first = a; second = b; good = true }
+    → two_read (decimal a ++ mark ∷ decimal b) mark ≡ Ok (a, b)
 unfolding two_read scanned
 two_back a b mark stop l m =
     let s : List ℕ = decimal a ++ mark ∷ decimal b in
@@ -63,8 +64,8 @@ two-fit a b e =
     (leb-true a largest h.0, leb-true b largest h.1)
 
 -- what is typed is what is read
-pub edit-back : (e : Edit) → edit_fits e ≡ true → read_edit (edit_name e) (edit_value e) ≡ Done e
-unfolding read_edit kind_of is_text eaten starts load_read reach_typed clear_read list_read rule_read slots_read channels_read
+pub edit-back : (e : Edit) → edit_fits e ≡ true → read_edit (edit_name e) (edit_value e) ≡ Ok (Done e)
+unfolding read_edit kind_of is_text eaten starts load_edit
 edit-back (SetLoad cell load) h =
     let f = two-fit cell load h in
     rw (two_back cell load equals_mark (equals-end cell) f.0 f.1, le-leb load largest f.1) refl

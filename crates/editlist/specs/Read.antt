@@ -1,77 +1,83 @@
 -- What two words read as, of any bytes at all. A word is read from its first byte, and it is good where it ends with what was read.
-use Rattle.std.specs.Prelude.{ℕ, Bool, false, List, [], ◌∷◌, leb, eqb, length}
+use Rattle.std.specs.Prelude.{ℕ, Bool, List, [], ◌∷◌, leb, eqb, length, Option, Some, None, Result, Ok, Err}
 use Rattle.laws.specs.Choice.{pick}
 use Rattle.lines.specs.Match.{eaten}
 use Rattle.lines.specs.Content.{number_read}
 use Rattle.editlist.specs.Format.{load_word, reach_word, clear_word, blocked_word, rule_word, slots_word, channels_word, none_word, equals_mark, dash_mark}
 use Rattle.editlist.specs.Format.{largest}
 use Rattle.editlist.specs.declared.Kind.{Kind}
-use Rattle.editlist.specs.declared.Kind.TheVariants.{Unknown, OfLoad, OfReach, OfClear, OfBlocked, OfRule, OfSlots, OfChannels}
+use Rattle.editlist.specs.declared.Kind.TheVariants.{OfLoad, OfReach, OfClear, OfBlocked, OfRule, OfSlots, OfChannels}
 use Rattle.editlist.specs.declared.Edit.{Edit}
 use Rattle.editlist.specs.declared.Edit.TheVariants.{SetLoad, SetReach, ClearReach, SetRule, SetSlots, SetChannels, Unblock}
 use Rattle.editlist.specs.declared.EditRead.{EditRead}
-use Rattle.editlist.specs.declared.EditRead.TheVariants.{Done, Listed, NoEdit, Bad}
-use Rattle.editlist.specs.declared.One.{One}
-use Rattle.editlist.specs.declared.Two.{Two}
+use Rattle.editlist.specs.declared.EditRead.TheVariants.{Done, Listed}
+use Rattle.editlist.specs.declared.EditError.{EditError}
+use Rattle.editlist.specs.declared.EditError.TheVariants.{NoEdit, Bad}
 
 -- the word s is the text w
 unfoldable pub is_text : List ℕ → List ℕ → Bool
 is_text s w = eqb (eaten s 0 w) (length s)
 
 -- the kind of an edit, by its name
-unfoldable pub kind_of : List ℕ → Kind
+unfoldable pub kind_of : List ℕ → Option Kind
 kind_of s =
-    pick (is_text s load_word) OfLoad
-    (pick (is_text s reach_word) OfReach
-    (pick (is_text s clear_word) OfClear
-    (pick (is_text s blocked_word) OfBlocked
-    (pick (is_text s rule_word) OfRule
-    (pick (is_text s slots_word) OfSlots
-    (pick (is_text s channels_word) OfChannels Unknown))))))
+    pick (is_text s load_word) (Some OfLoad)
+    (pick (is_text s reach_word) (Some OfReach)
+    (pick (is_text s clear_word) (Some OfClear)
+    (pick (is_text s blocked_word) (Some OfBlocked)
+    (pick (is_text s rule_word) (Some OfRule)
+    (pick (is_text s slots_word) (Some OfSlots)
+    (pick (is_text s channels_word) (Some OfChannels) None))))))
 
--- "Numbers are plain, 0 to 65,535, without leading zeros"
-unfoldable pub one_read : List ℕ → One
+-- "Numbers are plain, 0 to 65,535, without leading zeros": one that is all of the word
+unfoldable pub one_read : List ℕ → Result ℕ EditError
 one_read s = let a = number_read s 0 largest in
-    pick (leb a.value largest) (record { value = a.value; good = eqb a.next (length s) }) (record { value = 0; good = false })
+    pick (leb a.value largest) (pick (eqb a.next (length s)) (Ok a.value) (Err Bad)) (Err Bad)
 
 -- two of them, with a mark between
-unfoldable pub two_read : List ℕ → ℕ → Two
+unfoldable pub two_read : List ℕ → ℕ → Result (ℕ × ℕ) EditError
 two_read s mark = let a = number_read s 0 largest in
     let b = number_read s (eaten s a.next (mark ∷ [])) largest in
-    record { first = a.value; second = b.value; good = eqb b.next (length s) }
+    pick (eqb b.next (length s)) (Ok (a.value, b.value)) (Err Bad)
 
-abbrev pub when : Bool → Edit → EditRead
-when good e = pick good (Done e) Bad
+-- what is read, made of what the word holds
+abbrev pub read_as : {T : Type 0} → (T → Result EditRead EditError) → Result T EditError → Result EditRead EditError
+read_as f (Ok x) = f x
+read_as f (Err e) = Err e
+
+abbrev pub edit_done : Edit → Result EditRead EditError
+edit_done e = Ok (Done e)
 
 -- "`load CELL=LOAD`"
-unfoldable pub load_read : List ℕ → EditRead
-load_read s = let t = two_read s equals_mark in
-    pick (leb t.second largest) (when t.good (SetLoad t.first t.second)) Bad
+unfoldable pub load_edit : ℕ → ℕ → Result Edit EditError
+load_edit cell load = pick (leb load largest) (Ok (SetLoad cell load)) (Err Bad)
+
+abbrev pub load_read : List ℕ → Result EditRead EditError
+load_read s = read_as (λ t. read_as edit_done (load_edit t.0 t.1)) (two_read s equals_mark)
 
 -- "`reach FROM-TO`, `clear FROM-TO`"
-unfoldable pub reach_typed : List ℕ → EditRead
-reach_typed s = let t = two_read s dash_mark in when t.good (SetReach t.first t.second)
+abbrev pub reach_typed : List ℕ → Result EditRead EditError
+reach_typed s = read_as (λ t. edit_done (SetReach t.0 t.1)) (two_read s dash_mark)
 
-unfoldable pub clear_read : List ℕ → EditRead
-clear_read s = let t = two_read s dash_mark in when t.good (ClearReach t.first t.second)
+abbrev pub clear_read : List ℕ → Result EditRead EditError
+clear_read s = read_as (λ t. edit_done (ClearReach t.0 t.1)) (two_read s dash_mark)
 
 -- "`blocked LIST`", or none
-unfoldable pub list_read : List ℕ → EditRead
-list_read s = pick (is_text s none_word) (Done Unblock) Listed
+abbrev pub list_read : List ℕ → Result EditRead EditError
+list_read s = pick (is_text s none_word) (edit_done Unblock) (Ok Listed)
 
 -- "`rule R`, `slots T`, `channels F`"
-unfoldable pub rule_read : List ℕ → EditRead
-rule_read s = when (one_read s).good (SetRule (one_read s).value)
+abbrev pub rule_read : List ℕ → Result EditRead EditError
+rule_read s = read_as (λ v. edit_done (SetRule v)) (one_read s)
 
-unfoldable pub slots_read : List ℕ → EditRead
-slots_read s = when (one_read s).good (SetSlots (one_read s).value)
+abbrev pub slots_read : List ℕ → Result EditRead EditError
+slots_read s = read_as (λ v. edit_done (SetSlots v)) (one_read s)
 
-unfoldable pub channels_read : List ℕ → EditRead
-channels_read s = when (one_read s).good (SetChannels (one_read s).value)
+abbrev pub channels_read : List ℕ → Result EditRead EditError
+channels_read s = read_as (λ v. edit_done (SetChannels v)) (one_read s)
 
 -- the second word, by the kind
-abbrev pub value_read : Kind → List ℕ → EditRead
-value_read Unknown s = NoEdit
+abbrev pub value_read : Kind → List ℕ → Result EditRead EditError
 value_read OfLoad s = load_read s
 value_read OfReach s = reach_typed s
 value_read OfClear s = clear_read s
@@ -80,5 +86,10 @@ value_read OfRule s = rule_read s
 value_read OfSlots s = slots_read s
 value_read OfChannels s = channels_read s
 
-unfoldable pub read_edit : List ℕ → List ℕ → EditRead
-read_edit name value = value_read (kind_of name) value
+-- the second word where the first is the name of an edit
+abbrev pub value_by_kind : Option Kind → List ℕ → Result EditRead EditError
+value_by_kind None s = Err NoEdit
+value_by_kind (Some k) s = value_read k s
+
+unfoldable pub read_edit : List ℕ → List ℕ → Result EditRead EditError
+read_edit name value = value_by_kind (kind_of name) value

@@ -3,8 +3,7 @@
 #![tactic(auto)]
 
 ghost use Rattle.std.specs.Prelude.{◌≡◌};
-ghost use Rattle.editlist.specs.Read.{is_text, kind_of, one_read, two_read, when, load_read, reach_typed, clear_read, list_read, rule_read, slots_read};
-ghost use Rattle.editlist.specs.Read.{channels_read, value_read, read_edit};
+ghost use Rattle.editlist.specs.Read.{is_text, kind_of, one_read, two_read, load_edit, value_read, read_edit};
 ghost use Rattle.editlist.specs.Made.{edited_by};
 
 use lines::{eat, eat_text, read_number};
@@ -21,7 +20,6 @@ const LARGEST: usize = 65535;
 // The kinds of edits, by their names.
 #[derive(Clone, Copy)]
 pub enum Kind {
-    Unknown,
     OfLoad,
     OfReach,
     OfClear,
@@ -43,31 +41,22 @@ pub enum Edit {
     Unblock,
 }
 
-// What two words are: an edit; `blocked` with a list; words whose first is the name of no edit; an edit's name with a word that it does not take.
+// What two words are: an edit, or `blocked` with a list.
 #[derive(Clone, Copy)]
 pub enum EditRead {
     Done(Edit),
     Listed,
+}
+
+// Why two words are no edit: the first is the name of none, or the second is not what the edit takes.
+#[derive(Clone, Copy)]
+pub enum EditError {
     NoEdit,
     Bad,
 }
 
-// A number, where it is all of a word.
-#[derive(Clone, Copy)]
-struct One {
-    pub value: u16,
-    pub good: bool,
-}
-
-// Two numbers with a mark between, where they are all of a word.
-#[derive(Clone, Copy)]
-struct Two {
-    pub first: usize,
-    pub second: usize,
-    pub good: bool,
-}
-
 // Whether a word is this text.
+#[tactic(auto, unfolding(crate::specs::Read::is_text))]
 fn is_text(s: &[u8], text: &[u8]) -> bool
     ensures { result ≡ is_text s.now text.now }
 {
@@ -75,158 +64,112 @@ fn is_text(s: &[u8], text: &[u8]) -> bool
 }
 
 // The kind of an edit, by its name.
-pub fn kind_of(s: &[u8]) -> Kind
+#[tactic(auto, unfolding(crate::specs::Read::kind_of))]
+pub fn kind_of(s: &[u8]) -> Option<Kind>
     ensures { result ≡ kind_of s.now }
 {
     if is_text(s, b"load") {
-        return Kind::OfLoad;
+        return Some(Kind::OfLoad);
     }
     if is_text(s, b"reach") {
-        return Kind::OfReach;
+        return Some(Kind::OfReach);
     }
     if is_text(s, b"clear") {
-        return Kind::OfClear;
+        return Some(Kind::OfClear);
     }
     if is_text(s, b"blocked") {
-        return Kind::OfBlocked;
+        return Some(Kind::OfBlocked);
     }
     if is_text(s, b"rule") {
-        return Kind::OfRule;
+        return Some(Kind::OfRule);
     }
     if is_text(s, b"slots") {
-        return Kind::OfSlots;
+        return Some(Kind::OfSlots);
     }
     if is_text(s, b"channels") {
-        return Kind::OfChannels;
+        return Some(Kind::OfChannels);
     }
-    Kind::Unknown
+    None
 }
 
-// A plain number up to 65,535.
-fn read_one(s: &[u8]) -> One
+// A plain number up to 65,535 that is all of a word.
+#[tactic(auto, unfolding(crate::specs::Read::one_read))]
+fn read_one(s: &[u8]) -> Result<u16, EditError>
     ensures { result ≡ one_read s.now }
 {
     let a = read_number(s, 0, LARGEST);
     let value = a.value;
     if LARGEST < value {
-        return One {
-            value: 0,
-            good: false,
-        };
+        return Err(EditError::Bad);
     }
-    One {
-        value: value as u16,
-        good: a.next == s.len(),
+    if a.next != s.len() {
+        return Err(EditError::Bad);
     }
+    Ok(value as u16)
 }
 
-// Two plain numbers up to 65,535 with a mark between.
-fn read_two(s: &[u8], mark: u8) -> Two
+// Two plain numbers up to 65,535 with a mark between that are all of a word.
+#[tactic(auto, unfolding(crate::specs::Read::two_read))]
+fn read_two(s: &[u8], mark: u8) -> Result<(usize, usize), EditError>
     ensures { result ≡ two_read s.now mark }
 {
     let a = read_number(s, 0, LARGEST);
     let middle = eat(s, a.next, mark);
     let b = read_number(s, middle, LARGEST);
-    Two {
-        first: a.value,
-        second: b.value,
-        good: b.next == s.len(),
+    if b.next != s.len() {
+        return Err(EditError::Bad);
     }
+    Ok((a.value, b.value))
 }
 
-// An edit, where its word is good.
-fn edit_when(good: bool, edit: Edit) -> EditRead
-    ensures { result ≡ when good edit }
+// The edit of a load that `CELL=LOAD` states.
+#[tactic(auto, unfolding(crate::specs::Read::load_edit))]
+fn load_edit(cell: usize, load: usize) -> Result<Edit, EditError>
+    ensures { result ≡ load_edit cell load }
 {
-    if good {
-        return EditRead::Done(edit);
-    }
-    EditRead::Bad
-}
-
-// `CELL=LOAD`.
-fn read_load(s: &[u8]) -> EditRead
-    ensures { result ≡ load_read s.now }
-{
-    let two = read_two(s, EQUALS);
-    let load = two.second;
     if LARGEST < load {
-        return EditRead::Bad;
+        return Err(EditError::Bad);
     }
-    edit_when(two.good, Edit::SetLoad(two.first, load as u16))
-}
-
-// `FROM-TO` of a reach that is set.
-fn read_reach(s: &[u8]) -> EditRead
-    ensures { result ≡ reach_typed s.now }
-{
-    let two = read_two(s, DASH);
-    edit_when(two.good, Edit::SetReach(two.first, two.second))
-}
-
-// `FROM-TO` of a reach that is cleared.
-fn read_clear(s: &[u8]) -> EditRead
-    ensures { result ≡ clear_read s.now }
-{
-    let two = read_two(s, DASH);
-    edit_when(two.good, Edit::ClearReach(two.first, two.second))
-}
-
-// `none`, or a list.
-fn read_blocked(s: &[u8]) -> EditRead
-    ensures { result ≡ list_read s.now }
-{
-    if is_text(s, b"none") {
-        return EditRead::Done(Edit::Unblock);
-    }
-    EditRead::Listed
-}
-
-// `R`.
-fn read_rule(s: &[u8]) -> EditRead
-    ensures { result ≡ rule_read s.now }
-{
-    let one = read_one(s);
-    edit_when(one.good, Edit::SetRule(one.value))
-}
-
-// `T`.
-fn read_slots(s: &[u8]) -> EditRead
-    ensures { result ≡ slots_read s.now }
-{
-    let one = read_one(s);
-    edit_when(one.good, Edit::SetSlots(one.value))
-}
-
-// `F`.
-fn read_channels(s: &[u8]) -> EditRead
-    ensures { result ≡ channels_read s.now }
-{
-    let one = read_one(s);
-    edit_when(one.good, Edit::SetChannels(one.value))
+    Ok(Edit::SetLoad(cell, load as u16))
 }
 
 // The word after an edit's name.
-fn read_value(kind: Kind, s: &[u8]) -> EditRead
+fn read_value(kind: Kind, s: &[u8]) -> Result<EditRead, EditError>
     ensures { result ≡ value_read kind s.now }
 {
-    match kind {
-        Kind::Unknown => EditRead::NoEdit,
-        Kind::OfLoad => read_load(s),
-        Kind::OfReach => read_reach(s),
-        Kind::OfClear => read_clear(s),
-        Kind::OfBlocked => read_blocked(s),
-        Kind::OfRule => read_rule(s),
-        Kind::OfSlots => read_slots(s),
-        Kind::OfChannels => read_channels(s),
-    }
+    let edit = match kind {
+        Kind::OfLoad => {
+            let (cell, load) = read_two(s, EQUALS)?;
+            load_edit(cell, load)?
+        }
+        Kind::OfReach => {
+            let (from, to) = read_two(s, DASH)?;
+            Edit::SetReach(from, to)
+        }
+        Kind::OfClear => {
+            let (from, to) = read_two(s, DASH)?;
+            Edit::ClearReach(from, to)
+        }
+        Kind::OfBlocked => {
+            if !is_text(s, b"none") {
+                return Ok(EditRead::Listed);
+            }
+            Edit::Unblock
+        }
+        Kind::OfRule => Edit::SetRule(read_one(s)?),
+        Kind::OfSlots => Edit::SetSlots(read_one(s)?),
+        Kind::OfChannels => Edit::SetChannels(read_one(s)?),
+    };
+    Ok(EditRead::Done(edit))
 }
 
 // Reads an edit: its name, and the word after it.
-pub fn read_edit(name: &[u8], value: &[u8]) -> EditRead
+#[tactic(auto, unfolding(crate::specs::Read::read_edit))]
+pub fn read_edit(name: &[u8], value: &[u8]) -> Result<EditRead, EditError>
     ensures { result ≡ read_edit name.now value.now }
 {
-    read_value(kind_of(name), value)
+    let kind = kind_of(name).ok_or(EditError::NoEdit)?;
+    read_value(kind, value)
 }
 
 // The site with an edit made, or why it is refused.

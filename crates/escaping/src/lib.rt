@@ -9,6 +9,7 @@ ghost use Rattle.escaping.specs.Letters.{letter_size, letter_at, stretch};
 ghost use Rattle.escaping.specs.Escaped.{reference, escaped};
 ghost use Rattle.escaping.specs.Pieces.{whole_part};
 
+use phrases::put_byte;
 use text::put_text;
 
 // At least `low` and below `top`.
@@ -182,25 +183,6 @@ fn letter_byte(size: usize, byte: u8) -> u8
     byte
 }
 
-// One less, and 0 for 0.
-fn less_one(size: usize) -> usize
-    ensures { result ≡ size - 1 }
-{
-    if size == 0 {
-        return 0;
-    }
-    size - 1
-}
-
-// Puts one byte.
-fn put_one(out: &mut [u8], at: usize, byte: u8) -> usize
-    requires { at + 1 ≤ length out.old }
-    ensures { Put out.old at (byte ∷ []) 1 out.new result }
-{
-    out[at] = byte;
-    at + 1
-}
-
 // Puts a byte of a letter: a reference for < > & " and ', and any other as it is.
 fn put_reference(out: &mut [u8], at: usize, byte: u8) -> usize
     requires { at + 6 ≤ length out.old }
@@ -221,7 +203,7 @@ fn put_reference(out: &mut [u8], at: usize, byte: u8) -> usize
     if byte == 39 {
         return put_text(out, at, b"&#39;");
     }
-    put_one(out, at, byte)
+    put_byte(out, at, byte)
 }
 
 // Puts a text at `at` as text of a page, and answers where the next byte goes.
@@ -231,12 +213,10 @@ pub fn put_escaped(out: &mut [u8], at: usize, text: &[u8]) -> usize
 {
     let mut next = at;
     let mut left = 0;
-    let mut i = 0;
-    while i < text.len() {
+    for (i, &byte) in text.iter().enumerate() {
         let size = letter_here(left, &text[i..]);
-        next = put_reference(out, next, letter_byte(size, text[i]));
-        left = less_one(size);
-        i += 1;
+        next = put_reference(out, next, letter_byte(size, byte));
+        left = size.saturating_sub(1);
     }
     next
 }

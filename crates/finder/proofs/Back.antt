@@ -8,7 +8,7 @@ use Rattle.theory.specs.Greedy.{greedy, reserved}
 use Rattle.site.specs.Record.{positions, fault_of}
 use Rattle.site.specs.Reach.{net_of, is_open, clash_of}
 use Rattle.site.specs.declared.Site.{Site}
-use Rattle.site.specs.declared.Fault.TheVariants.{Fine}
+use Rattle.std.specs.Prelude.{Ok}
 use Rattle.words.specs.Words.{words_of}
 use Rattle.wordforms.specs.Words.{sends_at, bytes_of}
 use Rattle.wordtable.proofs.Same.{words-send, bytes_eq}
@@ -25,7 +25,7 @@ rows_back cells n t x new names =
     bytes_eq cells n (λ i k. sends_at (words_of cells n (reserved n t) ++ x) (index_at new i) k) (λ i k. reserved n t (index_at new i) k)
     (λ i k l h. words-send cells n (reserved n t) x (index_at new i) k (names i l).1 h)
 
-module _ (s : Site) (fine : fault_of s ≡ Fine) (new old : List ℕ) (found : numbering_of s ≡ numbered new old) where
+module _ (s : Site) (fine : fault_of s ≡ Ok tt) (new old : List ℕ) (found : numbering_of s ≡ numbered new old) where
   pub moved-greedy : greedy (net_of (moved_site s old)) ≡ greedy (renumbered (index_at old) (net_of s))
   unfolding moved_site
   moved-greedy =

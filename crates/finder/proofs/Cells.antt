@@ -26,7 +26,7 @@ use Rattle.heaviest.proofs.Mutual.{mutual-means, mutual-few}
 use Rattle.site.specs.Record.{fault_of}
 use Rattle.site.specs.Reach.{net_of, clash_of}
 use Rattle.site.specs.declared.Site.{Site}
-use Rattle.site.specs.declared.Fault.TheVariants.{Fine}
+use Rattle.std.specs.Prelude.{Ok}
 use Rattle.site.proofs.Accepted.{fine-sound}
 use Rattle.site.proofs.Faults.{fine-sized}
 use Rattle.site.proofs.Reach.{clash-sym}
@@ -65,7 +65,7 @@ module _ (rows : List ℕ) (x : ℕ) where
 
 -- ---- a site
 
-module _ (s : Site) (fine : fault_of s ≡ Fine) (x : ℕ) where
+module _ (s : Site) (fine : fault_of s ≡ Ok tt) (x : ℕ) where
   -- what stands at a place of the loads
   abbrev load : ℕ → ℕ
   load j = pick (bit_at x j) (get_or s.loads j 0) 0
@@ -112,3 +112,5 @@ module _ (s : Site) (fine : fault_of s ≡ Fine) (x : ℕ) where
         let l : x < 2 ^ s.cells = none_left x s.cells z in
         let m : mutual_in (clash_of s) s.cells x ≡ true = sym (close-is l) ∙ h in
         rw (lt-ltb x (2 ^ s.cells) l, m) refl
+
+pub ruleset by_rows = (beyond, not-close, is-close)

@@ -3,6 +3,7 @@ use mathlib.Core.Path.{◌≡◌, refl}
 use mathlib.Core.List.{List, [], ◌∷◌, ◌++◌}
 use Prim.Native.Nat.{ℕ}
 use lib.ListN.{replicate}
+use Rattle.std.specs.Prelude.{Result, Ok, Err}
 use Rattle.laws.specs.Bits.{word_of}
 use Rattle.laws.specs.Part.{part, list_of}
 use Rattle.laws.specs.Search.{first_of}
@@ -13,16 +14,19 @@ use Rattle.tries.specs.Search.{taken_by, after_tries, or_next, look_at, onward, 
 use Rattle.site.specs.Record.{site_of, size, up_to, size_ok, rule_ok, row_bad, extra_load, bad_row, extra_blocked, fault_of}
 use Rattle.site.specs.Reach.{reaches, clash_in}
 use Rattle.site.specs.declared.Site.{Site}
+use Rattle.site.specs.declared.Fault.{Fault}
 use Rattle.renumbering.specs.Numbering.{last, missing, odd, fit, give_numbers, numbering}
 use Rattle.wordforms.specs.Words.{bytes_of}
 use Rattle.heaviest.specs.Sets.{mutual_in, heaviest_in}
 use Rattle.search.specs.Search.{lay_out}
 use Rattle.finding.specs.Found.{over_full, found_else, found_of}
 use Rattle.finder.specs.Find.{find_answer, find_table, over_full_answer}
-use Rattle.finder.specs.declared.FindAnswer.{FindAnswer}
-use Rattle.finder.specs.declared.FindAnswer.TheVariants.{Greedy, Renumbered, Searched, Full, FullSearched, NotKnown}
-use Rattle.finder.specs.declared.OverFullAnswer.{OverFullAnswer}
-use Rattle.finder.specs.declared.OverFullAnswer.TheVariants as over
+use Rattle.finder.specs.declared.Way.{Way}
+use Rattle.finder.specs.declared.Way.TheVariants.{Greedy, Renumbered, Searched}
+use Rattle.finder.specs.declared.FindError.{FindError}
+use Rattle.finder.specs.declared.FindError.TheVariants.{Full, FullSearched, NotKnown}
+use Rattle.finder.specs.declared.OverFull.{OverFull}
+use Rattle.finder.specs.declared.OverFull.TheVariants.{Over, Within}
 
 -- so many cells with load 1 and so many slots on one channel, by the reach rows
 site : ℕ → ℕ → List ℕ → List ℕ → Site
@@ -51,12 +55,12 @@ five = site 5 2 (replicate 27 0) (18 ∷ 4 ∷ 8 ∷ 16 ∷ replicate 28 0)
 lent : Site → List ℕ
 lent s = replicate (size s) 7 ++ 9 ∷ []
 
-abbrev found : List FindAnswer
+abbrev found : List (Result Way FindError)
 found =
     find_answer two 0 (lent two) ∷ find_answer p4 0 (lent p4) ∷ find_answer full 0 (lent full) ∷ find_answer six 13 (lent six) ∷ find_answer six 12 (lent six)
     ∷ find_answer five 18 (lent five) ∷ find_answer five 17 (lent five) ∷ []
 
-find-answers : found ≡ Greedy ∷ Renumbered ∷ Full 5 ∷ Searched 13 ∷ NotKnown 12 ∷ FullSearched 18 ∷ NotKnown 17 ∷ []
+find-answers : found ≡ Ok Greedy ∷ Ok Renumbered ∷ Err (Full 5) ∷ Ok (Searched 13) ∷ Err (NotKnown 12) ∷ Err (FullSearched 18) ∷ Err (NotKnown 17) ∷ []
 unfolding two p4 full six five site lent first_of sum any part list_of forbid marked fill run best_of taken_by after_tries or_next look_at onward seek
     opens_from
     fragments_from word_of up_to size_ok rule_ok row_bad extra_load bad_row extra_blocked fault_of reaches clash_in last missing odd fit give_numbers numbering
@@ -78,11 +82,11 @@ unfolding p4 full six five site lent first_of sum any part list_of forbid marked
 find-tables = refl
 
 -- cells 1 and 3, and 2 and 3, clash; 1 and 2 do not; cell 3 alone has room; cell 4 is not the site's, and adds nothing to the load of 1 and 3
-abbrev sets : List OverFullAnswer
+abbrev sets : List (Result OverFull Fault)
 sets = over_full_answer full 5 ∷ over_full_answer full 6 ∷ over_full_answer full 7 ∷ over_full_answer full 4 ∷ over_full_answer full 13
     ∷ over_full_answer full 0 ∷ []
 
-over-answers : sets ≡ over.Over 2 ∷ over.Over 2 ∷ over.Within 3 ∷ over.Within 1 ∷ over.Within 2 ∷ over.Within 0 ∷ []
+over-answers : sets ≡ Ok (Over 2) ∷ Ok (Over 2) ∷ Ok (Within 3) ∷ Ok (Within 1) ∷ Ok (Within 2) ∷ Ok (Within 0) ∷ []
 unfolding full site first_of sum any word_of up_to size_ok rule_ok row_bad extra_load bad_row extra_blocked fault_of reaches clash_in mutual_in over_full
     over_full_answer
 over-answers = refl

@@ -20,6 +20,7 @@ use lib.Dec.{ltb}
 use lib.ListN.{length, drop, replicate, length-replicate}
 use lib.Seq.{drop-append_seam}
 use borrow.Author.Tests.{ltb-true, lt-ltb, le-ltb}
+use Rattle.std.specs.Prelude.{Result, Ok, Err, is_ok}
 use Rattle.laws.specs.Bits.{bit_at}
 use Rattle.laws.specs.Choice.{pick}
 use Rattle.laws.proofs.Choice.{cases}
@@ -31,24 +32,22 @@ use Rattle.theory.proofs.Row.{kept}
 use Rattle.renumbering.specs.Numbering.{index_at}
 use Rattle.tries.specs.Search.{Spot, reserved_by, plan_found, none_exists, tries_of, search_of, ended, limit_met}
 use Rattle.tries.proofs.Sound.{plan-inside}
-use Rattle.site.specs.Record.{positions, size, fault_of, is_fine}
+use Rattle.site.specs.Record.{positions, size, fault_of, is_fine, answer_with}
 use Rattle.site.specs.Reach.{net_of}
 use Rattle.site.specs.declared.Site.{Site}
 use Rattle.site.specs.declared.Fault.{Fault}
-use Rattle.site.specs.declared.Fault.TheVariants.{Fine}
 use Rattle.site.proofs.Faults.{fine-is, fine-sized}
 use Rattle.site.proofs.PassedOn.{passed_on}
 use Rattle.site.proofs.Reach.{clash-sym}
 use Rattle.wordforms.specs.Words.{bytes_of}
 use Rattle.wordforms.proofs.Rows.{bytes-long}
 use Rattle.wordtable.proofs.Same.{bytes-send}
+use Rattle.judges.proofs.Meaning.{told, refused}
 use Rattle.planner.specs.Plan.{plan_answer, plan_table}
 use Rattle.planner.specs.Plan as plan
-use Rattle.planner.specs.declared.PlanAnswer.TheVariants as Plan
 use Rattle.planner.proofs.Answer.{run-table}
 use Rattle.planner.proofs.Meaning.{done-means}
 use Rattle.heaviest.specs.Sets.{heaviest_set, heaviest_of}
-use Rattle.heaviest.specs.declared.HeaviestAnswer.TheVariants as Heaviest
 use Rattle.heaviest.proofs.Meaning.{done-fine}
 use Rattle.search.specs.Search.{too_large, lay_out}
 use Rattle.search.proofs.Table.{lay-length, lay-mark}
@@ -58,97 +57,66 @@ use Rattle.finding.proofs.Over.{over-means, over_none}
 use Rattle.finding.proofs.Right.{found-means, found-greedy, found-larger}
 use Rattle.finding.proofs.Never.{never-full}
 use Rattle.finder.specs.Find.{finding_answer, finding_table, finding_leaves, find_answer, find_table, over_said, over_full_answer}
-use Rattle.finder.specs.declared.FindAnswer.{FindAnswer}
-use Rattle.finder.specs.declared.FindAnswer.TheVariants.{Greedy, Renumbered, Searched, Full, FullInClass, FullSearched, NotKnown, TableShort, Refused}
-use Rattle.finder.specs.declared.OverFullAnswer.{OverFullAnswer}
-use Rattle.finder.specs.declared.OverFullAnswer.TheVariants as over
-
--- an answer that is a plan
-abbrev pub is_plan : FindAnswer → Bool
-is_plan Greedy = true
-is_plan Renumbered = true
-is_plan (Searched n) = true
-is_plan (Full x) = false
-is_plan FullInClass = false
-is_plan (FullSearched n) = false
-is_plan (NotKnown n) = false
-is_plan TableShort = false
-is_plan (Refused f) = false
+use Rattle.finder.specs.declared.Way.{Way}
+use Rattle.finder.specs.declared.Way.TheVariants.{Greedy}
+use Rattle.finder.specs.declared.FindError.{FindError}
+use Rattle.finder.specs.declared.FindError.TheVariants.{Full, FullInClass, FullSearched, NotKnown, TableShort, Record}
+use Rattle.finder.specs.declared.OverFull.TheVariants.{Over, Within}
 
 -- an answer that there is none
-abbrev pub is_none : FindAnswer → Bool
-is_none Greedy = false
-is_none Renumbered = false
-is_none (Searched n) = false
-is_none (Full x) = true
-is_none FullInClass = true
-is_none (FullSearched n) = true
-is_none (NotKnown n) = false
-is_none TableShort = false
-is_none (Refused f) = false
+abbrev pub is_none : Result Way FindError → Bool
+is_none (Ok w) = false
+is_none (Err (Full x)) = true
+is_none (Err FullInClass) = true
+is_none (Err (FullSearched n)) = true
+is_none (Err (NotKnown n)) = false
+is_none (Err TableShort) = false
+is_none (Err (Record f)) = false
 
 -- an answer that is no refusal
-abbrev pub is_verdict : FindAnswer → Bool
-is_verdict Greedy = true
-is_verdict Renumbered = true
-is_verdict (Searched n) = true
-is_verdict (Full x) = true
-is_verdict FullInClass = true
-is_verdict (FullSearched n) = true
-is_verdict (NotKnown n) = true
-is_verdict TableShort = false
-is_verdict (Refused f) = false
+abbrev pub is_verdict : Result Way FindError → Bool
+is_verdict (Ok w) = true
+is_verdict (Err (Full x)) = true
+is_verdict (Err FullInClass) = true
+is_verdict (Err (FullSearched n)) = true
+is_verdict (Err (NotKnown n)) = true
+is_verdict (Err TableShort) = false
+is_verdict (Err (Record f)) = false
 
-plan-verdict : (a : FindAnswer) → is_plan a ≡ true → is_verdict a ≡ true
-plan-verdict Greedy h = refl
-plan-verdict Renumbered h = refl
-plan-verdict (Searched n) h = refl
-plan-verdict (Full x) h = absurd (false≢true h)
-plan-verdict FullInClass h = absurd (false≢true h)
-plan-verdict (FullSearched n) h = absurd (false≢true h)
-plan-verdict (NotKnown n) h = absurd (false≢true h)
-plan-verdict TableShort h = absurd (false≢true h)
-plan-verdict (Refused f) h = absurd (false≢true h)
+plan-verdict : (a : Result Way FindError) → is_ok a ≡ true → is_verdict a ≡ true
+plan-verdict (Ok w) h = refl
+plan-verdict (Err e) h = cc
 
-pub none-verdict : (a : FindAnswer) → is_none a ≡ true → is_verdict a ≡ true
-none-verdict Greedy h = absurd (false≢true h)
-none-verdict Renumbered h = absurd (false≢true h)
-none-verdict (Searched n) h = absurd (false≢true h)
-none-verdict (Full x) h = refl
-none-verdict FullInClass h = refl
-none-verdict (FullSearched n) h = refl
-none-verdict (NotKnown n) h = absurd (false≢true h)
-none-verdict TableShort h = absurd (false≢true h)
-none-verdict (Refused f) h = absurd (false≢true h)
+pub none-verdict : (a : Result Way FindError) → is_none a ≡ true → is_verdict a ≡ true
+none-verdict (Ok w) h = cc
+none-verdict (Err (Full x)) h = refl
+none-verdict (Err FullInClass) h = refl
+none-verdict (Err (FullSearched n)) h = refl
+none-verdict (Err (NotKnown n)) h = cc
+none-verdict (Err TableShort) h = cc
+none-verdict (Err (Record f)) h = cc
 
-pub none-no-plan : (a : FindAnswer) → is_none a ≡ true → is_plan a ≡ false
-none-no-plan Greedy h = absurd (false≢true h)
-none-no-plan Renumbered h = absurd (false≢true h)
-none-no-plan (Searched n) h = absurd (false≢true h)
-none-no-plan (Full x) h = refl
-none-no-plan FullInClass h = refl
-none-no-plan (FullSearched n) h = refl
-none-no-plan (NotKnown n) h = refl
-none-no-plan TableShort h = refl
-none-no-plan (Refused f) h = refl
+pub none-no-plan : (a : Result Way FindError) → is_none a ≡ true → is_ok a ≡ false
+none-no-plan (Ok w) h = cc
+none-no-plan (Err e) h = refl
 
-went : (fine short : Bool) (f : Fault) (x : FindAnswer) → is_verdict (pick fine (pick short TableShort x) (Refused f)) ≡ true
-    → (fine ≡ true) × (short ≡ false)
-went true true f x h = absurd (false≢true h)
-went true false f x h = (refl, refl)
-went false short f x h = absurd (false≢true h)
+went : (r : Result Unit Fault) (short : Bool) (x : Result Way FindError) → is_verdict (answer_with Record r (pick short (Err TableShort) x)) ≡ true
+    → (r ≡ Ok tt) × (short ≡ false)
+went (Ok u) true x h = absurd (false≢true h)
+went (Ok u) false x h = (refl, refl)
+went (Err f) short x h = absurd (false≢true h)
 
 module _ (s : Site) (limit : ℕ) (t : List ℕ) where
   -- the record is fine, and the table long enough
   record Ran : Type 0 where
-    fine : fault_of s ≡ Fine
+    fine : fault_of s ≡ Ok tt
     long : ltb (length t) (size s) ≡ false
 
   ran : is_verdict (find_answer s limit t) ≡ true → Ran
   unfolding find_answer
   ran h =
-      let w = went (is_fine (fault_of s)) (ltb (length t) (size s)) (fault_of s) (finding_answer limit (found_of (net_of s) limit)) h in
-      record { fine = fine-is (fault_of s) w.0; long = w.1 }
+      let w = went (fault_of s) (ltb (length t) (size s)) (finding_answer limit (found_of (net_of s) limit)) h in
+      record { fine = w.0; long = w.1 }
 
   ran_says : Ran → find_answer s limit t ≡ finding_answer limit (found_of (net_of s) limit)
   unfolding find_answer
@@ -166,7 +134,7 @@ module _ (s : Site) (limit : ℕ) (t : List ℕ) where
   laid-long : (qs : List Spot) → length (lay_out (positions s) qs (replicate (size s) 0)) ≡ size s
   laid-long qs = lay-length (positions s) qs (replicate (size s) 0) ∙ length-replicate {A = ℕ} (size s) 0
 
-  plan-of : (x : Found) → FoundMeans (net_of s) limit x → is_plan (finding_answer limit x) ≡ true → Valid (net_of s)
+  plan-of : (x : Found) → FoundMeans (net_of s) limit x → is_ok (finding_answer limit x) ≡ true → Valid (net_of s)
       (reserved (positions s) (finding_leaves s x t))
   plan-of (greedily p) m h =
       valid-agree (net_of s) (reserved (positions s) p) (reserved (positions s) (p ++ drop (size s) t))
@@ -187,10 +155,10 @@ module _ (s : Site) (limit : ℕ) (t : List ℕ) where
   plan-of (by_search limit_met) m h = absurd (false≢true h)
   plan-of unsearched m h = absurd (false≢true h)
 
-  pub plan_right : is_plan (find_answer s limit t) ≡ true → Valid (net_of s) (reserved (positions s) (find_table s limit t))
+  pub plan_right : is_ok (find_answer s limit t) ≡ true → Valid (net_of s) (reserved (positions s) (find_table s limit t))
   plan_right h =
       let r = ran (plan-verdict (find_answer s limit t) h) in
-      rw (ran-leaves r) (plan-of (found_of (net_of s) limit) (means r) (ap is_plan (sym (ran_says r)) ∙ h))
+      rw (ran-leaves r) (plan-of (found_of (net_of s) limit) (means r) (ap is_ok (sym (ran_says r)) ∙ h))
 
   -- ---- none
 
@@ -212,41 +180,41 @@ module _ (s : Site) (limit : ℕ) (t : List ℕ) where
   -- ---- the set that is named
 
   -- an answer's place, and the cells that it names
-  full-of : (cells : ℕ) (x : Found) → FoundMeans (net_of s) limit x → finding_answer limit x ≡ Full cells
+  full-of : (cells : ℕ) (x : Found) → FoundMeans (net_of s) limit x → finding_answer limit x ≡ Err (Full cells)
       → (cells ≡ heaviest_set (net_of s)) × (over_full (net_of s) cells ≡ true)
-  full-of cells (greedily p) m h = absurd (let z : ◌≡◌ {A = ℕ} 0 1 = cc in omega arith)
+  full-of cells (greedily p) m h = cc
   full-of cells (over_by x) m h = let e : x ≡ cells = cc in (sym e ∙ m.0, subst (λ y. over_full (net_of s) y ≡ true) e m.1)
-  full-of cells (renumbered_plan new p) m h = absurd (let z : ◌≡◌ {A = ℕ} 0 1 = cc in omega arith)
-  full-of cells full_renumbered m h = absurd (let z : ◌≡◌ {A = ℕ} 0 1 = cc in omega arith)
-  full-of cells (by_search (ended (plan_found qs n))) m h = absurd (let z : ◌≡◌ {A = ℕ} 0 1 = cc in omega arith)
-  full-of cells (by_search (ended (none_exists n))) m h = absurd (let z : ◌≡◌ {A = ℕ} 0 1 = cc in omega arith)
-  full-of cells (by_search limit_met) m h = absurd (let z : ◌≡◌ {A = ℕ} 0 1 = cc in omega arith)
-  full-of cells unsearched m h = absurd (let z : ◌≡◌ {A = ℕ} 0 1 = cc in omega arith)
+  full-of cells (renumbered_plan new p) m h = cc
+  full-of cells full_renumbered m h = cc
+  full-of cells (by_search (ended (plan_found qs n))) m h = cc
+  full-of cells (by_search (ended (none_exists n))) m h = cc
+  full-of cells (by_search limit_met) m h = cc
+  full-of cells unsearched m h = cc
 
   -- it is the heaviest set, and `over_full` says that it is over
-  pub full-right : (cells : ℕ) → find_answer s limit t ≡ Full cells
-      → (heaviest_of s ≡ Heaviest.Done (weight (net_of s) (bit_at cells)) cells) × (over_full_answer s cells ≡ over.Over (weight (net_of s) (bit_at cells)))
+  pub full-right : (cells : ℕ) → find_answer s limit t ≡ Err (Full cells)
+      → (heaviest_of s ≡ Ok (weight (net_of s) (bit_at cells), cells)) × (over_full_answer s cells ≡ Ok (Over (weight (net_of s) (bit_at cells))))
   unfolding over_full_answer
   full-right cells e =
       let r = ran (ap is_verdict e) in
       let f = full-of cells (found_of (net_of s) limit) (means r) (sym (ran_says r) ∙ e) in (
-        done-fine s r.fine ∙ ap (λ (x : ℕ). Heaviest.Done (weight (net_of s) (bit_at x)) x) (sym f.0),
+        done-fine s r.fine ∙ ap (λ (x : ℕ). Ok (weight (net_of s) (bit_at x), x)) (sym f.0),
         rw (r.fine, f.1),
       )
 
   -- ---- the class never says it: a site that can be numbered has a plan, or a set that is over
 
-  class-of : (x : Found) → found_of (net_of s) limit ≡ x → Ran → finding_answer limit x ≡ FullInClass → ⊥
-  class-of (greedily p) f r h = let z : ◌≡◌ {A = ℕ} 0 1 = cc in omega arith
-  class-of (over_by x) f r h = let z : ◌≡◌ {A = ℕ} 0 1 = cc in omega arith
-  class-of (renumbered_plan new p) f r h = let z : ◌≡◌ {A = ℕ} 0 1 = cc in omega arith
+  class-of : (x : Found) → found_of (net_of s) limit ≡ x → Ran → finding_answer limit x ≡ Err FullInClass → ⊥
+  class-of (greedily p) f r h = cc
+  class-of (over_by x) f r h = cc
+  class-of (renumbered_plan new p) f r h = cc
   class-of full_renumbered f r h = never-full (net_of s) (clash-sym s.rule s.reach) (fine-sized s r.fine).cells_most limit f
-  class-of (by_search (ended (plan_found qs n))) f r h = let z : ◌≡◌ {A = ℕ} 0 1 = cc in omega arith
-  class-of (by_search (ended (none_exists n))) f r h = let z : ◌≡◌ {A = ℕ} 0 1 = cc in omega arith
-  class-of (by_search limit_met) f r h = let z : ◌≡◌ {A = ℕ} 0 1 = cc in omega arith
-  class-of unsearched f r h = let z : ◌≡◌ {A = ℕ} 0 1 = cc in omega arith
+  class-of (by_search (ended (plan_found qs n))) f r h = cc
+  class-of (by_search (ended (none_exists n))) f r h = cc
+  class-of (by_search limit_met) f r h = cc
+  class-of unsearched f r h = cc
 
-  pub never-in-class : find_answer s limit t ≡ FullInClass → ⊥
+  pub never-in-class : find_answer s limit t ≡ Err FullInClass → ⊥
   never-in-class e = let r = ran (ap is_verdict e) in class-of (found_of (net_of s) limit) refl r (sym (ran_says r) ∙ e)
 
   -- ---- not known
@@ -255,24 +223,24 @@ module _ (s : Site) (limit : ℕ) (t : List ℕ) where
   NotFound n = NoNumbering (net_of s) × NoneOver (net_of s) ×
       (((n ≡ limit) × (limit < tries_of (search_of (net_of s)))) ⊎ ((n ≡ 0) × (too_large (net_of s) ≡ true)))
 
-  unknown-of : (n : ℕ) (x : Found) → FoundMeans (net_of s) limit x → finding_answer limit x ≡ NotKnown n → NotFound n
-  unknown-of n (greedily p) m h = absurd (let z : ◌≡◌ {A = ℕ} 0 1 = cc in omega arith)
-  unknown-of n (over_by x) m h = absurd (let z : ◌≡◌ {A = ℕ} 0 1 = cc in omega arith)
-  unknown-of n (renumbered_plan new p) m h = absurd (let z : ◌≡◌ {A = ℕ} 0 1 = cc in omega arith)
-  unknown-of n full_renumbered m h = absurd (let z : ◌≡◌ {A = ℕ} 0 1 = cc in omega arith)
-  unknown-of n (by_search (ended (plan_found qs k))) m h = absurd (let z : ◌≡◌ {A = ℕ} 0 1 = cc in omega arith)
-  unknown-of n (by_search (ended (none_exists k))) m h = absurd (let z : ◌≡◌ {A = ℕ} 0 1 = cc in omega arith)
+  unknown-of : (n : ℕ) (x : Found) → FoundMeans (net_of s) limit x → finding_answer limit x ≡ Err (NotKnown n) → NotFound n
+  unknown-of n (greedily p) m h = cc
+  unknown-of n (over_by x) m h = cc
+  unknown-of n (renumbered_plan new p) m h = cc
+  unknown-of n full_renumbered m h = cc
+  unknown-of n (by_search (ended (plan_found qs k))) m h = cc
+  unknown-of n (by_search (ended (none_exists k))) m h = cc
   unknown-of n (by_search limit_met) m h = (m.0, m.1, inl (let e : n ≡ limit = cc in e, m.2))
   unknown-of n unsearched m h = (m.0, m.1, inr (let e : n ≡ 0 = cc in e, m.2))
 
-  pub not_known-law : (n : ℕ) → find_answer s limit t ≡ NotKnown n → NotFound n
+  pub not_known-law : (n : ℕ) → find_answer s limit t ≡ Err (NotKnown n) → NotFound n
   not_known-law n e =
       let r = ran (ap is_verdict e) in
       unknown-of n (found_of (net_of s) limit) (means r) (sym (ran_says r) ∙ e)
 
   -- ---- a larger limit
 
-  known_of : (x : Found) → (is_plan (finding_answer limit x) ≡ true) ⊎ (is_none (finding_answer limit x) ≡ true) → known x ≡ true
+  known_of : (x : Found) → (is_ok (finding_answer limit x) ≡ true) ⊎ (is_none (finding_answer limit x) ≡ true) → known x ≡ true
   known_of (greedily p) h = refl
   known_of (over_by x) h = refl
   known_of (renumbered_plan new p) h = refl
@@ -293,7 +261,7 @@ module _ (s : Site) (limit : ℕ) (t : List ℕ) where
 
   -- ---- the table
 
-  idle-of : (x : Found) → is_plan (finding_answer limit x) ≡ false → finding_table s.cells (positions s) x ≡ replicate (size s) 0
+  idle-of : (x : Found) → is_ok (finding_answer limit x) ≡ false → finding_table s.cells (positions s) x ≡ replicate (size s) 0
   idle-of (greedily p) h = absurd (true≢false h)
   idle-of (over_by x) h = refl
   idle-of (renumbered_plan new p) h = absurd (true≢false h)
@@ -304,14 +272,14 @@ module _ (s : Site) (limit : ℕ) (t : List ℕ) where
   idle-of unsearched h = refl
 
   -- on every verdict that is no plan the site's part of the table is idle
-  pub idle-part : is_verdict (find_answer s limit t) ≡ true → is_plan (find_answer s limit t) ≡ false
+  pub idle-part : is_verdict (find_answer s limit t) ≡ true → is_ok (find_answer s limit t) ≡ false
       → find_table s limit t ≡ replicate (size s) 0 ++ drop (size s) t
   idle-part v h =
       let r = ran v in
-      ran-leaves r ∙ ap (λ (x : List ℕ). x ++ drop (size s) t) (idle-of (found_of (net_of s) limit) (ap is_plan (sym (ran_says r)) ∙ h))
+      ran-leaves r ∙ ap (λ (x : List ℕ). x ++ drop (size s) t) (idle-of (found_of (net_of s) limit) (ap is_ok (sym (ran_says r)) ∙ h))
 
   -- where the planner plans, its own table
-  pub greedy-kept : plan_answer s t ≡ Plan.Done → (find_answer s limit t ≡ Greedy) × (find_table s limit t ≡ plan_table s t)
+  pub greedy-kept : plan_answer s t ≡ Ok tt → (find_answer s limit t ≡ Ok Greedy) × (find_table s limit t ≡ plan_table s t)
   greedy-kept e =
       let d = (done-means s t).0 e in
       let f : found_of (net_of s) limit ≡ greedily d.2.0 = found-greedy (net_of s) limit d.2.0 d.2.1 in
@@ -324,14 +292,14 @@ module _ (s : Site) (limit : ℕ) (t : List ℕ) where
       le-short h = le-ltb (length t) (size s) h
 
 module _ (s : Site) (limit more : ℕ) (t : List ℕ) where
-  pub larger : limit ≤ more → (is_plan (find_answer s limit t) ≡ true) ⊎ (is_none (find_answer s limit t) ≡ true)
+  pub larger : limit ≤ more → (is_ok (find_answer s limit t) ≡ true) ⊎ (is_none (find_answer s limit t) ≡ true)
       → (find_answer s more t ≡ find_answer s limit t) × (find_table s more t ≡ find_table s limit t)
   larger l h =
       let r = ran s limit t (⊎_elim (plan-verdict (find_answer s limit t)) (none-verdict (find_answer s limit t)) h) in
       let g : Ran s more t = record { fine = r.fine; long = r.long } in
       let says = ran_says s limit t r in
       let k : known (found_of (net_of s) limit) ≡ true
-      = known_of s limit t (found_of (net_of s) limit) (⊎_elim (λ e. inl (ap is_plan (sym says) ∙ e)) (λ e. inr (ap is_none (sym says) ∙ e)) h) in
+      = known_of s limit t (found_of (net_of s) limit) (⊎_elim (λ e. inl (ap is_ok (sym says) ∙ e)) (λ e. inr (ap is_none (sym says) ∙ e)) h) in
       let same = found-larger (net_of s) limit more l k in (
         ran_says s more t g ∙ ap (finding_answer more) same ∙ same_answer s limit t more (found_of (net_of s) limit) k ∙ sym says,
         ran-leaves s more t g ∙ ap (λ x. finding_leaves s x t) same ∙ sym (ran-leaves s limit t r),
@@ -339,16 +307,14 @@ module _ (s : Site) (limit more : ℕ) (t : List ℕ) where
 
 -- ---- refusals: the record's own fault, then 4; nothing is written
 
-abbrev place : FindAnswer → ℕ
-place (Refused f) = 0
-place TableShort = 1
-place Greedy = 2
-place Renumbered = 2
-place (Searched n) = 2
-place (Full x) = 2
-place FullInClass = 2
-place (FullSearched n) = 2
-place (NotKnown n) = 2
+abbrev place : Result Way FindError → ℕ
+place (Err (Record f)) = 0
+place (Err TableShort) = 1
+place (Ok w) = 2
+place (Err (Full x)) = 2
+place (Err FullInClass) = 2
+place (Err (FullSearched n)) = 2
+place (Err (NotKnown n)) = 2
 
 place_found : (limit : ℕ) (x : Found) → place (finding_answer limit x) ≡ 2
 place_found limit (greedily p) = refl
@@ -360,22 +326,22 @@ place_found limit (by_search (ended (none_exists n))) = refl
 place_found limit (by_search limit_met) = refl
 place_found limit unsearched = refl
 
-no-refusal : (limit : ℕ) (short : Bool) (x : Found) (f : Fault) → pick short TableShort (finding_answer limit x) ≡ Refused f → ⊥
+no-refusal : (limit : ℕ) (short : Bool) (x : Found) (f : Fault) → pick short (Err TableShort) (finding_answer limit x) ≡ Err (Record f) → ⊥
 no-refusal limit true x f e = let z : ◌≡◌ {A = ℕ} 1 0 = ap place e in omega arith
 no-refusal limit false x f e = let z : place (finding_answer limit x) ≡ 0 = ap place e in omega (arith, place_found limit x)
 
-was-short : (limit : ℕ) (fine short : Bool) (x : Found) (f : Fault) → pick fine (pick short TableShort (finding_answer limit x)) (Refused f) ≡ TableShort
-    → (fine ≡ true) × (short ≡ true)
-was-short limit true true x f e = (refl, refl)
-was-short limit true false x f e = absurd (let z : place (finding_answer limit x) ≡ 1 = ap place e in omega (arith, place_found limit x))
-was-short limit false short x f e = absurd (let z : ◌≡◌ {A = ℕ} 0 1 = ap place e in omega arith)
+was-short : (limit : ℕ) (r : Result Unit Fault) (short : Bool) (x : Found)
+    → answer_with Record r (pick short (Err TableShort) (finding_answer limit x)) ≡ Err TableShort → (is_fine r ≡ true) × (short ≡ true)
+was-short limit (Ok u) true x e = (refl, refl)
+was-short limit (Ok u) false x e = absurd (let z : place (finding_answer limit x) ≡ 1 = ap place e in omega (arith, place_found limit x))
+was-short limit (Err f) short x e = absurd (let z : ◌≡◌ {A = ℕ} 0 1 = ap place e in omega arith)
 
-not-wrote : (limit : ℕ) (fine short : Bool) (x : Found) (f : Fault) (t u : List ℕ)
-    → is_verdict (pick fine (pick short TableShort (finding_answer limit x)) (Refused f)) ≡ false → is_verdict (finding_answer limit x) ≡ true
-    → pick fine (pick short t u) t ≡ t
-not-wrote limit true true x f t u h v = refl
-not-wrote limit true false x f t u h v = absurd (true≢false (sym v ∙ h))
-not-wrote limit false short x f t u h v = refl
+not-wrote : (limit : ℕ) (r : Result Unit Fault) (short : Bool) (x : Found) (t u : List ℕ)
+    → is_verdict (answer_with Record r (pick short (Err TableShort) (finding_answer limit x))) ≡ false → is_verdict (finding_answer limit x) ≡ true
+    → pick (is_fine r) (pick short t u) t ≡ t
+not-wrote limit (Ok w) true x t u h v = refl
+not-wrote limit (Ok w) false x t u h v = absurd (true≢false (sym v ∙ h))
+not-wrote limit (Err f) short x t u h v = refl
 
 all-verdicts : (limit : ℕ) (x : Found) → is_verdict (finding_answer limit x) ≡ true
 all-verdicts limit (greedily p) = refl
@@ -388,23 +354,23 @@ all-verdicts limit (by_search limit_met) = refl
 all-verdicts limit unsearched = refl
 
 module _ (s : Site) (limit : ℕ) (t : List ℕ) where
-  pub find-refused : (f : Fault) → find_answer s limit t ≡ Refused f ↔ ((f ≡ fault_of s) × (is_fine f ≡ false))
+  pub find-refused : (f : Fault) → find_answer s limit t ≡ Err (Record f) ↔ (fault_of s ≡ Err f)
   unfolding find_answer
-  find-refused = passed_on Refused (λ f g e. cc) (fault_of s) _ (no-refusal limit (ltb (length t) (size s)) (found_of (net_of s) limit))
+  find-refused = passed_on Record (λ f g e. cc) (fault_of s) _ (no-refusal limit (ltb (length t) (size s)) (found_of (net_of s) limit))
 
-  pub four-means : (find_answer s limit t ≡ TableShort) ↔ ((is_fine (fault_of s) ≡ true) × (length t < size s))
+  pub four-means : (find_answer s limit t ≡ Err TableShort) ↔ ((is_fine (fault_of s) ≡ true) × (length t < size s))
   unfolding find_answer
   four-means = (
     λ e.
-        let w = was-short limit (is_fine (fault_of s)) (ltb (length t) (size s)) (found_of (net_of s) limit) (fault_of s) e in
+        let w = was-short limit (fault_of s) (ltb (length t) (size s)) (found_of (net_of s) limit) e in
         (w.0, ltb-true (length t) (size s) w.1),
-    λ h. rw (h.0, lt-ltb (length t) (size s) h.1),
+    λ h. rw (fine-is (fault_of s) h.0, lt-ltb (length t) (size s) h.1),
   )
 
   pub not_written : is_verdict (find_answer s limit t) ≡ false → find_table s limit t ≡ t
   unfolding find_answer find_table
   not_written h =
-      not-wrote limit (is_fine (fault_of s)) (ltb (length t) (size s)) (found_of (net_of s) limit) (fault_of s) t _ h
+      not-wrote limit (fault_of s) (ltb (length t) (size s)) (found_of (net_of s) limit) t _ h
       (all-verdicts limit (found_of (net_of s) limit))
 
   -- bytes past IN are never written
@@ -432,50 +398,48 @@ module _ (s : Site) (limit : ℕ) (t : List ℕ) where
 
 -- ---- a set that is over
 
-abbrev over-at : Bool → Bool → Fault → ℕ → OverFullAnswer
-over-at fine is f w = pick fine (over_said is w) (over.Refused f)
+said-over : (is : Bool) (w load : ℕ) → over_said is w ≡ Over load → (is ≡ true) × (load ≡ w)
+said-over true w load e = (refl, cc)
+said-over false w load e = cc
 
-over-of : (fine is : Bool) (f : Fault) (w load : ℕ) → over-at fine is f w ≡ over.Over load → (fine ≡ true) × (is ≡ true) × (load ≡ w)
-over-of true true f w load e = (refl, refl, cc)
-over-of true false f w load e = absurd (let z : ◌≡◌ {A = ℕ} 0 1 = cc in omega arith)
-over-of false b f w load e = absurd (let z : ◌≡◌ {A = ℕ} 0 1 = cc in omega arith)
-
-within_of : (fine is : Bool) (f : Fault) (w load : ℕ) → over-at fine is f w ≡ over.Within load → (fine ≡ true) × (is ≡ false) × (load ≡ w)
-within_of true true f w load e = absurd (let z : ◌≡◌ {A = ℕ} 0 1 = cc in omega arith)
-within_of true false f w load e = (refl, refl, cc)
-within_of false b f w load e = absurd (let z : ◌≡◌ {A = ℕ} 0 1 = cc in omega arith)
-
-over-no-refusal : (is : Bool) (w : ℕ) (f : Fault) → over_said is w ≡ over.Refused f → ⊥
-over-no-refusal true w f e = let z : ◌≡◌ {A = ℕ} 0 1 = cc in omega arith
-over-no-refusal false w f e = let z : ◌≡◌ {A = ℕ} 0 1 = cc in omega arith
+said-within : (is : Bool) (w load : ℕ) → over_said is w ≡ Within load → (is ≡ false) × (load ≡ w)
+said-within true w load e = cc
+said-within false w load e = (refl, cc)
 
 module _ (s : Site) (cells : ℕ) where
   -- the load of those that the site has
   abbrev own-load : ℕ
   own-load = weight (net_of s) (bit_at cells)
 
-  pub over-right : (load : ℕ) → over_full_answer s cells ≡ over.Over load → NeverValid (net_of s)
+  over-of : (load : ℕ) → over_full_answer s cells ≡ Ok (Over load) → (fault_of s ≡ Ok tt) × (over_full (net_of s) cells ≡ true) × (load ≡ own-load)
   unfolding over_full_answer
-  over-right load e = over_none (net_of s) cells (over-of (is_fine (fault_of s)) (over_full (net_of s) cells) (fault_of s) own-load load e).1
+  over-of load e =
+      let h = told (fault_of s) (over_said (over_full (net_of s) cells) own-load) (Over load) e in
+      let is = said-over (over_full (net_of s) cells) own-load load h.1 in
+      (h.0, is.0, is.1)
+
+  pub over-right : (load : ℕ) → over_full_answer s cells ≡ Ok (Over load) → NeverValid (net_of s)
+  over-right load e = over_none (net_of s) cells (over-of load e).1
 
   -- exactly when the record is accepted, the cells are the site's and clash with one another, and their loads, which are named, are above the open positions
   pub over_exactly : (load : ℕ)
-      → (over_full_answer s cells ≡ over.Over load)
-      ↔ ((fault_of s ≡ Fine) × (cells < 2 ^ s.cells) × Mutual (net_of s) (bit_at cells) × (room (net_of s) < own-load) × (load ≡ own-load))
+      → (over_full_answer s cells ≡ Ok (Over load))
+      ↔ ((fault_of s ≡ Ok tt) × (cells < 2 ^ s.cells) × Mutual (net_of s) (bit_at cells) × (room (net_of s) < own-load) × (load ≡ own-load))
   unfolding over_full_answer
   over_exactly load = (
     λ e.
-        let is = over-of (is_fine (fault_of s)) (over_full (net_of s) cells) (fault_of s) own-load load e in
+        let is = over-of load e in
         let h = (over-means (net_of s) cells).0 is.1 in
-        (fine-is (fault_of s) is.0, h.0, h.1, h.2, is.2),
+        (is.0, h.0, h.1, h.2, is.2),
     λ h. rw (h.0, (over-means (net_of s) cells).1 (h.1, h.2, h.3), h.4),
   )
 
   -- a set that is not over has its load named as well
-  pub within_load : (load : ℕ) → over_full_answer s cells ≡ over.Within load → (over_full (net_of s) cells ≡ false) × (load ≡ own-load)
+  pub within_load : (load : ℕ) → over_full_answer s cells ≡ Ok (Within load) → (over_full (net_of s) cells ≡ false) × (load ≡ own-load)
   unfolding over_full_answer
-  within_load load e = let h = within_of (is_fine (fault_of s)) (over_full (net_of s) cells) (fault_of s) own-load load e in (h.1, h.2)
+  within_load load e =
+      said-within (over_full (net_of s) cells) own-load load (told (fault_of s) (over_said (over_full (net_of s) cells) own-load) (Within load) e).1
 
-  pub over-refused : (f : Fault) → over_full_answer s cells ≡ over.Refused f ↔ ((f ≡ fault_of s) × (is_fine f ≡ false))
+  pub over-refused : (f : Fault) → over_full_answer s cells ≡ Err f ↔ (fault_of s ≡ Err f)
   unfolding over_full_answer
-  over-refused = passed_on over.Refused (λ f g e. cc) (fault_of s) _ (over-no-refusal (over_full (net_of s) cells) own-load)
+  over-refused = refused (fault_of s) (over_said (over_full (net_of s) cells) own-load)

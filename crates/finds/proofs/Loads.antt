@@ -1,5 +1,5 @@
 -- The loads of all 32 places of an accepted record are those of its cells: past them there are none. Assumes nothing.
-use mathlib.Core.Path.{◌≡◌, refl, ap, ◌∙◌}
+use mathlib.Core.Path.{◌≡◌, refl, ◌∙◌}
 use mathlib.Core.Bool.{true, false}
 use mathlib.Core.Logic.{⊎_elim}
 use Prim.Native.Nat.{ℕ, ◌≤◌, ◌<◌}
@@ -16,12 +16,12 @@ use Rattle.laws.proofs.Sums.{sum-eq, sum-stop}
 use Rattle.site.specs.Record.{fault_of}
 use Rattle.site.specs.Reach.{net_of}
 use Rattle.site.specs.declared.Site.{Site}
-use Rattle.site.specs.declared.Fault.TheVariants.{Fine}
+use Rattle.std.specs.Prelude.{Ok}
 use Rattle.site.proofs.Accepted.{fine-sound}
 use Rattle.site.proofs.Faults.{fine-sized}
 use Rattle.loads.specs.Loads.{loads_in}
 
-module _ (s : Site) (fine : fault_of s ≡ Fine) where
+module _ (s : Site) (fine : fault_of s ≡ Ok tt) where
   abbrev part : ℕ → ℕ
   part j = pick (bit_at 4294967295 j) (get_or s.loads j 0) 0
 

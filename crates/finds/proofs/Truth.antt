@@ -16,6 +16,7 @@ use native.Mathlib.Omega.{arith}
 use lib.Dec.{ltb}
 use lib.ListN.{length, replicate, length-replicate}
 use borrow.Author.Tests.{ltb-true, lt-ltb, le-ltb}
+use Rattle.std.specs.Prelude.{Result, Ok, Err}
 use Rattle.laws.specs.Bits.{bit_at}
 use Rattle.laws.specs.Choice.{pick}
 use Rattle.laws.specs.Sum.{sum}
@@ -29,39 +30,27 @@ use Rattle.renumbering.specs.Renumbers.{renumbered}
 use Rattle.renumbering.proofs.Renumber.{numbers-renumber, numbered-always, stuck-none}
 use Rattle.tries.specs.Search.{plan_found, none_exists, tries_of, ended, limit_met, searched}
 use Rattle.admitting.proofs.Sets.{total-few}
-use Rattle.site.specs.Record.{positions, size, fault_of, is_fine, load_at}
+use Rattle.site.specs.Record.{positions, size, fault_of, load_at, answer_with}
 use Rattle.site.specs.Reach.{net_of}
 use Rattle.site.specs.declared.Site.{Site}
-use Rattle.site.specs.declared.Fault.TheVariants.{Fine}
-use Rattle.site.proofs.Faults.{fine-is, fine-sized}
+use Rattle.site.specs.declared.Fault.{Fault}
+use Rattle.site.proofs.Faults.{fine-sized}
 use Rattle.site.proofs.Reach.{clash-sym}
 use Rattle.loads.specs.Loads.{loads_in}
 use Rattle.planner.proofs.Meaning.{done-means}
 use Rattle.heaviest.specs.Sets.{heaviest_set}
 use Rattle.search.specs.Search.{too_large, most_fragments, most_open}
-use Rattle.finding.specs.Found.{
-  Found,
-  greedily,
-  over_by,
-  renumbered_plan,
-  full_renumbered,
-  by_search,
-  unsearched,
-  found_anew,
-  found_sought,
-  found_numbered,
-  heaviest_over,
-  found_else,
-  found_by,
-  found_of,
-}
+use Rattle.finding.specs.Found.{Found, greedily, over_by, renumbered_plan, full_renumbered, by_search, unsearched, found_anew}
+use Rattle.finding.specs.Found.{found_numbered, heaviest_over, found_else, found_by, found_of}
 use Rattle.finding.specs.Means.{NoneOver, NoNumbering, FoundMeans}
 use Rattle.finding.proofs.Over.{over-means, none_over, over-heaviest}
 use Rattle.finding.proofs.Right.{found-means, no-plan}
 use Rattle.finding.proofs.Never.{never-full}
 use Rattle.finder.specs.Find.{finding_answer, find_answer}
-use Rattle.finder.specs.declared.FindAnswer.{FindAnswer}
-use Rattle.finder.specs.declared.FindAnswer.TheVariants.{Greedy, Full, NotKnown, TableShort, Refused}
+use Rattle.finder.specs.declared.Way.{Way}
+use Rattle.finder.specs.declared.Way.TheVariants.{Greedy}
+use Rattle.finder.specs.declared.FindError.{FindError}
+use Rattle.finder.specs.declared.FindError.TheVariants.{Full, NotKnown, TableShort, Record}
 use Rattle.finder.proofs.Right.{greedy-kept, full-right, over_exactly}
 use Rattle.say_search.specs.Means.{SomeValid, NoneValid, TakesMore}
 use Rattle.finds.specs.Find.{status_of}
@@ -88,7 +77,7 @@ over-size-is s h =
     either_is (ltb most_fragments (sum (net_of s).load s.cells)) (ltb most_open (room (net_of s)))
     (⊎_elim (λ q. inl (lt-ltb most_fragments (sum (net_of s).load s.cells) q)) (λ q. inr (lt-ltb most_open (room (net_of s)) q)) h)
 
-module _ (s : Site) (fine : fault_of s ≡ Fine) (limit : ℕ) where
+module _ (s : Site) (fine : fault_of s ≡ Ok tt) (limit : ℕ) where
   few : s.cells ≤ 32
   few = (fine-sized s fine).cells_most
 
@@ -150,58 +139,58 @@ module _ (s : Site) (fine : fault_of s ≡ Fine) (limit : ℕ) where
   verdict-true = found-true (found_of (net_of s) limit) refl (found-means (net_of s) (clash-sym s.rule s.reach) few limit) after
 
 module _ (s : Site) (limit : ℕ) (t : List ℕ) where
-  last-by : (ok short : Bool) → is_fine (fault_of s) ≡ ok
-      → LastMeans s limit (pick ok (pick short TableShort (finding_answer limit (found_of (net_of s) limit))) (Refused (fault_of s)))
-  last-by true true e = tt
-  last-by true false e = verdict-true s (fine-is (fault_of s) e) limit
-  last-by false short e = tt
+  last-by : (r : Result Unit Fault) (short : Bool) → fault_of s ≡ r
+      → LastMeans s limit (answer_with Record r (pick short (Err TableShort) (finding_answer limit (found_of (net_of s) limit))))
+  last-by (Ok u) true e = tt
+  last-by (Ok u) false e = verdict-true s e limit
+  last-by (Err f) short e = tt
 
   pub last-true : LastMeans s limit (find_answer s limit t)
   unfolding find_answer
-  last-true = last-by (is_fine (fault_of s)) (ltb (length t) (size s)) refl
+  last-true = last-by (fault_of s) (ltb (length t) (size s)) refl
 
   -- ---- and is said exactly where it is so, of an accepted site and a table that is long enough
 
-  module _ (fine : fault_of s ≡ Fine) (long : size s ≤ length t) where
+  module _ (fine : fault_of s ≡ Ok tt) (long : size s ≤ length t) where
     found-says : find_answer s limit t ≡ finding_answer limit (found_of (net_of s) limit)
     unfolding find_answer
     found-says = rw (fine, le-ltb (length t) (size s) long)
 
     -- a set that is over: greedy finds no room, and the heaviest set is named
     over_by-law : (o : Outcome) → greedy (net_of s) ≡ o → (PlannerPlans s → ⊥) → heaviest_over (net_of s) ≡ true
-        → finding_answer limit (found_by (net_of s) limit o) ≡ Full (heaviest_set (net_of s))
+        → finding_answer limit (found_by (net_of s) limit o) ≡ Err (Full (heaviest_set (net_of s)))
     unfolding found_else
     over_by-law (planned p) e none h = absurd (none (on s fine limit p e))
     over_by-law (no_room c m) e none h = rw h refl
 
-    over-said : (x : ℕ) → OverCells s x → find_answer s limit t ≡ Full (heaviest_set (net_of s))
+    over-said : (x : ℕ) → OverCells s x → find_answer s limit t ≡ Err (Full (heaviest_set (net_of s)))
     unfolding found_of
     over-said x h =
         found-says ∙ over_by-law (greedy (net_of s)) refl never (over-heaviest (net_of s) (bit_at x) h.1 h.2)
       where
         never : PlannerPlans s → ⊥
         never p =
-            let m : LastMeans s limit Greedy = subst (LastMeans s limit) (greedy-kept s limit t (p t long)).0 last-true in
+            let m : LastMeans s limit (Ok Greedy) = subst (LastMeans s limit) (greedy-kept s limit t (p t long)).0 last-true in
             full (net_of s) (bit_at x) h.1 h.2 m.0.0 m.0.1
 
     pub record Exactly : Type 0 where
-      pub by-planner : find_answer s limit t ≡ Greedy ↔ PlannerPlans s
-      pub by-set : (x : ℕ) → find_answer s limit t ≡ Full x ↔ ((x ≡ heaviest_set (net_of s)) × OverCells s x)
+      pub by-planner : find_answer s limit t ≡ Ok Greedy ↔ PlannerPlans s
+      pub by-set : (x : ℕ) → find_answer s limit t ≡ Err (Full x) ↔ ((x ≡ heaviest_set (net_of s)) × OverCells s x)
 
-    named : (x y : ℕ) → Full x ≡ Full y → x ≡ y
+    named : (x y : ℕ) → ◌≡◌ {A = Result Way FindError} (Err (Full x)) (Err (Full y)) → x ≡ y
     named x y e = cc
 
     pub word-exactly : Exactly
     word-exactly = record {
       by-planner = (
-        λ e. let m : LastMeans s limit Greedy = subst (LastMeans s limit) e last-true in m.1,
+        λ e. let m : LastMeans s limit (Ok Greedy) = subst (LastMeans s limit) e last-true in m.1,
         λ p. (greedy-kept s limit t (p t long)).0,
       );
       by-set = λ x. (
         λ e.
-            let m : LastMeans s limit (Full x) = subst (LastMeans s limit) e last-true in
+            let m : LastMeans s limit (Err (Full x)) = subst (LastMeans s limit) e last-true in
             (named x (heaviest_set (net_of s)) (sym e ∙ over-said x m.1), m.1),
-        λ h. over-said x h.1 ∙ ap (λ (y : ℕ). Full y) (sym h.0),
+        λ h. over-said x h.1 ∙ ap (λ (y : ℕ). Err (Full y)) (sym h.0),
       );
     }
 
@@ -252,32 +241,32 @@ module _ (s : Site) (limit : ℕ) where
   status-of (by_search limit_met) m = not-decided limit m
   status-of unsearched m = not-decided 0 m
 
-  pub status-exactly : (t : List ℕ) → fault_of s ≡ Fine → size s ≤ length t → Statuses s limit (status_of (find_answer s limit t))
+  pub status-exactly : (t : List ℕ) → fault_of s ≡ Ok tt → size s ≤ length t → Statuses s limit (status_of (find_answer s limit t))
   status-exactly t fine long =
-      subst (λ (a : FindAnswer). Statuses s limit (status_of a)) (sym (found-says s limit t fine long))
+      subst (λ (a : Result Way FindError). Statuses s limit (status_of a)) (sym (found-says s limit t fine long))
       (status-of (found_of (net_of s) limit) (verdict-true s fine limit))
 
 -- ---- beside the last word
 
 -- only an accepted record is called full
-full-fine : (s : Site) (limit : ℕ) (t : List ℕ) (x : ℕ) → find_answer s limit t ≡ Full x → fault_of s ≡ Fine
+full-fine : (s : Site) (limit : ℕ) (t : List ℕ) (x : ℕ) → find_answer s limit t ≡ Err (Full x) → fault_of s ≡ Ok tt
 full-fine s limit t x e = ((over_exactly s x _).0 (full-right s limit t x e).1).0
 
 -- what a set needs is its load, and the site has less
-pub needs-true : (s : Site) (limit : ℕ) (t : List ℕ) (x : ℕ) → find_answer s limit t ≡ Full x
+pub needs-true : (s : Site) (limit : ℕ) (t : List ℕ) (x : ℕ) → find_answer s limit t ≡ Err (Full x)
     → (loads_in s.loads x ≡ weight (net_of s) (bit_at x)) × (room (net_of s) < loads_in s.loads x)
 needs-true s limit t x e =
-    let m : LastMeans s limit (Full x) = subst (LastMeans s limit) e (last-true s limit t) in
-    let f : fault_of s ≡ Fine = full-fine s limit t x e in
+    let m : LastMeans s limit (Err (Full x)) = subst (LastMeans s limit) e (last-true s limit t) in
+    let f : fault_of s ≡ Ok tt = full-fine s limit t x e in
     let w : loads_in s.loads x ≡ weight (net_of s) (bit_at x) = total-few (load_at s) s.cells 32 x (fine-sized s f).cells_most m.1.0 in
     (w, omega (arith, w, m.1.2))
 
 -- of a `not known` the ground that is said is the ground
-pub unknown-true : (s : Site) (limit : ℕ) (t : List ℕ) (n : ℕ) → find_answer s limit t ≡ NotKnown n
+pub unknown-true : (s : Site) (limit : ℕ) (t : List ℕ) (n : ℕ) → find_answer s limit t ≡ Err (NotKnown n)
     → (too_large (net_of s) ≡ true → OverSize s) × (too_large (net_of s) ≡ false → (n ≡ limit) × TakesMore s limit)
 unknown-true s limit t n e = (
   too-large-means s,
   λ small.
-      let m : LastMeans s limit (NotKnown n) = subst (LastMeans s limit) e (last-true s limit t) in
+      let m : LastMeans s limit (Err (NotKnown n)) = subst (LastMeans s limit) e (last-true s limit t) in
       ⊎_elim (λ h. h) (λ h. absurd (true≢false (sym (over-size-is s h.1) ∙ small))) m.2,
 )

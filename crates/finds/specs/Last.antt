@@ -1,11 +1,13 @@
 -- The last word of `duggfrask why`: "its last word is always one of: planned; planned with the cells renumbered; planned by search; full (these cells);
 -- full (searched, so many tries); not known (so many tries)". Cells are indexed from 0, and named from 1 in the text.
-use Rattle.std.specs.Prelude.{ℕ, zero, suc, ◌+◌, Bool, ◌&&◌, List, [], ◌++◌, ltb}
+use Rattle.std.specs.Prelude.{ℕ, zero, suc, ◌+◌, Bool, ◌&&◌, List, [], ◌++◌, ltb, Result, Ok, Err}
 use Rattle.laws.specs.Bits.{bit_at}
 use Rattle.laws.specs.Choice.{pick}
 use Rattle.laws.specs.Search.{first}
-use Rattle.finder.specs.declared.FindAnswer.{FindAnswer}
-use Rattle.finder.specs.declared.FindAnswer.TheVariants.{Greedy, Renumbered, Searched, Full, FullInClass, FullSearched, NotKnown, TableShort, Refused}
+use Rattle.finder.specs.declared.Way.{Way}
+use Rattle.finder.specs.declared.Way.TheVariants.{Greedy, Renumbered, Searched}
+use Rattle.finder.specs.declared.FindError.{FindError}
+use Rattle.finder.specs.declared.FindError.TheVariants.{Full, FullInClass, FullSearched, NotKnown, TableShort, Record}
 use Rattle.phrases.specs.Phrases.{phrase}
 use Rattle.phrases.specs.declared.Phrase.{Phrase}
 use Rattle.phrases.specs.declared.Phrase.TheVariants.{Silent, Row}
@@ -37,28 +39,26 @@ later_said x (suc j) = later_said x j ++ phrase last_lines (later_phrase x j)
 
 -- ---- all of it: a row, and after the lowest cell of a set the others
 
-abbrev pub last_phrase : FindAnswer → Phrase
-last_phrase Greedy = Row last_planned_row 0 0 0 0
-last_phrase Renumbered = Row last_renumbered_row 0 0 0 0
-last_phrase (Searched n) = tries_phrase last_searched_row n
-last_phrase (Full x) = named_phrase x
-last_phrase FullInClass = Row last_in_class_row 0 0 0 0
-last_phrase (FullSearched n) = tries_phrase last_exhausted_row n
-last_phrase (NotKnown n) = tries_phrase last_unknown_row n
-last_phrase TableShort = Silent
-last_phrase (Refused f) = Silent
+abbrev pub last_phrase : Result Way FindError → Phrase
+last_phrase (Ok Greedy) = Row last_planned_row 0 0 0 0
+last_phrase (Ok Renumbered) = Row last_renumbered_row 0 0 0 0
+last_phrase (Ok (Searched n)) = tries_phrase last_searched_row n
+last_phrase (Err (Full x)) = named_phrase x
+last_phrase (Err FullInClass) = Row last_in_class_row 0 0 0 0
+last_phrase (Err (FullSearched n)) = tries_phrase last_exhausted_row n
+last_phrase (Err (NotKnown n)) = tries_phrase last_unknown_row n
+last_phrase (Err TableShort) = Silent
+last_phrase (Err (Record f)) = Silent
 
-abbrev pub others_said : FindAnswer → List ℕ
-others_said Greedy = []
-others_said Renumbered = []
-others_said (Searched n) = []
-others_said (Full x) = later_said x 32 ++ phrase last_lines (Row last_close_row 0 0 0 0)
-others_said FullInClass = []
-others_said (FullSearched n) = []
-others_said (NotKnown n) = []
-others_said TableShort = []
-others_said (Refused f) = []
+abbrev pub others_said : Result Way FindError → List ℕ
+others_said (Ok w) = []
+others_said (Err (Full x)) = later_said x 32 ++ phrase last_lines (Row last_close_row 0 0 0 0)
+others_said (Err FullInClass) = []
+others_said (Err (FullSearched n)) = []
+others_said (Err (NotKnown n)) = []
+others_said (Err TableShort) = []
+others_said (Err (Record f)) = []
 
 -- a refusal has no last word: its number has its sentence
-abbrev pub last_word : FindAnswer → List ℕ
+abbrev pub last_word : Result Way FindError → List ℕ
 last_word reply = phrase last_lines (last_phrase reply) ++ others_said reply

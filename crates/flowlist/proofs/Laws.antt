@@ -54,7 +54,7 @@ past_end : (fs : List Flow) (k : ℕ) → length fs ≤ k → flow_at fs k ≡ z
 past_end fs k l = get_or-eq_default fs zero_flow {n = k} l
 
 few-is : (n : ℕ) → n ≤ 16 → few n ≡ n
-few-is n h = ⊎_elim (λ e. rw e) (λ e. rw e (omega (arith, ltb-false n 16 e))) (cases (ltb n 16))
+few-is n h = omega arith
 
 -- of at most 16 flows all are there
 pub gathered-all : (fs : List Flow) → length fs ≤ 16 → (k : ℕ) → get_or (gathered fs (few (length fs))).list k zero_flow ≡ flow_at fs k

@@ -1,6 +1,5 @@
 -- A list of flow records, and its first 16 flows in an array.
-use Rattle.std.specs.Prelude.{ℕ, zero, suc, ◌+◌, List, ltb, get_or, set, replicate}
-use Rattle.laws.specs.Choice.{pick}
+use Rattle.std.specs.Prelude.{ℕ, zero, suc, min, ◌+◌, List, get_or, set, replicate}
 use Rattle.flowlist.specs.declared.Flow.{Flow}
 use Rattle.flowlist.specs.declared.FlowList.{FlowList}
 
@@ -27,4 +26,4 @@ gathered fs (suc n) = with_flow (gathered fs n) (flow_at fs n)
 
 -- n, and 16 where n is more
 abbrev pub few : ℕ → ℕ
-few n = pick (ltb n 16) n 16
+few n = min n 16

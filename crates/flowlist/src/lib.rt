@@ -64,16 +64,6 @@ fn flow_at(flows: &[Flow], k: usize) -> Flow
     flows[k]
 }
 
-// How many of n flows there is room for.
-fn limit(n: usize) -> usize
-    ensures { (result ≤ n) × (result ≤ 16) × (result ≡ few n) }
-{
-    if n < 16 {
-        return n;
-    }
-    16
-}
-
 // The list of the first n flows of an array.
 fn counted(list: [Flow; 16], n: usize) -> FlowList
     ensures { result ≡ record { list = list; count = n } }
@@ -85,13 +75,10 @@ fn counted(list: [Flow; 16], n: usize) -> FlowList
 pub fn gather(flows: &[Flow]) -> FlowList
     ensures { result ≡ gathered flows.now (few (length flows.now)) }
 {
-    let n = limit(flows.len());
+    let n = flows.len().min(16);
     let mut list = blank();
-    let mut i: usize = 0;
-    while i < n {
-        let f = flow_at(flows, i);
-        list[i] = f;
-        i += 1;
+    for i in 0..n {
+        list[i] = flow_at(flows, i);
     }
     counted(list, n)
 }

@@ -20,7 +20,9 @@ use Rattle.flowsheet.specs.Format.{flow_head, flow_line, flow_lines, flow_sheet}
 use Rattle.flowsheet.specs.Read.{flow_in, flow_fits, flow_ok, flows_done, bad_flows, too_many, at_end, read_flows}
 use Rattle.flowsheet.specs.Means.{FlowFits, sheet_of, FlowsOf, FirstBadOfFlows, no_first_line, no_flow_line, TooManyFlows}
 use Rattle.flowsheet.specs.declared.FlowsRead.{FlowsRead}
-use Rattle.flowsheet.specs.declared.FlowsAnswer.TheVariants.{Done, BadLine, TooMany}
+use Rattle.std.specs.Prelude.{Result, Ok, Err}
+use Rattle.flowsheet.specs.declared.FlowsError.{FlowsError}
+use Rattle.flowsheet.specs.declared.FlowsError.TheVariants.{BadLine, TooMany}
 use Rattle.flowsheet.proofs.Trip.{fit, fit_is, ok-written, read-written, bad-after, seventeenth}
 
 -- ---- any bytes are the lines of some flows, and a rest
@@ -151,55 +153,55 @@ module _ (b : List ℕ) where
   -- ---- so each is said exactly where it is so
 
   -- 17 gives the first line that is not so, from 1.
-  pub bad-first : (l : ℕ) → (read_flows b).answer ≡ BadLine l → FirstBadOfFlows b l
+  pub bad-first : (l : ℕ) → (read_flows b).answer ≡ Err (BadLine l) → FirstBadOfFlows b l
   bad-first l e = go came
     where
       go : Came b → FirstBadOfFlows b l
       go (told m f q) =
-          let is : BadLine m ≡ BadLine l = sym (ap (λ (x : FlowsRead). x.answer) q) ∙ e in
+          let is : ◌≡◌ {A = Result Unit FlowsError} (Err (BadLine m)) (Err (BadLine l)) = sym (ap (λ (x : FlowsRead). x.answer) q) ∙ e in
           let same : m ≡ l = cc in
           rw (← same) f
       go (over o q) =
-          let is : TooMany ≡ BadLine l = sym (ap (λ (x : FlowsRead). x.answer) q) ∙ e in
+          let is : ◌≡◌ {A = Result Unit FlowsError} (Err TooMany) (Err (BadLine l)) = sym (ap (λ (x : FlowsRead). x.answer) q) ∙ e in
           let z : ◌≡◌ {A = ℕ} 0 1 = cc in
           absurd (omega arith)
       go (was fs w q) =
-          let is : Done ≡ BadLine l = sym (ap (λ (x : FlowsRead). x.answer) q) ∙ e in
+          let is : ◌≡◌ {A = Result Unit FlowsError} (Ok tt) (Err (BadLine l)) = sym (ap (λ (x : FlowsRead). x.answer) q) ∙ e in
           let z : ◌≡◌ {A = ℕ} 0 1 = cc in
           absurd (omega arith)
 
   -- A line after the sixteenth flow's is 18, whatever stands in it.
-  pub over-is : (read_flows b).answer ≡ TooMany → TooManyFlows b
+  pub over-is : (read_flows b).answer ≡ Err TooMany → TooManyFlows b
   over-is e = go came
     where
       go : Came b → TooManyFlows b
       go (told m f q) =
-          let is : BadLine m ≡ TooMany = sym (ap (λ (x : FlowsRead). x.answer) q) ∙ e in
+          let is : ◌≡◌ {A = Result Unit FlowsError} (Err (BadLine m)) (Err TooMany) = sym (ap (λ (x : FlowsRead). x.answer) q) ∙ e in
           let z : ◌≡◌ {A = ℕ} 0 1 = cc in
           absurd (omega arith)
       go (over o q) = o
       go (was fs w q) =
-          let is : Done ≡ TooMany = sym (ap (λ (x : FlowsRead). x.answer) q) ∙ e in
+          let is : ◌≡◌ {A = Result Unit FlowsError} (Ok tt) (Err TooMany) = sym (ap (λ (x : FlowsRead). x.answer) q) ∙ e in
           let z : ◌≡◌ {A = ℕ} 0 1 = cc in
           absurd (omega arith)
 
   -- an accepted sheet is the sheet of the flows that were read
-  pub accepted-is : (read_flows b).answer ≡ Done → (fs : List Flow) × FlowsOf b fs × ((read_flows b).flows ≡ gathered fs (length fs))
+  pub accepted-is : (read_flows b).answer ≡ Ok tt → (fs : List Flow) × FlowsOf b fs × ((read_flows b).flows ≡ gathered fs (length fs))
   accepted-is e = go came
     where
       go : Came b → (fs : List Flow) × FlowsOf b fs × ((read_flows b).flows ≡ gathered fs (length fs))
       go (told m f q) =
-          let is : BadLine m ≡ Done = sym (ap (λ (x : FlowsRead). x.answer) q) ∙ e in
+          let is : ◌≡◌ {A = Result Unit FlowsError} (Err (BadLine m)) (Ok tt) = sym (ap (λ (x : FlowsRead). x.answer) q) ∙ e in
           let z : ◌≡◌ {A = ℕ} 0 1 = cc in
           absurd (omega arith)
       go (over o q) =
-          let is : TooMany ≡ Done = sym (ap (λ (x : FlowsRead). x.answer) q) ∙ e in
+          let is : ◌≡◌ {A = Result Unit FlowsError} (Err TooMany) (Ok tt) = sym (ap (λ (x : FlowsRead). x.answer) q) ∙ e in
           let z : ◌≡◌ {A = ℕ} 0 1 = cc in
           absurd (omega arith)
       go (was fs w q) = (fs, w, ap (λ (x : FlowsRead). x.flows) q)
 
   -- no flows stand beside a refusal
-  pub none_beside : ((read_flows b).answer ≡ Done → ⊥) → (read_flows b).flows ≡ no_flows
+  pub none_beside : ((read_flows b).answer ≡ Ok tt → ⊥) → (read_flows b).flows ≡ no_flows
   none_beside n = go came
     where
       go : Came b → (read_flows b).flows ≡ no_flows

@@ -1,5 +1,5 @@
 -- The reader of the lines part way: what is left, from here, gives the whole answer. One law for each way out, and one for a line passed. Assumes nothing.
-use Prim.Native.Nat.{ℕ, zero, suc, ◌+◌, ◌≤◌, ◌<◌}
+use Prim.Native.Nat.{ℕ, zero, suc, ◌+◌, ◌-◌, ◌≤◌, ◌<◌}
 use mathlib.Core.Path.{◌≡◌, refl, sym, ap, ◌∙◌}
 use mathlib.Core.Bool.{Bool, true, false}
 use mathlib.Core.List.{List}
@@ -20,9 +20,12 @@ use Rattle.flowsheet.specs.Read.{flow_in, flow_fits, flow_ok, no_flow, flow_read
 use Rattle.flowsheet.specs.declared.FlowRead.{FlowRead}
 
 -- no flow is read yet
-pub none_yet : (l : FlowList) → l ≡ no_flows → (s : List ℕ) (at : ℕ) → (l.count ≡ 0) × (flows_from 16 l (drop at s) ≡ flows_from 16 no_flows (drop at s))
+pub none_yet : (l : FlowList) → l ≡ no_flows → (s : List ℕ) (at : ℕ)
+    → (l.count ≤ 16) × (flows_from (16 - l.count) l (drop at s) ≡ flows_from 16 no_flows (drop at s))
 unfolding no_flows
-none_yet l e s at = (ap (λ (x : FlowList). x.count) e, ap (λ (x : FlowList). flows_from 16 x (drop at s)) e)
+none_yet l e s at =
+    let z : l.count ≡ 0 = ap (λ (x : FlowList). x.count) e in
+    (omega arith, ap (λ (x : FlowList). flows_from (16 - x.count) x (drop at s)) e)
 
 module _ (s : List ℕ) (p : ℕ) where
   nothing_left : length s ≤ p → at_end (drop p s) ≡ true

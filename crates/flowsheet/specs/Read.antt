@@ -1,7 +1,7 @@
 -- What reading a sheet of flows answers. What a line says is taken from any bytes at all;
 -- it is a line of the format where the bytes start with the line that this content gives.
 -- r is the input from where the line begins.
-use Rattle.std.specs.Prelude.{ℕ, zero, suc, ◌+◌, Bool, ◌&&◌, List, [], ◌∷◌, leb, eqb, length, drop}
+use Rattle.std.specs.Prelude.{ℕ, zero, suc, ◌+◌, Bool, ◌&&◌, List, [], ◌∷◌, leb, eqb, length, drop, Ok, Err}
 use Rattle.laws.specs.Choice.{pick}
 use Rattle.text.specs.Decimal.{decimal}
 use Rattle.lines.specs.Match.{starts, nowhere, eaten}
@@ -14,7 +14,7 @@ use Rattle.flowlist.specs.declared.FlowList.{FlowList}
 use Rattle.flowsheet.specs.Format.{flow_head, flow_line}
 use Rattle.flowsheet.specs.declared.FlowRead.{FlowRead}
 use Rattle.flowsheet.specs.declared.FlowsRead.{FlowsRead}
-use Rattle.flowsheet.specs.declared.FlowsAnswer.TheVariants.{Done, BadLine, TooMany}
+use Rattle.flowsheet.specs.declared.FlowsError.TheVariants.{BadLine, TooMany}
 
 -- what stands after the number at the start of r and the byte after it
 unfoldable pub after : List ℕ → List ℕ
@@ -56,15 +56,15 @@ flow_read s at =
 -- ---- the sheet. A refusal has no flows beside it
 
 abbrev pub flows_done : FlowList → FlowsRead
-flows_done l = record { flows = l; answer = Done }
+flows_done l = record { flows = l; answer = Ok tt }
 
 -- 17 gives the first line that is not so, from 1.
 abbrev pub bad_flows : ℕ → FlowsRead
-bad_flows line = record { flows = no_flows; answer = BadLine line }
+bad_flows line = record { flows = no_flows; answer = Err (BadLine line) }
 
 -- A line after the sixteenth flow's is 18, whatever stands in it.
 abbrev pub too_many : FlowsRead
-too_many = record { flows = no_flows; answer = TooMany }
+too_many = record { flows = no_flows; answer = Err TooMany }
 
 -- whether nothing is left
 abbrev pub at_end : List ℕ → Bool

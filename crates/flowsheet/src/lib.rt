@@ -8,10 +8,9 @@ ghost use Rattle.flowsheet.specs.Read.{field_read, no_flow, flow_read, bad_flows
 use flowlist::{Flow, FlowList, empty, push};
 use lines::{NOWHERE, Number, eat, eat_text, read_number};
 
-// What the reader answers: the flows are read; the first bad line, from 1; or there are more than 16 flows.
+// Why a sheet of flows is refused: its first bad line, from 1; or there are more than 16 flows.
 #[derive(Clone, Copy)]
-pub enum FlowsAnswer {
-    Done,
+pub enum FlowsError {
     BadLine(usize),
     TooMany,
 }
@@ -20,7 +19,7 @@ pub enum FlowsAnswer {
 #[derive(Clone, Copy)]
 pub struct FlowsRead {
     pub flows: FlowList,
-    pub answer: FlowsAnswer,
+    pub answer: Result<(), FlowsError>,
 }
 
 // What a line of a flow says, and the place after it; NOWHERE where it is not of the format.
@@ -88,7 +87,7 @@ fn bad_at(line: usize) -> FlowsRead
 {
     FlowsRead {
         flows: empty(),
-        answer: FlowsAnswer::BadLine(line),
+        answer: Err(FlowsError::BadLine(line)),
     }
 }
 
@@ -98,7 +97,7 @@ fn too_many() -> FlowsRead
 {
     FlowsRead {
         flows: empty(),
-        answer: FlowsAnswer::TooMany,
+        answer: Err(FlowsError::TooMany),
     }
 }
 
@@ -108,23 +107,22 @@ fn read_lines(s: &[u8], at: usize) -> FlowsRead
 {
     let mut l = empty();
     let mut p = at;
-    let mut k: usize = 0;
+    // From line to line, and these differ in length: no index is counted.
     while p < s.len() {
-        if 16 <= k {
+        if 16 <= l.count {
             return too_many();
         }
         let line = read_flow(s, p);
         let next = line.next;
         if next == NOWHERE {
-            return bad_at(k + 2);
+            return bad_at(l.count + 2);
         }
         l = push(l, line.flow);
         p = next;
-        k += 1;
     }
     FlowsRead {
         flows: l,
-        answer: FlowsAnswer::Done,
+        answer: Ok(()),
     }
 }
 

@@ -2,35 +2,37 @@
 use mathlib.Core.Path.{◌≡◌, refl, sym, ap, subst, ◌∙◌}
 use mathlib.Core.Bool.{Bool, true, false}
 use mathlib.Core.List.{List}
-use Prim.Native.Nat.{ℕ, ◌-◌, ◌≤◌, ◌<◌}
+use Prim.Native.Nat.{ℕ, ◌-◌, ◌*◌, ◌≤◌, ◌<◌}
 use borrow.Author.Tests.{lt-ltb, le-ltb}
 use lib.ListN.{length}
 use Rattle.laws.specs.Bits.{bit_in}
 use Rattle.theory.specs.Net.{Net}
-use Rattle.site.specs.Record.{size, positions, fault_of, is_fine}
+use Rattle.site.specs.Record.{size, positions, fault_of}
 use Rattle.site.specs.Edit.{load_edit_fault, with_load, set_load_of, answered}
 use Rattle.site.specs.Reach.{clash_of, is_open, net_in, net_by, net_of}
 use Rattle.site.specs.declared.Site.{Site}
 use Rattle.site.specs.declared.Edited.{Edited}
 use Rattle.site.specs.declared.Fault.{Fault}
-use Rattle.site.specs.declared.Fault.TheVariants.{Fine}
+use Rattle.std.specs.Prelude.{Result, Ok, Err}
 use Rattle.site.proofs.Edits.{done-new, set-load-fine}
-use Rattle.planner.specs.Plan.{plan_answer, plan_table}
+use Rattle.site.proofs.Faults.{load-edit-fine, fine-sized, few-positions, few_bytes}
+use Rattle.planner.proofs.Before.{either_way}
+use Rattle.planner.proofs.Answer.{run-answer, run-table}
 use Rattle.planner.specs.Loop.{PlannedTo}
-use Rattle.planner.specs.declared.PlanAnswer.{PlanAnswer}
 use Rattle.rowapart.proofs.Runs.{plan-front}
+use Rattle.planner.specs.Plan.{plan_answer, plan_table}
 use Rattle.handheld.specs.Change.{table_is_plan, change_of, in_order, change_table, changed_of}
 use Rattle.handheld.specs.declared.Changed.{Changed}
-use Rattle.handheld.specs.declared.ChangeAnswer.{ChangeAnswer}
-use Rattle.handheld.specs.declared.ChangeAnswer.TheVariants.{TableShort, NotPlan, Refused}
+use Rattle.handheld.specs.declared.ChangeError.{ChangeError}
+use Rattle.handheld.specs.declared.ChangeError.TheVariants.{TableShort, NotPlan, Record}
 use Rattle.handheld.proofs.Loads.{planned-before}
 
-module _ (s : Site) (cell : ℕ) (t : List ℕ) {A : Type 0} (refused short other done : A) where
-  pub way-refused : is_fine (load_edit_fault s cell) ≡ false → in_order s cell t refused short other done ≡ refused
+module _ (s : Site) (cell : ℕ) (t : List ℕ) {A : Type 0} (refused : Fault → A) (short other done : A) where
+  pub way-refused : (f : Fault) → load_edit_fault s cell ≡ Err f → in_order s cell t refused short other done ≡ refused f
   unfolding in_order
-  way-refused e = rw e
+  way-refused f e = rw e
 
-  module _ (fine : load_edit_fault s cell ≡ Fine) where
+  module _ (fine : load_edit_fault s cell ≡ Ok tt) where
     pub way-short : length t < size s → in_order s cell t refused short other done ≡ short
     unfolding in_order
     way-short h = rw (fine, lt-ltb (length t) (size s) h)
@@ -43,70 +45,28 @@ module _ (s : Site) (cell : ℕ) (t : List ℕ) {A : Type 0} (refused short othe
     unfolding in_order
     way-done h e = rw (fine, le-ltb (length t) (size s) h, e)
 
--- an arm of the match on the planner's answer
-pub same-change : {x y : PlanAnswer} {r : ChangeAnswer} → x ≡ y → r ≡ change_of y → r ≡ change_of x
-same-change e p = p ∙ sym (ap change_of e)
-
 -- the edit by value
 pub edit-fault : (s : Site) (cell v : ℕ) {e : Edited} → e ≡ set_load_of s cell v → e.answer ≡ load_edit_fault s cell
 unfolding set_load_of answered
 edit-fault s cell v is = ap (λ (r : Edited). r.answer) is
 
-pub edit-site : (s : Site) (cell v : ℕ) {e : Edited} → e ≡ set_load_of s cell v → load_edit_fault s cell ≡ Fine → e.site ≡ with_load s (cell - 1) v
+pub edit-site : (s : Site) (cell v : ℕ) {e : Edited} → e ≡ set_load_of s cell v → load_edit_fault s cell ≡ Ok tt → e.site ≡ with_load s (cell - 1) v
 unfolding set_load_of
 edit-site s cell v is fine = ap (λ (r : Edited). r.site) is ∙ done-new (load_edit_fault s cell) (with_load s (cell - 1) v) s fine
 
--- ---- each way, with what it leaves
-
-module _ (s : Site) (cell v : ℕ) (t : List ℕ) where
-  pub ends-refused : (f : Fault) → f ≡ load_edit_fault s cell → is_fine f ≡ false
-      → (◌≡◌ {A = Changed} (record { site = s; answer = Refused f }) (changed_of s cell v t)) × (t ≡ change_table s cell v t)
-  ends-refused f e h =
-      let no-edit : is_fine (load_edit_fault s cell) ≡ false = ap is_fine (sym e) ∙ h in (
-        (λ x. record {
-          site = sym (way-refused s cell t s s s (with_load s (cell - 1) v) no-edit) x;
-          answer = (ap Refused e ∙ sym (way-refused s cell t (Refused (load_edit_fault s cell)) TableShort NotPlan (change_of (plan_answer (with_load s
-              (cell - 1) v) t)) no-edit)) x;
-        }),
-        sym (way-refused s cell t t t t (plan_table (with_load s (cell - 1) v) t) no-edit),
-      )
-
-  module _ (fine : load_edit_fault s cell ≡ Fine) where
-    pub ends-short : length t < size s
-        → (◌≡◌ {A = Changed} (record { site = s; answer = TableShort }) (changed_of s cell v t)) × (t ≡ change_table s cell v t)
-    ends-short h = (
+-- the edit is done and the table is the plan: the record and the table are the fresh plan's
+pub ends-done : (s : Site) (cell v : ℕ) (t : List ℕ) → load_edit_fault s cell ≡ Ok tt → size s ≤ length t → table_is_plan s t ≡ true
+    → {new : Site} → new ≡ with_load s (cell - 1) v → {a : Result Unit ChangeError} → a ≡ change_of (plan_answer (with_load s (cell - 1) v) t)
+    → {u : List ℕ} → u ≡ plan_table (with_load s (cell - 1) v) t
+    → (◌≡◌ {A = Changed} (record { site = new; answer = a }) (changed_of s cell v t)) × (u ≡ change_table s cell v t)
+ends-done s cell v t fine long plan is said left =
+    let after : Site = with_load s (cell - 1) v in (
       (λ x. record {
-        site = sym (way-short s cell t s s s (with_load s (cell - 1) v) fine h) x;
-        answer = sym (way-short s cell t (Refused (load_edit_fault s cell)) TableShort NotPlan (change_of (plan_answer (with_load s (cell - 1) v) t)) fine h) x;
+        site = (is ∙ sym (way-done s cell t (λ f. s) s s after fine long plan)) x;
+        answer = (said ∙ sym (way-done s cell t (λ f. Err (Record f)) (Err TableShort) (Err NotPlan) (change_of (plan_answer after t)) fine long plan)) x;
       }),
-      sym (way-short s cell t t t t (plan_table (with_load s (cell - 1) v) t) fine h),
+      left ∙ sym (way-done s cell t (λ f. t) t t (plan_table after t) fine long plan),
     )
-
-    module _ (long : size s ≤ length t) where
-      pub ends-other : table_is_plan s t ≡ false
-          → (◌≡◌ {A = Changed} (record { site = s; answer = NotPlan }) (changed_of s cell v t)) × (t ≡ change_table s cell v t)
-      ends-other e = (
-        (λ x. record {
-          site = sym (way-other s cell t s s s (with_load s (cell - 1) v) fine long e) x;
-          answer = sym (way-other s cell t (Refused (load_edit_fault s cell)) TableShort NotPlan (change_of (plan_answer (with_load s
-              (cell - 1) v) t)) fine long e)
-              x;
-        }),
-        sym (way-other s cell t t t t (plan_table (with_load s (cell - 1) v) t) fine long e),
-      )
-
-      -- the record and the table are the fresh plan's
-      pub ends-done : table_is_plan s t ≡ true → {new : Site} → new ≡ with_load s (cell - 1) v → {a : ChangeAnswer}
-          → a ≡ change_of (plan_answer (with_load s (cell - 1) v) t) → {u : List ℕ} → u ≡ plan_table (with_load s (cell - 1) v) t
-          → (◌≡◌ {A = Changed} (record { site = new; answer = a }) (changed_of s cell v t)) × (u ≡ change_table s cell v t)
-      ends-done e is said left = (
-        (λ x. record {
-          site = (is ∙ sym (way-done s cell t s s s (with_load s (cell - 1) v) fine long e)) x;
-          answer = (said ∙ sym (way-done s cell t (Refused (load_edit_fault s cell)) TableShort NotPlan (change_of (plan_answer (with_load s
-              (cell - 1) v) t)) fine long e)) x;
-        }),
-        left ∙ sym (way-done s cell t t t t (plan_table (with_load s (cell - 1) v) t) fine long e),
-      )
 
 -- ---- the plan from the cell on
 
@@ -125,7 +85,18 @@ module _ (s : Site) (rows : List ℕ) (is : bit_in rows ≡ clash_of s) where
         (planned-before s.cells (positions s) s.loads (clash_of s) (is_open s.blocked) k v t (plan-front (net_of s) t e k h))
 
 -- the edited record has no fault
-pub edited-fine : (s : Site) (cell v : ℕ) → load_edit_fault s cell ≡ Fine → fault_of (with_load s (cell - 1) v) ≡ Fine
+pub edited-fine : (s : Site) (cell v : ℕ) → load_edit_fault s cell ≡ Ok tt → fault_of (with_load s (cell - 1) v) ≡ Ok tt
 unfolding set_load_of
 edited-fine s cell v e =
     ap fault_of (sym (done-new (load_edit_fault s cell) (with_load s (cell - 1) v) s e)) ∙ set-load-fine s cell v (edit-fault s cell v refl ∙ e)
+
+-- the numbers of a record whose edit is done, multiplied as the code does
+pub edit-numbers : (s : Site) (cell : ℕ) → load_edit_fault s cell ≡ Ok tt
+    → (fault_of s ≡ Ok tt) × (1 ≤ cell) × (cell ≤ s.cells) × (1 ≤ s.cells) × (s.cells ≤ 32) × (s.channels ≤ 16) × (s.slots * s.channels ≤ 2048)
+    × (s.cells * (s.slots * s.channels) ≤ 65536)
+edit-numbers s cell e =
+    let d = load-edit-fine s cell e in
+    let z = fine-sized s d.was-fine in
+    (d.was-fine, d.named.from_one, d.named.to-cells, z.cells_some, z.cells_most, z.channels_most, few-positions z, few_bytes z)
+
+pub ruleset of_change = (edit-fault, edit-site, edit-numbers, edited-fine, either_way, run-answer, run-table)

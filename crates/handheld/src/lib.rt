@@ -4,53 +4,69 @@
 #![tactic(auto)]
 
 ghost use Rattle.std.specs.Prelude.{◌≡◌};
-ghost use Rattle.handheld.specs.Change.{change_of, change_answer, change_site, change_table, changed_of};
+ghost use Rattle.handheld.specs.Change.{error_of, change_of, change_answer, change_site, change_table, changed_of};
+ghost use Rattle.handheld.specs.declared.ChangeError.TheVariants.{Record};
 
-use planner::PlanAnswer;
+use planner::PlanError;
 use site::{Fault, Site};
 
-// What a change answers: done; 4, the table is short; 26, it is not the plan; 5, a cell's number and how many of its fragments found no room; or what is
-// wrong with the record or the edit.
+// Why a change is refused: 4, the table is short; 26, it is not the plan; 5, a cell's number and how many of its fragments found no room; or what is wrong with
+// the record or the edit.
 #[derive(Clone, Copy)]
-pub enum ChangeAnswer {
-    Done,
+pub enum ChangeError {
     TableShort,
     NotPlan,
     NoRoom(usize, usize),
-    Refused(Fault),
+    Record(Fault),
+}
+
+impl From<Fault> for ChangeError {
+    ghost from_gives = { λ f e. e ≡ Record f };
+
+    fn from(fault: Fault) -> ChangeError {
+        ChangeError::Record(fault)
+    }
+}
+
+impl From<PlanError> for ChangeError {
+    ghost from_gives = { λ p e. e ≡ error_of p };
+
+    fn from(error: PlanError) -> ChangeError {
+        match error {
+            PlanError::TableShort => ChangeError::TableShort,
+            PlanError::NoRoom(cell, short) => ChangeError::NoRoom(cell, short),
+            PlanError::Record(fault) => ChangeError::Record(fault),
+        }
+    }
 }
 
 // The record after a change, beside the answer. Where the change is refused with anything but 5, it is the record as it was.
 #[derive(Clone, Copy)]
 pub struct Changed {
     pub site: Site,
-    pub answer: ChangeAnswer,
+    pub answer: Result<(), ChangeError>,
 }
 
 // The planner's answer, given by this call.
-fn as_change(answer: PlanAnswer) -> ChangeAnswer
+fn as_change(answer: Result<(), PlanError>) -> Result<(), ChangeError>
     ensures { result ≡ change_of answer }
 {
-    match answer {
-        PlanAnswer::Done => ChangeAnswer::Done,
-        PlanAnswer::TableShort => ChangeAnswer::TableShort,
-        PlanAnswer::NoRoom(cell, short) => ChangeAnswer::NoRoom(cell, short),
-        PlanAnswer::Refused(f) => ChangeAnswer::Refused(f),
-    }
+    answer?;
+    Ok(())
 }
 
 // The change by value: the record that is handed back is edited, and the table is planned anew from the cell on.
+#[tactic(auto, using(crate::proofs::Ways::of_change), unfolding(crate::specs::Change::in_order))]
 pub fn changed_load(site: Site, cell: usize, load: u16, table: &mut [u8]) -> Changed
     ensures { (result ≡ changed_of site cell load table.old) × (table.new ≡ change_table site cell load table.old) }
 {
     let edited = site.set_load(cell, load);
-    let fault = edited.answer;
-    let Fault::Fine = fault else {
+    if let Err(fault) = edited.answer {
         return Changed {
             site,
-            answer: ChangeAnswer::Refused(fault),
+            answer: Err(ChangeError::from(fault)),
         };
-    };
+    }
     let cells = site.cells as usize;
     let slots = site.slots as usize;
     let channels = site.channels as usize;
@@ -58,7 +74,7 @@ pub fn changed_load(site: Site, cell: usize, load: u16, table: &mut [u8]) -> Cha
     if table.len() < size {
         return Changed {
             site,
-            answer: ChangeAnswer::TableShort,
+            answer: Err(ChangeError::TableShort),
         };
     }
     let loads = site.loads;
@@ -68,7 +84,7 @@ pub fn changed_load(site: Site, cell: usize, load: u16, table: &mut [u8]) -> Cha
     if !plantest::is_plan(table, cells, slots, channels, &loads, &clash, &blocked) {
         return Changed {
             site: site,
-            answer: ChangeAnswer::NotPlan,
+            answer: Err(ChangeError::NotPlan),
         };
     }
     let after = new.loads;
@@ -89,7 +105,12 @@ pub fn changed_load(site: Site, cell: usize, load: u16, table: &mut [u8]) -> Cha
 }
 
 // The same where the record stands.
-pub fn change_load(site: &mut Site, cell: usize, load: u16, table: &mut [u8]) -> ChangeAnswer
+pub fn change_load(
+    site: &mut Site,
+    cell: usize,
+    load: u16,
+    table: &mut [u8],
+) -> Result<(), ChangeError>
     ensures { (result ≡ change_answer site.old cell load table.old)
         × (site.new ≡ change_site site.old cell load table.old)
         × (table.new ≡ change_table site.old cell load table.old) }

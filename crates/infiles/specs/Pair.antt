@@ -1,5 +1,5 @@
 -- A plan file that goes with a site: it is in order, and of the site's size.
-use Rattle.std.specs.Prelude.{ℕ, Bool, ◌&&◌, List, eqb}
+use Rattle.std.specs.Prelude.{ℕ, Bool, ◌&&◌, List, eqb, Option, Some, None}
 use Rattle.laws.specs.Choice.{pick}
 use Rattle.site.specs.declared.Site.{Site}
 use Rattle.records.specs.Reasons.{is_done}
@@ -15,6 +15,10 @@ same_size s p = eqb s.cells p.cells && (eqb s.slots p.slots && eqb s.channels p.
 abbrev pub goes_with : Site → List ℕ → List ℕ → Bool
 goes_with s file table = is_done (read_plan file table).answer && same_size s (read_plan file table)
 
+-- the site that a site file states; none where it is refused
+abbrev pub site_given : List ℕ → Option Site
+site_given file = pick (is_done (read_site file).answer) (Some (read_site file).site) None
+
 -- the table that a site file and a plan file leave: a site file that is refused leaves it as it was
 abbrev pub pair_table : (file plan table : List ℕ) → List ℕ
 pair_table file plan table = pick (is_done (read_site file).answer) (plan_table_read plan table) table
@@ -22,3 +26,7 @@ pair_table file plan table = pick (is_done (read_site file).answer) (plan_table_
 -- both are in order, and the plan is of the site's size
 abbrev pub pair_good : (file plan table : List ℕ) → Bool
 pair_good file plan table = is_done (read_site file).answer && goes_with (read_site file).site plan table
+
+-- the site that the plan goes with; none where the two are no pair
+abbrev pub pair_site : (file plan table : List ℕ) → Option Site
+pair_site file plan table = pick (pair_good file plan table) (Some (read_site file).site) None

@@ -4,12 +4,12 @@
 ghost use Rattle.std.specs.Prelude.{◌≡◌, ◌≤◌, length};
 ghost use Rattle.planfile.specs.Read.{plan_table_read};
 ghost use Rattle.sitefile.specs.Read.{read_site};
-ghost use Rattle.infiles.specs.Pair.{same_size, goes_with, pair_table, pair_good};
+ghost use Rattle.infiles.specs.Pair.{same_size, goes_with, site_given, pair_table, pair_site};
 
 use arguments::{FIRST_NAME, SECOND_NAME};
 use inputs::Input;
-use planfile::{PlanRead, PlanWritten};
-use records::ReadAnswer;
+use planfile::PlanRead;
+use records::Refusal;
 use reply::no;
 use site::Site;
 use std::fs::File;
@@ -62,18 +62,31 @@ pub fn read_input(rt: &HostRuntime, name: &str, standard: bool, buffer: &mut [u8
 }
 
 // A site file that was refused.
-pub fn refuse(rt: &HostRuntime, text: &mut [u8], input: &[u8], answer: ReadAnswer)
+pub fn refuse(rt: &HostRuntime, text: &mut [u8], input: &[u8], refusal: Refusal)
     requires { 65536 ≤ length text.old }
 {
     reply::named(rt, FIRST_NAME, input, Input::SiteFile);
-    let end = say_verdicts::put_read(text, 0, Kind::SiteFile, answer);
+    let end = say_verdicts::put_read(text, 0, Kind::SiteFile, Err(refusal));
     no(rt, text, end);
+}
+
+// The site of a site file. Where it is refused there is none, and the text is said.
+pub fn site_of(rt: &HostRuntime, input: &[u8], text: &mut [u8]) -> Option<Site>
+    requires { 65536 ≤ length text.old }
+    ensures { result ≡ site_given input.now }
+{
+    let read = sitefile::read_site(input);
+    if let Err(refusal) = read.answer {
+        refuse(rt, text, input, refusal);
+        return None;
+    }
+    Some(read.site)
 }
 
 // A table as a plan file; whether it was written.
 pub fn give_plan(rt: &HostRuntime, site: Site, table: &[u8], out: &mut [u8]) -> bool {
     let written = planfile::write_plan(site, table, out);
-    let PlanWritten::Done(size) = written else {
+    let Ok(size) = written else {
         return false;
     };
     reply::result(rt, out, size)
@@ -83,13 +96,7 @@ pub fn give_plan(rt: &HostRuntime, site: Site, table: &[u8], out: &mut [u8]) -> 
 pub fn same_size(site: Site, plan: PlanRead) -> bool
     ensures { result ≡ same_size site plan }
 {
-    if site.cells != plan.cells {
-        return false;
-    }
-    if site.slots != plan.slots {
-        return false;
-    }
-    site.channels == plan.channels
+    site.cells == plan.cells && site.slots == plan.slots && site.channels == plan.channels
 }
 
 // Reads a plan file, whose name is an argument, into a table; whether it is one and of the site's size. Where it is not, the text is said.
@@ -106,13 +113,12 @@ pub fn read_plan_of(
     ensures table { table.new ≡ plan_table_read input.now table.old }
 {
     let plan = planfile::read_plan(input, table);
-    let answer = plan.answer;
-    let ReadAnswer::Done = answer else {
+    if let Err(refusal) = plan.answer {
         reply::named(rt, name, input, Input::PlanFile);
-        let end = say_verdicts::put_read(text, 0, Kind::PlanFile, answer);
+        let end = say_verdicts::put_read(text, 0, Kind::PlanFile, Err(refusal));
         no(rt, text, end);
         return false;
-    };
+    }
     if same_size(site, plan) {
         return true;
     }
@@ -128,33 +134,22 @@ pub fn read_plan_of(
     false
 }
 
-// A site, and whether the plan that was read into a table goes with it. Where it does not, or one of the two is refused, the text is said.
-#[derive(Clone, Copy)]
-pub struct Pair {
-    pub site: Site,
-    pub good: bool,
-}
-
-// The site file, and the plan file, which goes into the table.
+// The site of a site file, where the plan file is one that goes with it; the plan goes into the table. Where it does not, or one of the two is refused, the
+// text is said.
 pub fn read_pair(
     rt: &HostRuntime,
     input: &[u8],
     second: &[u8],
     table: &mut [u8],
     text: &mut [u8],
-) -> Pair
+) -> Option<Site>
     requires { 65536 ≤ length text.old }
-    ensures site { result.site ≡ (read_site input.now).site }
-    ensures good { result.good ≡ pair_good input.now second.now table.old }
+    ensures site { result ≡ pair_site input.now second.now table.old }
     ensures table { table.new ≡ pair_table input.now second.now table.old }
 {
-    let read = sitefile::read_site(input);
-    let answer = read.answer;
-    let site = read.site;
-    let ReadAnswer::Done = answer else {
-        refuse(rt, text, input, answer);
-        return Pair { site, good: false };
-    };
-    let good = read_plan_of(rt, site, SECOND_NAME, second, table, text);
-    Pair { site, good }
+    let site = site_of(rt, input, text)?;
+    if read_plan_of(rt, site, SECOND_NAME, second, table, text) {
+        return Some(site);
+    }
+    None
 }

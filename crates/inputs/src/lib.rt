@@ -160,7 +160,7 @@ fn found_phrase(input: Input) -> Phrase
     }
 }
 
-// What was asked for.
+// What was asked for. No twin of `found_phrase`: two tables from a file to its row, and the one plus four would say it less plainly.
 fn asked_phrase(input: Input) -> Phrase
     ensures { result ≡ asked_phrase input }
 {

@@ -14,44 +14,38 @@ use site::{Fault, Site};
 
 // The load test's verdict: it holds, or the lowest cell that is over, by number, and by how much.
 #[derive(Clone, Copy)]
-pub enum LoadAnswer {
+pub enum LoadVerdict {
     Holds,
     Over(usize, usize),
-    Refused(Fault),
 }
 
 // The judge's verdict: chained, or the first triple a, b, c that breaks the chain, by number.
 #[derive(Clone, Copy)]
-pub enum ChainAnswer {
+pub enum ChainVerdict {
     Chained,
     Broken(usize, usize, usize),
-    Refused(Fault),
 }
 
 // The verdict on the class: the site is nested, or the first cell i and its first two lower clashing cells a < b that do not clash, by number.
 #[derive(Clone, Copy)]
-pub enum ClassAnswer {
+pub enum ClassVerdict {
     InClass,
     Outside(usize, usize, usize),
-    Refused(Fault),
 }
 
 // How many open channel-slots do: the least number that does, on a nested site; on any other so many are enough, and fewer may be.
 #[derive(Clone, Copy)]
-pub enum LeastAnswer {
+pub enum LeastVerdict {
     Least(usize),
     Enough(usize),
-    Refused(Fault),
 }
 
 // The load test: the lowest cell with load above 0 whose demand is above the number of open positions, and by how much.
-pub fn load_test(site: Site) -> LoadAnswer
+#[tactic(auto, using(crate::proofs::Laws::accepted_cells, crate::proofs::Laws::accepted_positions, crate::proofs::Laws::accepted_open), unfolding(crate::specs::Judges::load_answer))]
+pub fn load_test(site: Site) -> Result<LoadVerdict, Fault>
     ensures { result ≡ load_answer site }
 {
-    let f = site.fault_in();
-    let Fault::Fine = f else {
-        return LoadAnswer::Refused(f);
-    };
+    site.accepted()?;
     let cells = site.cells as usize;
     let n = site.slots as usize * site.channels as usize;
     let blocked = site.blocked;
@@ -62,19 +56,17 @@ pub fn load_test(site: Site) -> LoadAnswer
     let i = first_over(&loads, &clash, who, cells, room);
     if i < cells {
         let d = demand(&loads, clash[i], i);
-        return LoadAnswer::Over(i + 1, (d - room) as usize);
+        return Ok(LoadVerdict::Over(i + 1, (d - room) as usize));
     }
-    LoadAnswer::Holds
+    Ok(LoadVerdict::Holds)
 }
 
 // The chain judge: the first triple of cells with load above 0 that breaks the chain.
-pub fn chain(site: Site) -> ChainAnswer
+#[tactic(auto, using(crate::proofs::Laws::accepted_cells), unfolding(crate::specs::Judges::chain_answer))]
+pub fn chain(site: Site) -> Result<ChainVerdict, Fault>
     ensures { result ≡ chain_answer site }
 {
-    let f = site.fault_in();
-    let Fault::Fine = f else {
-        return ChainAnswer::Refused(f);
-    };
+    site.accepted()?;
     let cells = site.cells as usize;
     let loads = site.loads;
     let clash = site.clash_rows();
@@ -83,19 +75,17 @@ pub fn chain(site: Site) -> ChainAnswer
     if a < cells {
         let c = break_of(clash[a], who, a, cells);
         let b = gap(clash[a], who, a, c);
-        return ChainAnswer::Broken(a + 1, b + 1, c + 1);
+        return Ok(ChainVerdict::Broken(a + 1, b + 1, c + 1));
     }
-    ChainAnswer::Chained
+    Ok(ChainVerdict::Chained)
 }
 
 // The judge of the class: the first cell with load above 0 that has two lower clashing cells with load above 0 that do not clash.
-pub fn in_class(site: Site) -> ClassAnswer
+#[tactic(auto, using(crate::proofs::Laws::accepted_cells), unfolding(crate::specs::Judges::class_answer))]
+pub fn in_class(site: Site) -> Result<ClassVerdict, Fault>
     ensures { result ≡ class_answer site }
 {
-    let f = site.fault_in();
-    let Fault::Fine = f else {
-        return ClassAnswer::Refused(f);
-    };
+    site.accepted()?;
     let cells = site.cells as usize;
     let loads = site.loads;
     let clash = site.clash_rows();
@@ -104,26 +94,24 @@ pub fn in_class(site: Site) -> ClassAnswer
     if i < cells {
         let a = split_of(&clash, who, i);
         let b = gap(clash[a], who & clash[i], a, i);
-        return ClassAnswer::Outside(a + 1, b + 1, i + 1);
+        return Ok(ClassVerdict::Outside(a + 1, b + 1, i + 1));
     }
-    ClassAnswer::InClass
+    Ok(ClassVerdict::InClass)
 }
 
 // How many open channel-slots do for the site's cells, loads and reach, whatever slots, channels and blocked positions it has now.
-pub fn least(site: Site) -> LeastAnswer
+#[tactic(auto, using(crate::proofs::Laws::accepted_cells), unfolding(crate::specs::Judges::least_answer))]
+pub fn least(site: Site) -> Result<LeastVerdict, Fault>
     ensures { result ≡ least_answer site }
 {
-    let f = site.fault_in();
-    let Fault::Fine = f else {
-        return LeastAnswer::Refused(f);
-    };
+    site.accepted()?;
     let cells = site.cells as usize;
     let loads = site.loads;
     let clash = site.clash_rows();
     let who = loaded(&loads);
     let n = most_demand(&loads, &clash, who, cells) as usize;
     if first_split(&clash, who, cells) < cells {
-        return LeastAnswer::Enough(n);
+        return Ok(LeastVerdict::Enough(n));
     }
-    LeastAnswer::Least(n)
+    Ok(LeastVerdict::Least(n))
 }

@@ -32,6 +32,7 @@ struct Field {
 }
 
 // A reason.
+// It only looks like `records::refuse`: what is wrong with a line of a sheet is no refusal of a file.
 fn tell(reason: u8, place: usize) -> LineFault
     ensures { result ≡ reason_at reason place }
 {
@@ -39,6 +40,7 @@ fn tell(reason: u8, place: usize) -> LineFault
 }
 
 // Nothing.
+// It only looks like `cleaning::no_field`: each is the nothing of its own type.
 fn tell_nothing() -> LineFault
     ensures { result ≡ untold }
 {
@@ -54,17 +56,15 @@ fn line_start(s: &[u8], ends: usize) -> usize
     ensures start { drop result s.now ≡ after_lines ends s.now }
 {
     let mut left = ends;
-    let mut i = 0;
-    while i < s.len() {
+    for (i, &byte) in s.iter().enumerate() {
         if left == 0 {
             return i;
         }
-        if s[i] == LF {
+        if byte == LF {
             left -= 1;
         }
-        i += 1;
     }
-    i
+    s.len()
 }
 
 // The number of a field, with one byte more.
@@ -304,22 +304,18 @@ fn fault_from(s: &[u8], from: usize, fields: usize) -> LineFault
         value: 0,
         last: 0,
     };
-    let mut at: usize = 1;
-    let mut i = from;
-    while i < s.len() {
-        let b = s[i];
-        let x = fault_at(fields, at, f, b);
+    let rest = &s[from..];
+    for (i, &byte) in rest.iter().enumerate() {
+        let x = fault_at(fields, i + 1, f, byte);
         if x.reason != 0 {
             return x;
         }
-        if b == LF {
+        if byte == LF {
             return tell_nothing();
         }
-        f = step_after(f, b);
-        at += 1;
-        i += 1;
+        f = step_after(f, byte);
     }
-    end_at(at)
+    end_at(rest.len() + 1)
 }
 
 // What the first line tells.

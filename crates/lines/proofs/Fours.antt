@@ -271,14 +271,14 @@ module _ (r : List ℕ) where
       ∙ ap (λ (t : Bool). starts (marks (mark_of_line r) 0 b) r && t) k ∙ and-false (starts (marks (mark_of_line r) 0 b) r)
 
   -- a row that was read, or 16
-  pub row-there : (b m : ℕ) → (row_of_marks r b m ≡ 16 → ⊥)
-      → (starts (marks (mark_of_line r) b m) (drop (2 * b) r) ≡ true) × (row_of_marks r b m ≡ weigh (mark_of_line r) b m)
+  pub row-there : (b m x : ℕ) → x ≡ row_of_marks r b m → (x ≡ 16 → ⊥)
+      → (x ≡ weigh (mark_of_line r) b m) × (starts (marks (mark_of_line r) b m) (drop (2 * b) r) ≡ true)
   unfolding row_of_marks
-  row-there b m h = go (starts (marks (mark_of_line r) b m) (drop (2 * b) r)) h
+  row-there b m x e h = go (starts (marks (mark_of_line r) b m) (drop (2 * b) r)) e
     where
-      go : (t : Bool) → (pick t (weigh (mark_of_line r) b m) 16 ≡ 16 → ⊥) → (t ≡ true) × (pick t (weigh (mark_of_line r) b m) 16 ≡ weigh (mark_of_line r) b m)
-      go true n = (refl, refl)
-      go false n = absurd (n refl)
+      go : (t : Bool) → x ≡ pick t (weigh (mark_of_line r) b m) 16 → (x ≡ weigh (mark_of_line r) b m) × (t ≡ true)
+      go true q = (q, refl)
+      go false q = absurd (h q)
 
   pub row-none : (b m : ℕ) → m ≤ 4 → row_of_marks r b m ≡ 16 → starts (marks (mark_of_line r) b m) (drop (2 * b) r) ≡ false
   unfolding row_of_marks
@@ -291,23 +291,21 @@ module _ (r : List ℕ) where
           absurd (omega (arith, w, p, q))
       go false q = refl
 
-  -- four more, before those
-  module _ (b n : ℕ) (h : 4 ≤ b) (l : b ≤ n) where
-    pub four-weigh : weigh (mark_of_line r) (b - 4) (n - (b - 4)) ≡ 16 * weigh (mark_of_line r) b (n - b) + weigh (mark_of_line r) (b - 4) 4
+  -- four more, from a on, before those from b on
+  module _ (a b n : ℕ) (h : b ≡ a + 4) (l : b ≤ n) where
+    pub four-weigh : weigh (mark_of_line r) a (n - a) ≡ 16 * weigh (mark_of_line r) b (n - b) + weigh (mark_of_line r) a 4
     unfolding weigh
     four-weigh =
-        let e : n - (b - 4) ≡ suc (suc (suc (suc (n - b)))) = omega arith in
-        let g : suc (suc (suc (suc (b - 4)))) ≡ b = omega arith in
+        let e : n - a ≡ suc (suc (suc (suc (n - b)))) = omega arith in
+        let g : suc (suc (suc (suc a))) ≡ b = omega arith in
         rw (e, g) (omega arith)
 
-    pub four-starts : starts (marks (mark_of_line r) (b - 4) 4) (drop (2 * (b - 4)) r) ≡ true → starts (marks (mark_of_line r) b (n - b)) (drop (2 * b) r)
-        ≡ true
-        → starts (marks (mark_of_line r) (b - 4) (n - (b - 4))) (drop (2 * (b - 4)) r) ≡ true
+    pub four-starts : starts (marks (mark_of_line r) a 4) (drop (2 * a) r) ≡ true → starts (marks (mark_of_line r) b (n - b)) (drop (2 * b) r) ≡ true
+        → starts (marks (mark_of_line r) a (n - a)) (drop (2 * a) r) ≡ true
     four-starts p q =
-        let e : n - (b - 4) ≡ 4 + (n - b) = omega arith in
-        let g : b - 4 + 4 ≡ b = omega arith in
-        ap (λ (x : ℕ). starts (marks (mark_of_line r) (b - 4) x) (drop (2 * (b - 4)) r)) e ∙ starts_more (b - 4) 4 (n - b)
-        ∙ ap₂ (λ (t u : Bool). t && u) p (ap (λ (x : ℕ). starts (marks (mark_of_line r) x (n - b)) (drop (2 * x) r)) g ∙ q)
+        let e : n - a ≡ 4 + (n - b) = omega arith in
+        ap (λ (x : ℕ). starts (marks (mark_of_line r) a x) (drop (2 * a) r)) e ∙ starts_more a 4 (n - b)
+        ∙ ap₂ (λ (t u : Bool). t && u) p (ap (λ (x : ℕ). starts (marks (mark_of_line r) x (n - b)) (drop (2 * x) r)) (sym h) ∙ q)
 
     pub four-fits : n ≤ 32 → weigh (mark_of_line r) b (n - b) < 268435456
     four-fits m =

@@ -69,14 +69,12 @@ fn scan(s: &[u8], at: usize) -> usize
     ensures upper_bound { result < 100000 }
 {
     let mut v: usize = 0;
-    let mut p = at;
-    while p < s.len() {
+    for p in at..s.len() {
         let d = s[p];
         if !is_digit(v, d) {
             return v;
         }
         v = 10 * v + (d as usize - 48);
-        p += 1;
     }
     v
 }
@@ -141,16 +139,17 @@ fn read_digits(s: &[u8], at: usize, first: usize) -> Number
     ensures next_value { result.next ≡ eaten s.now at (decimal result.value) }
 {
     let mut value = first;
-    let mut next = at + 1;
-    while next < s.len() {
+    for next in at + 1..s.len() {
         let d = s[next];
         if !is_digit(value, d) {
             return Number { value, next };
         }
         value = 10 * value + (d as usize - 48);
-        next += 1;
     }
-    Number { value, next }
+    Number {
+        value,
+        next: s.len(),
+    }
 }
 
 // The number at `at`, at most `most`.
@@ -176,10 +175,8 @@ pub fn eat_text(s: &[u8], at: usize, text: &[u8]) -> usize
     ensures { result ≡ eaten s.now at text.now }
 {
     let mut p = at;
-    let mut i = 0;
-    while i < text.len() {
-        p = eat(s, p, text[i]);
-        i += 1;
+    for &byte in text {
+        p = eat(s, p, byte);
     }
     p
 }
@@ -225,9 +222,7 @@ fn last_marks(s: &[u8], at: usize, from: usize, n: usize) -> u32
 {
     let mut row: u32 = 0;
     let mut ok = true;
-    let mut b = n;
-    while from < b {
-        b -= 1;
+    for b in (from..n).rev() {
         let x = s[at + 2 * b + 1];
         ok = mark_ok(s[at + 2 * b], x, ok);
         row = 2 * row + one(x);
@@ -291,14 +286,13 @@ fn read_marks(s: &[u8], at: usize, n: usize) -> Marks
     if s.len() - at < 2 * n {
         return no_marks();
     }
-    let mut b = n / 4 * 4;
-    let mut row = last_marks(s, at, b, n);
+    let fours = n / 4;
+    let mut row = last_marks(s, at, 4 * fours, n);
     if row == 16 {
         return no_marks();
     }
-    while 0 < b {
-        b -= 4;
-        let four = four_marks(s, at, b);
+    for i in (0..fours).rev() {
+        let four = four_marks(s, at, 4 * i);
         if four == 16 {
             return no_marks();
         }
@@ -361,20 +355,19 @@ fn read_columns(s: &[u8], at: usize) -> Head
     ensures { result ≡ columns_read s.now at }
 {
     let mut p = at;
-    let mut k: usize = 0;
-    while k < 32 {
+    for k in 0..32 {
         let comma = eat(s, p, COMMA);
         let q = eat_number(s, comma, k + 1);
         if q == NOWHERE {
             return Head { cells: k, next: p };
         }
         p = q;
-        k += 1;
     }
-    Head { cells: k, next: p }
+    Head { cells: 32, next: p }
 }
 
 // No first line.
+// It only looks like `no_marks`: each is the nothing of its own type, and NOWHERE is no default of a number.
 fn no_head() -> Head
     ensures { result ≡ no_head }
 {

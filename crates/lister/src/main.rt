@@ -8,7 +8,6 @@ ghost use Rattle.std.specs.Prelude.{◌*◌, ◌≤◌, ◌<◌, length};
 use inputs::Input;
 use listhead::listed_head;
 use listing::row_line;
-use records::ReadAnswer;
 use say_refusals::Place;
 
 // Prints the cell lines, one after the other; whether all of them were written.
@@ -37,15 +36,18 @@ fn tell(rt: &HostRuntime, out: &mut [u8], file: &[u8])
     requires { 65536 ≤ length out.old }
 {
     let read = sitefile::read_site(file);
-    let answer = read.answer;
-    match answer {
-        ReadAnswer::Done => reply::fine(rt),
-        ReadAnswer::Refused(number, offset) => {
-            reply::named(rt, 1, file, Input::SiteFile);
-            let end = say_refusals::put_refused(out, 0, number as usize, Place::Byte(offset));
-            reply::no(rt, out, end);
-        }
-    }
+    let Err(refusal) = read.answer else {
+        reply::fine(rt);
+        return;
+    };
+    reply::named(rt, 1, file, Input::SiteFile);
+    let end = say_refusals::put_refused(
+        out,
+        0,
+        refusal.number as usize,
+        Place::Byte(refusal.place),
+    );
+    reply::no(rt, out, end);
 }
 
 // Reads at most 4,096 bytes from standard input, and prints their listing.

@@ -6,18 +6,17 @@ use mathlib.Core.List.{List, ◌++◌, append-nil}
 use native.Mathlib.Nat.{mul-le-mul_right, suc-mul}
 use native.Mathlib.Omega.{arith}
 use lib.ListN.{length, drop}
+use Rattle.std.specs.Prelude.{Result, Ok, Err}
 use Rattle.laws.proofs.Part.{part-append}
 use Rattle.theory.specs.Greedy.{Outcome, planned, no_room, greedy}
 use Rattle.theory.proofs.Exact.{planned-size}
 use Rattle.site.specs.Record.{positions, size, fault_of}
 use Rattle.site.specs.Reach.{net_of}
 use Rattle.site.specs.declared.Site.{Site}
-use Rattle.site.specs.declared.Fault.TheVariants.{Fine}
 use Rattle.site.proofs.Faults.{fine-sized, few_bytes}
 use Rattle.planner.specs.Plan.{answer_of, table_of, plan_table}
 use Rattle.planner.proofs.Answer.{run-table}
-use Rattle.records.specs.declared.ReadAnswer.{ReadAnswer}
-use Rattle.records.specs.declared.ReadAnswer.TheVariants.{Done, Refused}
+use Rattle.records.specs.declared.Refusal.{Refusal}
 use Rattle.records.specs.Bytes.{Bytes}
 use Rattle.sitefile.specs.Read.{read_site}
 use Rattle.sitefile.proofs.Trip.{read-fine}
@@ -41,7 +40,7 @@ front f w u v i (suc n) h =
 
 -- the cell lines, read from the table that the planner leaves
 cells-read :
-    (s : Site) (t : List ℕ) → fault_of s ≡ Fine → 65536 ≤ length t →
+    (s : Site) (t : List ℕ) → fault_of s ≡ Ok tt → 65536 ≤ length t →
     cells_of s (greedy (net_of s)) ≡ cell_lines s.channels (positions s) (plan_table s t) 0 (row_count (answer_of (greedy (net_of s))) s.cells)
 cells-read s t fine long = go (greedy (net_of s)) refl
   where
@@ -57,11 +56,11 @@ cells-read s t fine long = go (greedy (net_of s)) refl
     go (no_room c m) e = unfold cell_lines in refl
 
 parts :
-    (s : Site) (t : List ℕ) (a : ReadAnswer) → (a ≡ Done → fault_of s ≡ Fine) → 65536 ≤ length t →
+    (s : Site) (t : List ℕ) (a : Result Unit Refusal) → (a ≡ Ok tt → fault_of s ≡ Ok tt) → 65536 ≤ length t →
     listing_of s a ≡ head_of s a ++ cell_lines (rest_of s a).channels (rest_of s a).width (table_left s a t) 0 (rest_of s a).rows
 unfolding site_rest
-parts s t Done fine long = ap (λ (l : List ℕ). head_lines s ++ l) (cells-read s t (fine refl) long)
-parts s t (Refused number offset) fine long = unfold cell_lines in sym (append-nil (phrase listing_lines (unread_line number offset)))
+parts s t (Ok u) fine long = ap (λ (l : List ℕ). head_lines s ++ l) (cells-read s t (fine refl) long)
+parts s t (Err r) fine long = unfold cell_lines in sym (append-nil (phrase listing_lines (unread_line r)))
 
 -- what the program writes, all together: `listed_head` gives the first part, and `row_line` each line of the second
 pub printed :

@@ -1,12 +1,11 @@
 -- The two parts in which the program writes a listing: the head, which is one line or four, and then a line for each planned cell.
-use Rattle.std.specs.Prelude.{ℕ, ◌*◌, ◌≤◌, ◌<◌, List, length}
+use Rattle.std.specs.Prelude.{ℕ, ◌*◌, ◌≤◌, ◌<◌, List, length, Result, Ok, Err}
 use Rattle.theory.specs.Greedy.{greedy}
 use Rattle.site.specs.Record.{positions}
 use Rattle.site.specs.Reach.{net_of}
 use Rattle.site.specs.declared.Site.{Site}
 use Rattle.planner.specs.Plan.{answer_of, plan_table}
-use Rattle.records.specs.declared.ReadAnswer.{ReadAnswer}
-use Rattle.records.specs.declared.ReadAnswer.TheVariants.{Done, Refused}
+use Rattle.records.specs.declared.Refusal.{Refusal}
 use Rattle.sitefile.specs.Read.{read_site}
 use Rattle.phrases.specs.Phrases.{phrase}
 use Rattle.say_listing.specs.Lines.{listing_lines}
@@ -14,14 +13,14 @@ use Rattle.listing.specs.Answers.{row_count}
 use Rattle.listhead.specs.Listing.{head_lines, unread_line}
 use Rattle.listhead.specs.declared.Rest.{Rest}
 
-abbrev pub head_of : Site → ReadAnswer → List ℕ
-head_of s Done = head_lines s
-head_of s (Refused number offset) = phrase listing_lines (unread_line number offset)
+abbrev pub head_of : Site → Result Unit Refusal → List ℕ
+head_of s (Ok u) = head_lines s
+head_of s (Err r) = phrase listing_lines (unread_line r)
 
 -- the table that the cell lines are read from
-abbrev pub table_left : Site → ReadAnswer → List ℕ → List ℕ
-table_left s Done t = plan_table s t
-table_left s (Refused number offset) t = t
+abbrev pub table_left : Site → Result Unit Refusal → List ℕ → List ℕ
+table_left s (Ok u) t = plan_table s t
+table_left s (Err r) t = t
 
 -- the head's length, and of the cell lines their number and the positions and channels of a row
 unfoldable pub site_rest : Site → Rest
@@ -33,9 +32,9 @@ site_rest s =
       channels = s.channels;
     }
 
-abbrev pub rest_of : Site → ReadAnswer → Rest
-rest_of s Done = site_rest s
-rest_of s (Refused number offset) = record { end = length (phrase listing_lines (unread_line number offset)); rows = 0; width = 0; channels = 0 }
+abbrev pub rest_of : Site → Result Unit Refusal → Rest
+rest_of s (Ok u) = site_rest s
+rest_of s (Err r) = record { end = length (phrase listing_lines (unread_line r)); rows = 0; width = 0; channels = 0 }
 
 -- the same of a file's bytes
 abbrev pub file_head : List ℕ → List ℕ

@@ -1,17 +1,15 @@
 // The head of a site file's listing, written into a lent buffer, and the plan of an accepted site, in a lent table: the lines of the cells are read from it.
 #![tactic(auto)]
 
-ghost use Rattle.std.specs.Prelude.{◌≡◌, ◌≤◌, length};
+ghost use Rattle.std.specs.Prelude.{◌≡◌, ◌≤◌, length, Ok};
 ghost use Rattle.std.proofs.lemmas.List.Edits.{sets};
 ghost use Rattle.site.specs.Record.{fault_of};
-ghost use Rattle.site.specs.declared.Fault.TheVariants.{Fine};
 ghost use Rattle.planner.specs.Plan.{plan_table};
 ghost use Rattle.listhead.specs.Listing.{head_lines};
 ghost use Rattle.listhead.specs.Parts.{file_head, file_table, site_rest, file_rest, RestFits};
 
 use listing::{put_answers, row_count};
 use phrases::Phrase;
-use records::ReadAnswer;
 use say_listing::{REFUSED, put_line};
 use site::Site;
 
@@ -26,7 +24,7 @@ pub struct Rest {
 
 // The head of a site that was read, and its plan in the lent table.
 fn site_head(out: &mut [u8], site: Site, table: &mut [u8]) -> Rest
-    requires site_value { fault_of site ≡ Fine }
+    requires site_value { fault_of site ≡ Ok tt }
     requires in_bounds { (800 ≤ length out.old) × (65536 ≤ length table.old) }
     ensures stored { out.new ≡ sets out.old 0 (head_lines site) }
     ensures table { table.new ≡ plan_table site table.old }
@@ -60,8 +58,12 @@ pub fn listed_head(out: &mut [u8], file: &[u8], table: &mut [u8]) -> Rest
     let answer = read.answer;
     let site = read.site;
     match answer {
-        ReadAnswer::Refused(number, offset) => {
-            let end = put_line(out, 0, Phrase::Row(REFUSED, number as usize, offset, 0, 0));
+        Err(refusal) => {
+            let end = put_line(
+                out,
+                0,
+                Phrase::Row(REFUSED, refusal.number as usize, refusal.place, 0, 0),
+            );
             Rest {
                 end,
                 rows: 0,
@@ -69,6 +71,6 @@ pub fn listed_head(out: &mut [u8], file: &[u8], table: &mut [u8]) -> Rest
                 channels: 0,
             }
         }
-        ReadAnswer::Done => site_head(out, site, table),
+        Ok(()) => site_head(out, site, table),
     }
 }

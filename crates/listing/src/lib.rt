@@ -7,13 +7,13 @@ ghost use Rattle.phrases.specs.Put.{Put};
 ghost use Rattle.say_listing.specs.Lines.{cell_listed};
 ghost use Rattle.listing.specs.Answers.{site_line, chain_line, load_line, plan_line, row_count, head_with};
 
-use judges::{ChainAnswer, LoadAnswer};
+use judges::{ChainVerdict, LoadVerdict};
 use phrases::Phrase;
-use planner::PlanAnswer;
+use planner::PlanError;
 use say_listing::{
     CHAIN_NO, CHAIN_YES, LOAD_HOLDS, LOAD_OVER, PLAN_DONE, PLAN_SHORT, SITE, put_line,
 };
-use site::Site;
+use site::{Fault, Site};
 
 // The line of the site.
 fn site_line(site: Site) -> Phrase
@@ -25,54 +25,52 @@ fn site_line(site: Site) -> Phrase
     Phrase::Row(SITE, cells, slots, channels, 0)
 }
 
-// The line of the chain judge. A refusal has none: a site that was read is never refused.
-fn chain_line(answer: ChainAnswer) -> Phrase
+// The line of the chain judge. A refusal has none: a site that was read is never refused. No twin of `chain_phrase` in `whyrows`: the rows of another table.
+fn chain_line(answer: Result<ChainVerdict, Fault>) -> Phrase
     ensures { result ≡ chain_line answer }
 {
     match answer {
-        ChainAnswer::Chained => Phrase::Row(CHAIN_YES, 0, 0, 0, 0),
-        ChainAnswer::Broken(a, b, c) => Phrase::Row(CHAIN_NO, a, b, c, 0),
-        ChainAnswer::Refused(_) => Phrase::Silent,
+        Ok(ChainVerdict::Chained) => Phrase::Row(CHAIN_YES, 0, 0, 0, 0),
+        Ok(ChainVerdict::Broken(a, b, c)) => Phrase::Row(CHAIN_NO, a, b, c, 0),
+        Err(_) => Phrase::Silent,
     }
 }
 
 // The line of the load test.
-fn load_line(answer: LoadAnswer) -> Phrase
+fn load_line(answer: Result<LoadVerdict, Fault>) -> Phrase
     ensures { result ≡ load_line answer }
 {
     match answer {
-        LoadAnswer::Holds => Phrase::Row(LOAD_HOLDS, 0, 0, 0, 0),
-        LoadAnswer::Over(cell, excess) => Phrase::Row(LOAD_OVER, cell, excess, 0, 0),
-        LoadAnswer::Refused(_) => Phrase::Silent,
+        Ok(LoadVerdict::Holds) => Phrase::Row(LOAD_HOLDS, 0, 0, 0, 0),
+        Ok(LoadVerdict::Over(cell, excess)) => Phrase::Row(LOAD_OVER, cell, excess, 0, 0),
+        Err(_) => Phrase::Silent,
     }
 }
 
 // The line of the planner. A table of 65,536 bytes is never short.
-fn plan_line(answer: PlanAnswer) -> Phrase
+fn plan_line(answer: Result<(), PlanError>) -> Phrase
     ensures { result ≡ plan_line answer }
 {
     match answer {
-        PlanAnswer::Done => Phrase::Row(PLAN_DONE, 0, 0, 0, 0),
-        PlanAnswer::NoRoom(cell, short) => Phrase::Row(PLAN_SHORT, cell, short, 0, 0),
-        PlanAnswer::TableShort => Phrase::Silent,
-        PlanAnswer::Refused(_) => Phrase::Silent,
+        Ok(()) => Phrase::Row(PLAN_DONE, 0, 0, 0, 0),
+        Err(PlanError::NoRoom(cell, short)) => Phrase::Row(PLAN_SHORT, cell, short, 0, 0),
+        Err(PlanError::TableShort) => Phrase::Silent,
+        Err(PlanError::Record(_)) => Phrase::Silent,
     }
 }
 
 // How many cell lines follow: one for each cell of a planned site.
-pub fn row_count(reply: PlanAnswer, cells: usize) -> usize
+pub fn row_count(reply: Result<(), PlanError>, cells: usize) -> usize
     ensures { result ≡ row_count reply cells }
 {
     match reply {
-        PlanAnswer::Done => cells,
-        PlanAnswer::NoRoom(_, _) => 0,
-        PlanAnswer::TableShort => 0,
-        PlanAnswer::Refused(_) => 0,
+        Ok(()) => cells,
+        Err(_) => 0,
     }
 }
 
 // The lines of the head, with the planner's answer, and where they end.
-pub fn put_answers(out: &mut [u8], site: Site, reply: PlanAnswer) -> usize
+pub fn put_answers(out: &mut [u8], site: Site, reply: Result<(), PlanError>) -> usize
     requires { 800 ≤ length out.old }
     ensures { Put out.old 0 (head_with site reply) 800 out.new result }
 {

@@ -4,22 +4,22 @@ use mathlib.Core.Path.{◌≡◌, refl, sym, ap, ◌∙◌}
 use mathlib.Core.List.{List, ◌++◌}
 use native.Mathlib.Omega.{arith}
 use lib.ListN.{length, take}
+use Rattle.std.specs.Prelude.{Result, Ok, Err}
 use lib.Seq.{sets, length-sets}
 use Rattle.laws.proofs.Stores.{take-sets}
 use Rattle.site.specs.declared.Site.{Site}
 use Rattle.records.specs.Bytes.{Bytes}
-use Rattle.records.specs.declared.ReadAnswer.{ReadAnswer}
-use Rattle.records.specs.declared.ReadAnswer.TheVariants.{Done, Refused}
+use Rattle.records.specs.declared.Refusal.{Refusal}
 use Rattle.sitefile.specs.Read.{read_site}
 use Rattle.listhead.specs.Listing.{listing, cell_lines}
 use Rattle.listhead.specs.Parts.{head_of, rest_of, site_rest, file_head, file_table, file_rest, RestFits}
 use Rattle.listhead.specs.declared.Rest.{Rest}
 use Rattle.listhead.proofs.Printed.{printed}
 
-ends : (s : Site) (a : ReadAnswer) → (rest_of s a).end ≡ length (head_of s a)
+ends : (s : Site) (a : Result Unit Refusal) → (rest_of s a).end ≡ length (head_of s a)
 unfolding site_rest
-ends s Done = refl
-ends s (Refused number offset) = refl
+ends s (Ok u) = refl
+ends s (Err r) = refl
 
 module _ (f blank head : List ℕ) {rest : Rest} (stored : head ≡ sets blank 0 (file_head f)) (is : rest ≡ file_rest f) (fits : RestFits rest) where
   end : rest.end ≡ length (file_head f)

@@ -9,7 +9,7 @@ ghost use Rattle.listhead.specs.Listing.{listing, cell_lines};
 
 use listhead::listed_head;
 use listing::row_line;
-use records::Written;
+use records::WriteError;
 use text::put_text;
 
 // How many bytes the cell lines have; `line` is room for one of them.
@@ -19,10 +19,8 @@ fn rows_len(line: &mut [u8], table: &[u8], rows: usize, width: usize, channels: 
     ensures { (result ≡ length (cell_lines channels width table.now 0 rows)) × (result ≤ 24576 * rows) }
 {
     let mut n = 0;
-    let mut i = 0;
-    while i < rows {
+    for i in 0..rows {
         n += row_line(line, table, width, channels, i);
-        i += 1;
     }
     n
 }
@@ -43,11 +41,9 @@ fn put_rows(
     ensures { out.new ≡ sets out.old at (cell_lines channels width table.now 0 rows) }
 {
     let mut next = at;
-    let mut i = 0;
-    while i < rows {
+    for i in 0..rows {
         let n = row_line(line, table, width, channels, i);
         next = put_text(out, next, &line[..n]);
-        i += 1;
     }
 }
 
@@ -59,7 +55,7 @@ fn lay_listing(
     width: usize,
     channels: usize,
     out: &mut [u8],
-) -> Written
+) -> Result<usize, WriteError>
     requires rows_bound { (rows ≤ 32) × (width ≤ 2048) × (rows * width ≤ length table.now) × (0 < rows → 0 < channels) }
     requires head_len_bound { length head.now ≤ 800 }
     ensures answer { result ≡ written (head.now ++ cell_lines channels width table.now 0 rows) out.old }
@@ -69,15 +65,15 @@ fn lay_listing(
     let more = rows_len(&mut line, table, rows, width, channels);
     let need = head.len() + more;
     if out.len() < need {
-        return Written::OutShort(need);
+        return Err(WriteError::OutShort(need));
     }
     let at = put_text(out, 0, head);
     put_rows(out, at, &mut line, table, rows, width, channels);
-    Written::Done(need)
+    Ok(need)
 }
 
 // The listing of a site file.
-pub fn list_text(bytes: &[u8], out: &mut [u8]) -> Written
+pub fn list_text(bytes: &[u8], out: &mut [u8]) -> Result<usize, WriteError>
     ensures answer { result ≡ written (listing bytes.now) out.old }
     ensures out { out.new ≡ laid_over (listing bytes.now) out.old }
 {

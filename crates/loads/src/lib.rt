@@ -84,17 +84,18 @@ pub fn loads_of(loads: &[u16; 32], word: u32) -> u32
     ensures { (result ≡ loads_in loads.now word) × (result ≤ 2097120) }
 {
     let mut sum: u32 = 0;
-    let mut summed: usize = 0;
     let mut j = lowest(word, 0, 32);
-    while j < 32 {
-        if 3 <= summed {
-            return loads_of_many(loads, word);
+    for _member in 0usize..3 {
+        if 32 <= j {
+            return sum;
         }
         sum += wide(loads[j]);
-        summed += 1;
         j = lowest(word, j + 1, 32);
     }
-    sum
+    if 32 <= j {
+        return sum;
+    }
+    loads_of_many(loads, word)
 }
 
 // The load of the cell at index `i`.

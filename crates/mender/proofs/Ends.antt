@@ -1,7 +1,7 @@
 -- How a call ends. Where every cell stands, the sets are those of what stands and of what stood, so that the changes that are written are the rule's.
 -- And the ways out of the call, each with its answer, its table and its list. Assumes nothing.
 use mathlib.Core.Path.{◌≡◌, refl, sym, ap, ap₂, ◌∙◌}
-use mathlib.Core.Bool.{Bool, false}
+use mathlib.Core.Bool.{Bool}
 use mathlib.Core.List.{List}
 use Prim.Native.Nat.{ℕ, ◌+◌, ◌-◌, ◌*◌, ◌≤◌, ◌<◌}
 use native.Mathlib.Omega.{arith}
@@ -10,23 +10,23 @@ use lib.ListN.{length}
 use Rattle.laws.specs.Bits.{bit_in}
 use Rattle.theory.specs.Net.{Net, Reserved}
 use Rattle.theory.specs.Greedy.{reserved, Outcome, planned, no_room}
-use Rattle.site.specs.Record.{size, fault_of, is_fine}
+use Rattle.std.specs.Prelude.{Ok, Err}
+use Rattle.site.specs.Record.{size, fault_of}
 use Rattle.site.specs.Reach.{clash_of, net_of}
 use Rattle.site.proofs.Reach.{clash-sym}
 use Rattle.site.specs.declared.Site.{Site}
 use Rattle.site.specs.declared.Fault.{Fault}
-use Rattle.site.specs.declared.Fault.TheVariants.{Fine}
 use Rattle.mending.specs.Mend.{mend, overlay}
 use Rattle.mending.specs.Changes.{differ, changes, follow}
 use Rattle.mending.proofs.Changes.{changes-length, changes-cong}
 use Rattle.mending.proofs.Mended.{mended-follows}
 use Rattle.standing.specs.Stand.{number_of, stood_of}
 use Rattle.standing.specs.Sets.{stands_in, TwoWay, Says}
-use Rattle.standing.specs.declared.Stood.TheVariants.{All, Short}
+use Rattle.standing.specs.declared.Short.{Short}
 use Rattle.mender.specs.Mend.{listed_changes, mend_answer_of, table_after, list_after, mend_answer, mend_table, mend_list}
 use Rattle.changelist.specs.Sets.{all_count, listed_in, table_with, AllWithin}
 use Rattle.changelist.proofs.Lists.{changes-within}
-use Rattle.mender.specs.declared.MendAnswer.TheVariants.{TableShort, NoRoom, Refused}
+use Rattle.mender.specs.declared.MendError.TheVariants.{TableShort, NoRoom, Record}
 
 -- ---- what stands, by the answer of the cells' turns
 
@@ -41,25 +41,27 @@ pub record Lacking (s : Net) (u : List ℕ) (cell short : ℕ) : Type 0 where
   pub named : cell ≡ index + 1
 
 module _ (s : Net) (u : List ℕ) where
-  whole-at : (o : Outcome) (m : ℕ) → mend s u ≡ o → All m ≡ stood_of s u o → Whole s u m
+  whole-at : (o : Outcome) (m : ℕ) → mend s u ≡ o → Ok m ≡ stood_of s u o → Whole s u m
   whole-at (planned t) m e h = record { table = t; mends = e; all = cc }
   whole-at (no_room c l) m e h = let z : ◌≡◌ {A = ℕ} 0 1 = cc in absurd (omega arith)
 
-  pub whole : (m : ℕ) → All m ≡ stood_of s u (mend s u) → Whole s u m
-  whole m = whole-at (mend s u) m refl
+  pub whole-of : (m : ℕ) → Ok m ≡ stood_of s u (mend s u) → Whole s u m
+  whole-of m = whole-at (mend s u) m refl
 
-  lacking-at : (o : Outcome) (c m : ℕ) → mend s u ≡ o → Short c m ≡ stood_of s u o → Lacking s u c m
-  lacking-at (planned t) c m e h = let z : ◌≡◌ {A = ℕ} 0 1 = cc in absurd (omega arith)
-  lacking-at (no_room i l) c m e h = let q : l ≡ m = cc in record { index = i; mends = e ∙ ap (no_room i) q; named = cc }
+  lacking-at : (o : Outcome) (r : Short) → mend s u ≡ o → Err r ≡ stood_of s u o → Lacking s u r.0 r.1
+  lacking-at (planned t) r e h = let z : ◌≡◌ {A = ℕ} 0 1 = cc in absurd (omega arith)
+  lacking-at (no_room i l) r e h =
+      let q : r ≡ record { 0 = i + 1; 1 = l } = cc in
+      record { index = i; mends = e ∙ ap (λ (x : Short). no_room i x.1) (sym q); named = ap (λ (x : Short). x.0) q }
 
-  pub lacking : (c m : ℕ) → Short c m ≡ stood_of s u (mend s u) → Lacking s u c m
-  lacking c m = lacking-at (mend s u) c m refl
+  pub lacking : (r : Short) → Err r ≡ stood_of s u (mend s u) → Lacking s u r.0 r.1
+  lacking r = lacking-at (mend s u) r refl
 
 -- ---- a cell that finds no room
 
 module _ (s : Net) (u l : List ℕ) (cell short : ℕ) (lack : Lacking s u cell short) where
-  pub no_room-law : NoRoom cell short ≡ mend_answer_of s u l (mend s u)
-  no_room-law = ap (λ c. NoRoom c short) lack.named ∙ sym (ap (mend_answer_of s u l) lack.mends)
+  pub no_room-law : Err (NoRoom cell short) ≡ mend_answer_of s u l (mend s u)
+  no_room-law = ap (λ c. Err (NoRoom c short)) lack.named ∙ sym (ap (mend_answer_of s u l) lack.mends)
 
 -- ---- every cell stands
 
@@ -112,16 +114,16 @@ both_ways-law s rows e a b =
     ap (λ (f : ℕ → ℕ → Bool). f a b) e ∙ clash-sym s.rule s.reach a b ∙ sym (ap (λ (f : ℕ → ℕ → Bool). f b a) e)
 
 module _ (s : Site) (u l : List ℕ) where
-  pub refused-ends : (f : Fault) → fault_of s ≡ f → is_fine f ≡ false → (Refused f ≡ mend_answer s u l) × ((u ≡ mend_table s u l) × (l ≡ mend_list s u l))
+  pub refused-ends : (f : Fault) → fault_of s ≡ Err f → (Err (Record f) ≡ mend_answer s u l) × ((u ≡ mend_table s u l) × (l ≡ mend_list s u l))
   unfolding mend_answer mend_table mend_list
-  refused-ends f e h = rw (e, h) (refl, (refl, refl))
+  refused-ends f e = rw e (refl, (refl, refl))
 
-  pub short-ends : fault_of s ≡ Fine → length u < size s → (TableShort ≡ mend_answer s u l) × ((u ≡ mend_table s u l) × (l ≡ mend_list s u l))
+  pub short-ends : fault_of s ≡ Ok tt → length u < size s → (Err TableShort ≡ mend_answer s u l) × ((u ≡ mend_table s u l) × (l ≡ mend_list s u l))
   unfolding mend_answer mend_table mend_list
   short-ends e h = rw (e, lt-ltb (length u) (size s) h) (refl, (refl, refl))
 
   -- record and table are good
-  module _ (e : fault_of s ≡ Fine) (h : size s ≤ length u) where
+  module _ (e : fault_of s ≡ Ok tt) (h : size s ≤ length u) where
     pub good-answer : mend_answer s u l ≡ mend_answer_of (net_of s) u l (mend (net_of s) u)
     unfolding mend_answer
     good-answer = rw (e, le-ltb (length u) (size s) h)

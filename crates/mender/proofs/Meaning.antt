@@ -21,12 +21,12 @@ use lib.Seq.{sets}
 use Rattle.laws.specs.Choice.{pick}
 use Rattle.theory.specs.Net.{Net, Valid, Covers, LoadTest}
 use Rattle.theory.specs.Greedy.{reserved, Outcome, planned, no_room}
-use Rattle.site.specs.Record.{positions, size, fault_of, is_fine}
+use Rattle.std.specs.Prelude.{Result, Ok, Err}
+use Rattle.site.specs.Record.{positions, size, fault_of, is_fine, answer_with}
 use Rattle.site.specs.Reach.{net_of}
 use Rattle.site.proofs.PassedOn.{passed_on}
 use Rattle.site.specs.declared.Site.{Site}
 use Rattle.site.specs.declared.Fault.{Fault}
-use Rattle.site.specs.declared.Fault.TheVariants.{Fine, Size, Rule, Load, Reach, Blocked}
 use Rattle.theory.specs.Named.{Fails}
 use Rattle.theory.proofs.Run.{run-fails}
 use Rattle.mending.specs.Mend.{stand, mend, overlay}
@@ -34,13 +34,13 @@ use Rattle.mending.proofs.Changes.{few-changes}
 use Rattle.mending.proofs.Mended.{mended-valid, test-mends}
 use Rattle.standing.specs.Stand.{number_of}
 use Rattle.mender.specs.Mend.{listed_changes, too_short, mend_answer_of, table_after, list_after, mend_answer, mend_table, mend_list}
-use Rattle.mender.specs.declared.MendAnswer.{MendAnswer}
-use Rattle.mender.specs.declared.MendAnswer.TheVariants.{Done, TableShort, NoRoom, ListShort, Refused}
+use Rattle.mender.specs.declared.MendError.{MendError}
+use Rattle.mender.specs.declared.MendError.TheVariants.{TableShort, NoRoom, ListShort, Record}
 use Rattle.mender.proofs.Ends.{good-answer, good-table, good-list}
 
 -- a call that is done, with n changes: t is what stands
 pub record Mended (s : Site) (u l : List ℕ) (n : ℕ) : Type 0 where
-  pub fine : fault_of s ≡ Fine
+  pub fine : fault_of s ≡ Ok tt
   pub long : size s ≤ length u
   pub stands : List ℕ
   pub mends : mend (net_of s) u ≡ planned stands
@@ -52,53 +52,47 @@ pub record Mended (s : Site) (u l : List ℕ) (n : ℕ) : Type 0 where
 -- ---- the ways of a call: f is the record's fault, b whether the table is short, o what mending comes to
 
 module _ (s : Net) (u l : List ℕ) where
-  abbrev answer_by : Fault → Bool → Outcome → MendAnswer
-  answer_by f b o = pick (is_fine f) (pick b TableShort (mend_answer_of s u l o)) (Refused f)
+  abbrev answer_by : Result Unit Fault → Bool → Outcome → Result ℕ MendError
+  answer_by f b o = answer_with Record f (pick b (Err TableShort) (mend_answer_of s u l o))
 
   -- which way an answer was come by
-  abbrev Way : Fault → Bool → Outcome → MendAnswer → Type 0
-  Way f b o (Done n) = (f ≡ Fine) × (b ≡ false) × ((t : List ℕ) × ((o ≡ planned t) × (n ≡ number_of s u t) × (too_short l (number_of s u t) ≡ false)))
-  Way f b o TableShort = (f ≡ Fine) × (b ≡ true)
-  Way f b o (NoRoom c m) = (f ≡ Fine) × (b ≡ false) × ((k : ℕ) × ((c ≡ k + 1) × (o ≡ no_room k m)))
-  Way f b o (ListShort n) = (f ≡ Fine) × (b ≡ false) × ((t : List ℕ) × ((o ≡ planned t) × (n ≡ number_of s u t) × (too_short l (number_of s u t) ≡ true)))
-  Way f b o (Refused g) = is_fine g ≡ false
+  abbrev Way : Result Unit Fault → Bool → Outcome → Result ℕ MendError → Type 0
+  Way f b o (Ok n) = (f ≡ Ok tt) × (b ≡ false) × ((t : List ℕ) × ((o ≡ planned t) × (n ≡ number_of s u t) × (too_short l (number_of s u t) ≡ false)))
+  Way f b o (Err TableShort) = (f ≡ Ok tt) × (b ≡ true)
+  Way f b o (Err (NoRoom c m)) = (f ≡ Ok tt) × (b ≡ false) × ((k : ℕ) × ((c ≡ k + 1) × (o ≡ no_room k m)))
+  Way f b o (Err (ListShort n)) =
+      (f ≡ Ok tt) × (b ≡ false) × ((t : List ℕ) × ((o ≡ planned t) × (n ≡ number_of s u t) × (too_short l (number_of s u t) ≡ true)))
+  Way f b o (Err (Record g)) = f ≡ Err g
 
-  by-list : (t : List ℕ) (q : Bool) → too_short l (number_of s u t) ≡ q → Way Fine false (planned t)
-      (pick q (ListShort (number_of s u t)) (Done (number_of s u t)))
+  by-list : (t : List ℕ) (q : Bool) → too_short l (number_of s u t) ≡ q → Way (Ok tt) false (planned t)
+      (pick q (Err (ListShort (number_of s u t))) (Ok (number_of s u t)))
   by-list t true e = (refl, refl, (t, (refl, refl, e)))
   by-list t false e = (refl, refl, (t, (refl, refl, e)))
 
-  way_of : (f : Fault) (b : Bool) (o : Outcome) → Way f b o (answer_by f b o)
-  way_of Fine true o = (refl, refl)
-  way_of Fine false (planned t) = by-list t (too_short l (number_of s u t)) refl
-  way_of Fine false (no_room c m) = (refl, refl, (c, (refl, refl)))
-  way_of Size b o = refl
-  way_of Rule b o = refl
-  way_of (Load k) b o = refl
-  way_of (Reach k) b o = refl
-  way_of (Blocked k) b o = refl
+  way_of : (f : Result Unit Fault) (b : Bool) (o : Outcome) → Way f b o (answer_by f b o)
+  way_of (Ok x) true o = (refl, refl)
+  way_of (Ok x) false (planned t) = by-list t (too_short l (number_of s u t)) refl
+  way_of (Ok x) false (no_room c m) = (refl, refl, (c, (refl, refl)))
+  way_of (Err g) b o = refl
 
   -- no other answer than done leaves a mark
-  list-kept : (q : Bool) (n : ℕ) (t x : List ℕ) → ((m : ℕ) → pick q (ListShort n) (Done n) ≡ Done m → ⊥) → (pick q u t ≡ u) × (pick q l x ≡ l)
+  list-kept : (q : Bool) (n : ℕ) (t x : List ℕ) → ((m : ℕ) → ◌≡◌ {A = Result ℕ MendError} (pick q (Err (ListShort n)) (Ok n)) (Ok m) → ⊥)
+      → (pick q u t ≡ u) × (pick q l x ≡ l)
   list-kept true n t x h = (refl, refl)
   list-kept false n t x h = absurd (h n refl)
 
-  kept_by : (f : Fault) (b : Bool) (o : Outcome) → ((m : ℕ) → answer_by f b o ≡ Done m → ⊥)
+  kept_by : (f : Result Unit Fault) (b : Bool) (o : Outcome) → ((m : ℕ) → answer_by f b o ≡ Ok m → ⊥)
       → (pick (is_fine f) (pick b u (table_after s u l o)) u ≡ u) × (pick (is_fine f) (pick b l (list_after s u l o)) l ≡ l)
-  kept_by Fine true o h = (refl, refl)
-  kept_by Fine false (planned t) h = list-kept (too_short l (number_of s u t)) (number_of s u t) (overlay t u) (sets l 0 (listed_changes s u t)) h
-  kept_by Fine false (no_room c m) h = (refl, refl)
-  kept_by Size b o h = (refl, refl)
-  kept_by Rule b o h = (refl, refl)
-  kept_by (Load k) b o h = (refl, refl)
-  kept_by (Reach k) b o h = (refl, refl)
-  kept_by (Blocked k) b o h = (refl, refl)
+  kept_by (Ok x) true o h = (refl, refl)
+  kept_by (Ok x) false (planned t) h = list-kept (too_short l (number_of s u t)) (number_of s u t) (overlay t u) (sets l 0 (listed_changes s u t)) h
+  kept_by (Ok x) false (no_room c m) h = (refl, refl)
+  kept_by (Err g) b o h = (refl, refl)
 
-  no-refusal : (b : Bool) (o : Outcome) (f : Fault) → pick b TableShort (mend_answer_of s u l o) ≡ Refused f → ⊥
+  no-refusal : (b : Bool) (o : Outcome) (f : Fault) → pick b (Err TableShort) (mend_answer_of s u l o) ≡ Err (Record f) → ⊥
   no-refusal true o f e = let z : ◌≡◌ {A = ℕ} 0 1 = cc in omega arith
   no-refusal false (planned t) f e = neither (too_short l (number_of s u t)) e
     where
-      neither : (q : Bool) → pick q (ListShort (number_of s u t)) (Done (number_of s u t)) ≡ Refused f → ⊥
+      neither : (q : Bool) → pick q (Err (ListShort (number_of s u t))) (Ok (number_of s u t)) ≡ Err (Record f) → ⊥
       neither true e = let z : ◌≡◌ {A = ℕ} 0 1 = cc in omega arith
       neither false e = let z : ◌≡◌ {A = ℕ} 0 1 = cc in omega arith
   no-refusal false (no_room c m) f e = let z : ◌≡◌ {A = ℕ} 0 1 = cc in omega arith
@@ -106,27 +100,27 @@ module _ (s : Net) (u l : List ℕ) where
 -- ---- the call
 
 module _ (s : Site) (u l : List ℕ) where
-  way : (a : MendAnswer) → mend_answer s u l ≡ a → Way (net_of s) u l (fault_of s) (ltb (length u) (size s)) (mend (net_of s) u) a
+  way : (a : Result ℕ MendError) → mend_answer s u l ≡ a → Way (net_of s) u l (fault_of s) (ltb (length u) (size s)) (mend (net_of s) u) a
   unfolding mend_answer
   way a e = subst (Way (net_of s) u l (fault_of s) (ltb (length u) (size s)) (mend (net_of s) u)) e
       (way_of (net_of s) u l (fault_of s) (ltb (length u) (size s)) (mend (net_of s) u))
 
   -- 1, 24, 2, 3 and 20: a refusal carries the record's own fault, and a record at fault is refused
-  pub mend-refused : (f : Fault) → mend_answer s u l ≡ Refused f ↔ ((f ≡ fault_of s) × (is_fine f ≡ false))
+  pub mend-refused : (f : Fault) → mend_answer s u l ≡ Err (Record f) ↔ (fault_of s ≡ Err f)
   unfolding mend_answer
-  mend-refused = passed_on Refused (λ f g e. cc) (fault_of s) _ (no-refusal (net_of s) u l (ltb (length u) (size s)) (mend (net_of s) u))
+  mend-refused = passed_on Record (λ f g e. cc) (fault_of s) _ (no-refusal (net_of s) u l (ltb (length u) (size s)) (mend (net_of s) u))
 
   -- done, and what it leaves
-  pub done-leaves : fault_of s ≡ Fine → size s ≤ length u → (t : List ℕ) → mend (net_of s) u ≡ planned t → too_short l (number_of (net_of s) u t) ≡ false
+  pub done-leaves : fault_of s ≡ Ok tt → size s ≤ length u → (t : List ℕ) → mend (net_of s) u ≡ planned t → too_short l (number_of (net_of s) u t) ≡ false
       → (mend_table s u l ≡ overlay t u) × (mend_list s u l ≡ sets l 0 (listed_changes (net_of s) u t))
   done-leaves fine long t e room = (
     good-table s u l fine long ∙ ap (table_after (net_of s) u l) e ∙ ap (λ (q : Bool). pick q u (overlay t u)) room,
     good-list s u l fine long ∙ ap (list_after (net_of s) u l) e ∙ ap (λ (q : Bool). pick q l (sets l 0 (listed_changes (net_of s) u t))) room,
   )
 
-  pub done-means : (n : ℕ) → mend_answer s u l ≡ Done n → Mended s u l n
+  pub done-means : (n : ℕ) → mend_answer s u l ≡ Ok n → Mended s u l n
   done-means n e =
-      let w = way (Done n) e in
+      let w = way (Ok n) e in
       let t = w.2.0 in
       let h : size s ≤ length u = ltb-false (length u) (size s) w.1 in
       let r = w.2.1 in
@@ -142,45 +136,45 @@ module _ (s : Site) (u l : List ℕ) where
       }
 
   -- and where it is
-  pub means-done : fault_of s ≡ Fine → size s ≤ length u → (t : List ℕ) → mend (net_of s) u ≡ planned t → 4 * number_of (net_of s) u t ≤ length l
-      → mend_answer s u l ≡ Done (number_of (net_of s) u t)
+  pub means-done : fault_of s ≡ Ok tt → size s ≤ length u → (t : List ℕ) → mend (net_of s) u ≡ planned t → 4 * number_of (net_of s) u t ≤ length l
+      → mend_answer s u l ≡ Ok (number_of (net_of s) u t)
   means-done fine long t e room =
       good-answer s u l fine long
       ∙ ap (mend_answer_of (net_of s) u l) e
-      ∙ ap (λ (q : Bool). pick q (ListShort (number_of (net_of s) u t)) (Done (number_of (net_of s) u t)))
+      ∙ ap (λ (q : Bool). pick q (Err (ListShort (number_of (net_of s) u t))) (Ok (number_of (net_of s) u t)))
       (le-ltb (length l) (4 * number_of (net_of s) u t) room)
 
-  pub means-short : fault_of s ≡ Fine → size s ≤ length u → (t : List ℕ) → mend (net_of s) u ≡ planned t → length l < 4 * number_of (net_of s) u t
-      → mend_answer s u l ≡ ListShort (number_of (net_of s) u t)
+  pub means-short : fault_of s ≡ Ok tt → size s ≤ length u → (t : List ℕ) → mend (net_of s) u ≡ planned t → length l < 4 * number_of (net_of s) u t
+      → mend_answer s u l ≡ Err (ListShort (number_of (net_of s) u t))
   means-short fine long t e over =
       good-answer s u l fine long
       ∙ ap (mend_answer_of (net_of s) u l) e
-      ∙ ap (λ (q : Bool). pick q (ListShort (number_of (net_of s) u t)) (Done (number_of (net_of s) u t)))
+      ∙ ap (λ (q : Bool). pick q (Err (ListShort (number_of (net_of s) u t))) (Ok (number_of (net_of s) u t)))
       (lt-ltb (length l) (4 * number_of (net_of s) u t) over)
 
   -- "then 5": the cell that is named is the first whose row leaves fragments over, and as many as are named
-  pub short-means : (c m : ℕ) → mend_answer s u l ≡ NoRoom c m
-      → (fault_of s ≡ Fine) × (size s ≤ length u) × ((k : ℕ) × ((c ≡ k + 1) × Fails (net_of s) (stand (net_of s) u) s.cells k m))
+  pub short-means : (c m : ℕ) → mend_answer s u l ≡ Err (NoRoom c m)
+      → (fault_of s ≡ Ok tt) × (size s ≤ length u) × ((k : ℕ) × ((c ≡ k + 1) × Fails (net_of s) (stand (net_of s) u) s.cells k m))
   short-means c m e =
-      let w = way (NoRoom c m) e in
+      let w = way (Err (NoRoom c m)) e in
       let r = w.2 in
       (w.0, ltb-false (length u) (size s) w.1, (r.0, (r.1.0, run-fails (net_of s) (stand (net_of s) u) s.cells r.0 m r.1.1)))
 
   -- "then 13 with the number of changes if the list is too short": every cell stands
-  pub list-means : (n : ℕ) → mend_answer s u l ≡ ListShort n
-      → (fault_of s ≡ Fine) × (size s ≤ length u) × ((t : List ℕ) × ((mend (net_of s) u ≡ planned t) × (n ≡ number_of (net_of s) u t) × (length l < 4 * n)))
+  pub list-means : (n : ℕ) → mend_answer s u l ≡ Err (ListShort n)
+      → (fault_of s ≡ Ok tt) × (size s ≤ length u) × ((t : List ℕ) × ((mend (net_of s) u ≡ planned t) × (n ≡ number_of (net_of s) u t) × (length l < 4 * n)))
   list-means n e =
-      let w = way (ListShort n) e in
+      let w = way (Err (ListShort n)) e in
       let r = w.2.1 in
       let over : length l < 4 * number_of (net_of s) u w.2.0 = ltb-true (length l) (4 * number_of (net_of s) u w.2.0) r.2 in
       (w.0, ltb-false (length u) (size s) w.1, (w.2.0, (r.0, r.1, omega (arith, r.1, over))))
 
   -- "all, 5 too, leave table and list untouched"
-  pub untouched : ((n : ℕ) → mend_answer s u l ≡ Done n → ⊥) → (mend_table s u l ≡ u) × (mend_list s u l ≡ l)
+  pub untouched : ((n : ℕ) → mend_answer s u l ≡ Ok n → ⊥) → (mend_table s u l ≡ u) × (mend_list s u l ≡ l)
   unfolding mend_answer mend_table mend_list
   untouched h = kept_by (net_of s) u l (fault_of s) (ltb (length u) (size s)) (mend (net_of s) u) h
 
-  pub done-valid : (n : ℕ) → mend_answer s u l ≡ Done n → Valid (net_of s) (reserved (positions s) (mend_table s u l))
+  pub done-valid : (n : ℕ) → mend_answer s u l ≡ Ok n → Valid (net_of s) (reserved (positions s) (mend_table s u l))
   done-valid n e =
       let d = done-means n e in
       rw d.table (mended-valid (net_of s) u d.stands d.mends d.long)
@@ -188,8 +182,8 @@ module _ (s : Site) (u l : List ℕ) where
 -- ---- the load test
 
 -- one number of changes for whatever list is lent, and no more than the table has bytes
-pub test-number : (s : Site) (u : List ℕ) (who : ℕ → Bool) → Covers (net_of s) who → fault_of s ≡ Fine → size s ≤ length u → LoadTest (net_of s) who
-    → (n : ℕ) × (n ≤ size s) × ((l : List ℕ) → (4 * n ≤ length l → mend_answer s u l ≡ Done n) × (length l < 4 * n → mend_answer s u l ≡ ListShort n))
+pub test-number : (s : Site) (u : List ℕ) (who : ℕ → Bool) → Covers (net_of s) who → fault_of s ≡ Ok tt → size s ≤ length u → LoadTest (net_of s) who
+    → (n : ℕ) × (n ≤ size s) × ((l : List ℕ) → (4 * n ≤ length l → mend_answer s u l ≡ Ok n) × (length l < 4 * n → mend_answer s u l ≡ Err (ListShort n)))
 test-number s u who covers fine long h =
     let p = test-mends (net_of s) u who covers h in (
       number_of (net_of s) u p.0,

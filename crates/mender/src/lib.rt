@@ -9,21 +9,37 @@
 ghost use Rattle.std.specs.Prelude.{◌≡◌, ◌*◌, ◌≤◌, length};
 ghost use Rattle.site.specs.Record.{positions};
 ghost use Rattle.changelist.specs.Sets.{table_with, AllWithin};
+ghost use Rattle.mender.specs.declared.MendError.TheVariants.{NoRoom, Record};
 ghost use Rattle.mender.specs.Mend.{SetRoom, RowRoom, MendStands, list_room, mend_answer, mend_table, mend_list};
 
 use changelist::{list_all, list_cell};
 use site::{Fault, Site};
-use standing::Stood;
+use standing::Short;
 
-// What the mender answers: done, with the number of changes; 4, the table is short; 5, a cell's number and how many of its fragments found no room; 13, the
-// list is too short for so many changes; or what is wrong with the record.
+// Why the mender does not mend: 4, the table is short; 5, a cell's number and how many of its fragments found no room; 13, the list is too short for so many
+// changes; or what is wrong with the record.
 #[derive(Clone, Copy)]
-pub enum MendAnswer {
-    Done(usize),
+pub enum MendError {
     TableShort,
     NoRoom(usize, usize),
     ListShort(usize),
-    Refused(Fault),
+    Record(Fault),
+}
+
+impl From<Fault> for MendError {
+    ghost from_gives = { λ f e. e ≡ Record f };
+
+    fn from(fault: Fault) -> MendError {
+        MendError::Record(fault)
+    }
+}
+
+impl From<Short> for MendError {
+    ghost from_gives = { λ s e. e ≡ NoRoom s.0 s.1 };
+
+    fn from(short: Short) -> MendError {
+        MendError::NoRoom(short.0, short.1)
+    }
 }
 
 // Stores the changes of every cell, and lists none of them: the list is room to work in, and holds a row's changes at a time.
@@ -46,30 +62,31 @@ fn store_all(
     }
 }
 
-// Every cell's turn, for a site and its table: the answer where the list has room. Where it is done, the sets come back with who stands where, and who stood.
+// Every cell's turn, for a site and its table: the number of changes where the list has room. Where it is done, the sets come back with who stands where, and
+// who stood.
 // The table is not written.
-fn stand_site(site: Site, table: &[u8], stands: &mut [u64], old: &mut [u64]) -> MendAnswer
+#[tactic(auto, using(crate::proofs::Written::turns_end))]
+fn stand_site(
+    site: Site,
+    table: &[u8],
+    stands: &mut [u64],
+    old: &mut [u64],
+) -> Result<usize, MendError>
     requires { SetRoom site (length stands.old) × SetRoom site (length old.old) }
     ensures { MendStands result site table.now stands.new old.new }
 {
-    let fault = site.fault_in();
-    let Fault::Fine = fault else {
-        return MendAnswer::Refused(fault);
-    };
+    site.accepted()?;
     let cells = site.cells as usize;
     let n = (site.slots as usize) * (site.channels as usize);
     if table.len() < cells * n {
-        return MendAnswer::TableShort;
+        return Err(MendError::TableShort);
     }
     let loads = site.loads;
     let blocked = site.blocked;
     let clash = site.clash_rows();
     let w = (n + 63) / 64;
-    let stood = standing::stand_all(stands, old, table, w, n, cells, &loads, &clash, &blocked);
-    match stood {
-        Stood::Short(cell, short) => MendAnswer::NoRoom(cell, short),
-        Stood::All(number) => MendAnswer::Done(number),
-    }
+    let number = standing::stand_all(stands, old, table, w, n, cells, &loads, &clash, &blocked)?;
+    Ok(number)
 }
 
 // Mends the table and lists the changes, in lent room: two sets for each cell.
@@ -79,31 +96,28 @@ fn mend_in(
     changes: &mut [u16],
     stands: &mut [u64],
     old: &mut [u64],
-) -> MendAnswer
+) -> Result<usize, MendError>
     requires { SetRoom site (length stands.old) × SetRoom site (length old.old) }
     ensures answer { result ≡ mend_answer site table.old changes.old }
     ensures table { table.new ≡ mend_table site table.old changes.old }
     ensures changes { changes.new ≡ mend_list site table.old changes.old }
 {
-    let answer = stand_site(site, table, stands, old);
-    let MendAnswer::Done(number) = answer else {
-        return answer;
-    };
+    let number = stand_site(site, table, stands, old)?;
     if number == 0 {
-        return answer;
+        return Ok(number);
     }
     if changes.len() / 4 < number {
-        return MendAnswer::ListShort(number);
+        return Err(MendError::ListShort(number));
     }
     let cells = site.cells as usize;
     let n = (site.slots as usize) * (site.channels as usize);
     let w = (n + 63) / 64;
     list_all(table, changes, stands, old, w, n, cells);
-    answer
+    Ok(number)
 }
 
 // The same for at most 128 positions: the room is cleared for so many alone.
-fn mend_small(site: Site, table: &mut [u8], changes: &mut [u16]) -> MendAnswer
+fn mend_small(site: Site, table: &mut [u8], changes: &mut [u16]) -> Result<usize, MendError>
     requires { positions site ≤ 128 }
     ensures answer { result ≡ mend_answer site table.old changes.old }
     ensures table { table.new ≡ mend_table site table.old changes.old }
@@ -115,7 +129,7 @@ fn mend_small(site: Site, table: &mut [u8], changes: &mut [u16]) -> MendAnswer
 }
 
 // The same for at most 64 positions.
-fn mend_short(site: Site, table: &mut [u8], changes: &mut [u16]) -> MendAnswer
+fn mend_short(site: Site, table: &mut [u8], changes: &mut [u16]) -> Result<usize, MendError>
     requires { positions site ≤ 64 }
     ensures answer { result ≡ mend_answer site table.old changes.old }
     ensures table { table.new ≡ mend_table site table.old changes.old }
@@ -128,7 +142,7 @@ fn mend_short(site: Site, table: &mut [u8], changes: &mut [u16]) -> MendAnswer
 
 // Mends the table for the site, and lists the changes, four numbers each: cell, position, was, is. A refusal leaves table and list as they were: the record's
 // faults, then a table that is too short, then a cell that finds no room, then a list that is too short.
-pub fn mend(site: Site, table: &mut [u8], changes: &mut [u16]) -> MendAnswer
+pub fn mend(site: Site, table: &mut [u8], changes: &mut [u16]) -> Result<usize, MendError>
     ensures answer { result ≡ mend_answer site table.old changes.old }
     ensures table { table.new ≡ mend_table site table.old changes.old }
     ensures changes { changes.new ≡ mend_list site table.old changes.old }
@@ -152,24 +166,21 @@ fn mend_only_in(
     row: &mut [u16],
     stands: &mut [u64],
     old: &mut [u64],
-) -> MendAnswer
+) -> Result<usize, MendError>
     requires { RowRoom site (length row.old) × SetRoom site (length stands.old) × SetRoom site (length old.old) }
     ensures answer { result ≡ mend_answer site table.old (list_room site) }
     ensures table { table.new ≡ mend_table site table.old (list_room site) }
 {
-    let answer = stand_site(site, table, stands, old);
-    let MendAnswer::Done(number) = answer else {
-        return answer;
-    };
+    let changes = stand_site(site, table, stands, old)?;
     let cells = site.cells as usize;
     let n = (site.slots as usize) * (site.channels as usize);
     let w = (n + 63) / 64;
     store_all(table, row, stands, old, w, n, cells);
-    MendAnswer::Done(number)
+    Ok(changes)
 }
 
 // The same for at most 128 positions.
-fn mend_only_small(site: Site, table: &mut [u8]) -> MendAnswer
+fn mend_only_small(site: Site, table: &mut [u8]) -> Result<usize, MendError>
     requires { positions site ≤ 128 }
     ensures answer { result ≡ mend_answer site table.old (list_room site) }
     ensures table { table.new ≡ mend_table site table.old (list_room site) }
@@ -181,7 +192,7 @@ fn mend_only_small(site: Site, table: &mut [u8]) -> MendAnswer
 }
 
 // The same for at most 64 positions.
-fn mend_only_short(site: Site, table: &mut [u8]) -> MendAnswer
+fn mend_only_short(site: Site, table: &mut [u8]) -> Result<usize, MendError>
     requires { positions site ≤ 64 }
     ensures answer { result ≡ mend_answer site table.old (list_room site) }
     ensures table { table.new ≡ mend_table site table.old (list_room site) }
@@ -193,7 +204,7 @@ fn mend_only_short(site: Site, table: &mut [u8]) -> MendAnswer
 }
 
 // Mends the table as `mend` does where the list has room for every change, and lists nothing.
-pub fn mend_only(site: Site, table: &mut [u8]) -> MendAnswer
+pub fn mend_only(site: Site, table: &mut [u8]) -> Result<usize, MendError>
     ensures answer { result ≡ mend_answer site table.old (list_room site) }
     ensures table { table.new ≡ mend_table site table.old (list_room site) }
 {

@@ -5,7 +5,7 @@
 --     plans-exactly        with `renumber`, `plan` and `carry` a site that can be numbered is planned exactly when any valid table exists
 -- Assumes nothing.
 use mathlib.Core.Path.{◌≡◌, refl, sym, ap, ◌∙◌, subst}
-use mathlib.Core.Bool.{Bool, true, false, false≢true}
+use mathlib.Core.Bool.{Bool, false≢true}
 use mathlib.Core.List.{List, ◌++◌}
 use mathlib.Core.Logic.{◌↔◌}
 use Prim.Native.Nat.{ℕ, ◌+◌, ◌≤◌}
@@ -15,14 +15,11 @@ use lib.ListN.{length, get_or, drop, length-append}
 use Rattle.theory.specs.Net.{Reserved, Valid, Class, everyone}
 use Rattle.theory.specs.Greedy.{reserved}
 use Rattle.theory.proofs.Exact.{class-exact, class-exists, covers-everyone, planned-size}
-use Rattle.site.specs.Record.{positions, size, fault_of, is_fine}
+use Rattle.site.specs.Record.{positions, size, fault_of}
 use Rattle.site.specs.Reach.{clash_of, net_of}
 use Rattle.site.proofs.Reach.{clash-sym}
 use Rattle.site.specs.declared.Site.{Site}
-use Rattle.site.specs.declared.Fault.{Fault}
-use Rattle.site.specs.declared.Fault.TheVariants.{Fine, Size, Rule, Load, Reach, Blocked}
 use Rattle.planner.specs.Plan.{table_of, plan_answer, plan_table}
-use Rattle.planner.specs.declared.PlanAnswer.TheVariants as Plan
 use Rattle.planner.proofs.Answer.{run-table}
 use Rattle.planner.proofs.Meaning.{done-means, done-valid}
 use Rattle.renumbering.specs.Numbering.{Numbering, numbered, stuck, index_at}
@@ -31,67 +28,47 @@ use Rattle.renumbering.specs.Carry.{carried}
 use Rattle.renumbering.proofs.Renumber.{numbers-past, stuck-none, numbered-always}
 use Rattle.renumbering.proofs.Rule.{numbers-by-rule}
 use Rattle.renumbering.proofs.Carry.{carried-past}
-use Rattle.numbering.specs.Renumber.{numbering_of, moved_site, renumber_of}
+use Rattle.numbering.specs.Renumber.{numbering_of, site_numbers, moved_site, renumber_of}
 use Rattle.numbering.specs.Carried.{carry_answer, carry_table}
-use Rattle.numbering.specs.declared.RenumberAnswer.{RenumberAnswer}
-use Rattle.numbering.specs.declared.RenumberAnswer.TheVariants as Renumber
-use Rattle.numbering.specs.declared.CarryAnswer.TheVariants as Carry
-use Rattle.numbering.proofs.Found.{few_cells, site-renumbers}
-use Rattle.numbering.proofs.Ways.{renumber-refused, renumber-none, renumber-done, carry-done}
+use Rattle.numberrows.specs.declared.Numbers.{Numbers}
+use Rattle.std.specs.Prelude.{Result, Ok, Err, is_ok}
+use Rattle.numbering.specs.declared.RenumberError.{RenumberError}
+use Rattle.numbering.specs.declared.RenumberError.TheVariants.{NoNumbering}
+use Rattle.numbering.proofs.Found.{few_cells, numbered-is, site-renumbers}
+use Rattle.numbering.proofs.Ways.{renumber-none, renumber-done, carry-done}
 use Rattle.numbering.proofs.Moved.{moved-fine, moved-class, some-old, some-new, valid-old, valid-new}
 
 -- ---- what a done call has found
 
 pub record Found (s : Site) : Type 0 where
-  pub fine : fault_of s ≡ Fine
+  pub fine : fault_of s ≡ Ok tt
   pub numbers : numbering_of s ≡ numbered (renumber_of s).new (renumber_of s).old
   pub site : (renumber_of s).site ≡ moved_site s (renumber_of s).old
 
-is_done : RenumberAnswer → Bool
-is_done Renumber.Done = true
-is_done Renumber.NoNumbering = false
-is_done (Renumber.Refused f) = false
-
-is_none : RenumberAnswer → Bool
-is_none Renumber.Done = false
-is_none Renumber.NoNumbering = true
-is_none (Renumber.Refused f) = false
-
 module _ (s : Site) where
-  faulty : (f : Fault) → fault_of s ≡ f → is_fine f ≡ false → (renumber_of s).answer ≡ Renumber.Done → ⊥
-  unfolding is_done
-  faulty f e h d = false≢true (sym (ap (λ y. is_done y.answer) (renumber-refused s f e h)) ∙ ap is_done d)
+  found-at : (r : Result Numbers RenumberError) → site_numbers s ≡ r → (renumber_of s).answer ≡ Ok tt → Found s
+  unfolding renumber_of
+  found-at (Ok n) e d =
+      let h = numbered-is s n e in
+      let r = renumber-done s n.new n.old h.fine h.numbers in
+      record { fine = h.fine; numbers = rw r h.numbers; site = rw r refl }
+  found-at (Err refused) e d = absurd (false≢true (ap is_ok (rw e at d)))
 
-  found_at : (x : Numbering) → numbering_of s ≡ x → fault_of s ≡ Fine → (renumber_of s).answer ≡ Renumber.Done → Found s
-  unfolding is_done
-  found_at (numbered new old) e fine d =
-      let r = renumber-done s new old fine e in
-      record { fine = fine; numbers = rw r e; site = rw r refl }
-  found_at stuck e fine d = absurd (false≢true (sym (ap (λ y. is_done y.answer) (renumber-none s fine e)) ∙ ap is_done d))
-
-  found-by : (f : Fault) → fault_of s ≡ f → (renumber_of s).answer ≡ Renumber.Done → Found s
-  found-by Fine e d = found_at (numbering_of s) refl e d
-  found-by Size e d = absurd (faulty Size e refl d)
-  found-by Rule e d = absurd (faulty Rule e refl d)
-  found-by (Load k) e d = absurd (faulty (Load k) e refl d)
-  found-by (Reach k) e d = absurd (faulty (Reach k) e refl d)
-  found-by (Blocked k) e d = absurd (faulty (Blocked k) e refl d)
-
-  pub done-found : (renumber_of s).answer ≡ Renumber.Done → Found s
-  done-found = found-by (fault_of s) refl
+  pub done-found : (renumber_of s).answer ≡ Ok tt → Found s
+  done-found = found-at (site_numbers s) refl
 
   -- ---- "23, no such numbering": "exactly when none does"
 
   abbrev pub NoRenumbering : Type 0
   NoRenumbering = (new old : ℕ → ℕ) → Renumbers s.cells new old → AlwaysClass (renumbered old (net_of s)) → ⊥
 
-  none-at : fault_of s ≡ Fine → (x : Numbering) → numbering_of s ≡ x → (renumber_of s).answer ≡ Renumber.NoNumbering → NoRenumbering
-  unfolding is_none numbering_of
+  none-at : fault_of s ≡ Ok tt → (x : Numbering) → numbering_of s ≡ x → (renumber_of s).answer ≡ Err NoNumbering → NoRenumbering
+  unfolding numbering_of
   none-at fine (numbered new old) e d =
-      absurd (false≢true (sym (ap (λ y. is_none y.answer) (renumber-done s new old fine e)) ∙ ap is_none d))
+      absurd (false≢true (ap is_ok (sym d) ∙ ap (λ y. is_ok y.answer) (renumber-done s new old fine e)))
   none-at fine stuck e d = stuck-none (net_of s) (clash-sym s.rule s.reach) 32 (few_cells s fine) e
 
-  at_none : fault_of s ≡ Fine → (x : Numbering) → numbering_of s ≡ x → NoRenumbering → (renumber_of s).answer ≡ Renumber.NoNumbering
+  at_none : fault_of s ≡ Ok tt → (x : Numbering) → numbering_of s ≡ x → NoRenumbering → (renumber_of s).answer ≡ Err NoNumbering
   unfolding numbering_of
   at_none fine (numbered new old) e none =
       absurd
@@ -99,7 +76,7 @@ module _ (s : Site) where
       (numbered-always (net_of s) (clash-sym s.rule s.reach) 32 (few_cells s fine) new old e))
   at_none fine stuck e none = ap (λ y. y.answer) (renumber-none s fine e)
 
-  pub none_exactly : fault_of s ≡ Fine → ((renumber_of s).answer ≡ Renumber.NoNumbering) ↔ NoRenumbering
+  pub none_exactly : fault_of s ≡ Ok tt → ((renumber_of s).answer ≡ Err NoNumbering) ↔ NoRenumbering
   none_exactly fine = (none-at fine (numbering_of s) refl, at_none fine (numbering_of s) refl)
 
   -- ---- the renumbered site
@@ -108,10 +85,10 @@ module _ (s : Site) where
     pub permutes : Renumbers s.cells (index_at (renumber_of s).new) (index_at (renumber_of s).old)
     pub past : (i : ℕ) → s.cells ≤ i → (get_or (renumber_of s).new i 0 ≡ 0) × (get_or (renumber_of s).old i 0 ≡ 0)
     pub by-rule : ByRule (clash_of s) s.cells (index_at (renumber_of s).new) (index_at (renumber_of s).old)
-    pub accepted : fault_of (renumber_of s).site ≡ Fine
+    pub accepted : fault_of (renumber_of s).site ≡ Ok tt
     pub class : (l : ℕ → ℕ) (who : ℕ → Bool) → Class (with_loads l (net_of (renumber_of s).site)) who
 
-  module _ (done : (renumber_of s).answer ≡ Renumber.Done) where
+  module _ (done : (renumber_of s).answer ≡ Ok tt) where
     found : Found s
     found = done-found done
 
@@ -134,7 +111,7 @@ module _ (s : Site) where
     -- ---- tables
 
     module _ (from to : List ℕ) (has : size s ≤ length from) (fits : size s ≤ length to) where
-      pub carry-is : (carry_answer s from to ≡ Carry.Done) × (carry_table s from to ≡ carried (index_at new) (positions s) from to s.cells)
+      pub carry-is : (carry_answer s from to ≡ Ok tt) × (carry_table s from to ≡ carried (index_at new) (positions s) from to s.cells)
       carry-is = carry-done s from to new old found.fine found.numbers has fits
 
       pub carried-exactly : Valid (net_of (renumber_of s).site) (reserved (positions s) from) ↔ Valid (net_of s)
@@ -172,7 +149,7 @@ module _ (s : Site) where
             λ v. ((λ a k. v.0 (index_at old a) k), some-new s found.fine new old found.numbers v.0 v.1),
           )
 
-      pub plans-exactly : (plan_answer now lent ≡ Plan.Done) ↔ ((res : Reserved) × Valid (net_of s) res)
+      pub plans-exactly : (plan_answer now lent ≡ Ok tt) ↔ ((res : Reserved) × Valid (net_of s) res)
       plans-exactly =
           let covers = covers-everyone (net_of now) in
           let exact = class-exact (net_of now) everyone covers all-class in
@@ -181,7 +158,7 @@ module _ (s : Site) where
             λ v. (done-means now lent).1 (renumber-site.accepted, omega (arith, same_size-law), exact.0 (exists.1 (some-valid.1 v))),
           )
 
-      plan-long : plan_answer now lent ≡ Plan.Done → size s ≤ length (plan_table now lent)
+      plan-long : plan_answer now lent ≡ Ok tt → size s ≤ length (plan_table now lent)
       plan-long h =
           let m = (done-means now lent).0 h in
           let t = m.2.0 in
@@ -190,8 +167,8 @@ module _ (s : Site) where
           let whole : length (plan_table now lent) ≡ length t + length (drop (size now) lent) = ap length is ∙ length-append t (drop (size now) lent) in
           omega (arith, same_size-law, planned-size (net_of now) t m.2.1)
 
-      pub planned-back : plan_answer now lent ≡ Plan.Done
-          → (carry_answer s (plan_table now lent) to ≡ Carry.Done) × Valid (net_of s) (reserved (positions s) (carry_table s (plan_table now lent) to))
+      pub planned-back : plan_answer now lent ≡ Ok tt
+          → (carry_answer s (plan_table now lent) to ≡ Ok tt) × Valid (net_of s) (reserved (positions s) (carry_table s (plan_table now lent) to))
       planned-back h =
           let long = plan-long h in (
             (carry-is (plan_table now lent) to long fits).0,

@@ -30,7 +30,7 @@ use Rattle.site.specs.Reach.{clash_of, net_of}
 use Rattle.site.proofs.Accepted.{fine-sound, sound-fine, ok-row, fine-rows, fine-reach}
 use Rattle.site.proofs.Reach.{clash-sym}
 use Rattle.site.specs.declared.Site.{Site}
-use Rattle.site.specs.declared.Fault.TheVariants.{Fine}
+use Rattle.std.specs.Prelude.{Ok}
 use Rattle.renumbering.specs.Numbering.{numbered, index_at}
 use Rattle.renumbering.specs.Renumbers.{Renumbers, renumbered, with_loads, SameNet}
 use Rattle.renumbering.specs.Carry.{carried}
@@ -42,7 +42,7 @@ use Rattle.numberrows.proofs.Moved.{moved_at-law, moved-past, moved_bit, rows_at
 use Rattle.numbering.specs.Renumber.{numbering_of, moved_site}
 use Rattle.numbering.proofs.Found.{few_cells, site-renumbers}
 
-module _ (s : Site) (fine : fault_of s ≡ Fine) (new old : List ℕ) (found : numbering_of s ≡ numbered new old) where
+module _ (s : Site) (fine : fault_of s ≡ Ok tt) (new old : List ℕ) (found : numbering_of s ≡ numbered new old) where
   few : s.cells ≤ 32
   few = few_cells s fine
 
@@ -93,7 +93,7 @@ module _ (s : Site) (fine : fault_of s ≡ Fine) (new old : List ℕ) (found : n
       ap (λ t. t && (ltb b s.cells && bit_in s.reach (index_at old k) (index_at old b))) e)))
       (cases (ltb k s.cells))
 
-  pub moved-fine : fault_of (moved_site s old) ≡ Fine
+  pub moved-fine : fault_of (moved_site s old) ≡ Ok tt
   unfolding moved_site
   moved-fine =
       let sound = fine-sound s fine in

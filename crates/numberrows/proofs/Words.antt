@@ -1,5 +1,6 @@
 -- The tests on words are those of the definition: where a word has the cells that are left, the cells near to a cell are what its row shares with that word.
 --     highest-same          the search that the code makes finds what the definition's does
+--     found_within          the cell that it finds is one of the site's
 --     all_there, one_out    the word of those left, at first and after a turn
 --     misses-word           what a word without another says
 -- Assumes nothing.
@@ -24,6 +25,7 @@ use Rattle.laws.proofs.Words.{word_lt, word-bit, word-past, word-empty, word-eq,
 use Rattle.renumbering.specs.Numbering.{last, unnumbered, near, missing, odd, fit, blank}
 use Rattle.renumbering.proofs.Renumber.{blank-at}
 use Rattle.renumbering.proofs.Agree.{last-eq}
+use Rattle.renumbering.proofs.Turns.{last-most}
 use Rattle.numberrows.specs.Words.{misses_in, close_in, fit_in}
 
 -- ---- the tests
@@ -63,6 +65,8 @@ module _ (rows : List ℕ) (n : ℕ) (few : n ≤ 32) (new : List ℕ) (word : �
 
   pub highest-same : last (fit_in rows word) n ≡ last (fit (bit_in rows) n new) n
   highest-same = last-eq (fit_in rows word) (fit (bit_in rows) n new) n fit_same
+
+pub ruleset found_within = (last-most)
 
 -- ---- those left
 

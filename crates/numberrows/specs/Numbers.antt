@@ -1,14 +1,14 @@
 -- The numbering as the record that the code answers, and arrays in new numbers.
-use Rattle.std.specs.Prelude.{true, false, ◌&&◌, List, ℕ, ◌<◌, ltb, get_or}
+use Rattle.std.specs.Prelude.{◌&&◌, List, ℕ, ◌<◌, ltb, get_or, Option, Some, None}
 use Rattle.laws.specs.Bits.{bit_in, word_of}
 use Rattle.laws.specs.Choice.{pick}
 use Rattle.laws.specs.Part.{list_of}
-use Rattle.renumbering.specs.Numbering.{Numbering, numbered, stuck, blank, index_at}
+use Rattle.renumbering.specs.Numbering.{Numbering, numbered, stuck, index_at}
 use Rattle.numberrows.specs.declared.Numbers.{Numbers}
 
-abbrev pub numbers_of : Numbering → Numbers
-numbers_of (numbered new old) = record { found = true; new = new; old = old }
-numbers_of stuck = record { found = false; new = blank 32; old = blank 32 }
+abbrev pub numbers_of : Numbering → Option Numbers
+numbers_of (numbered new old) = Some (record { new = new; old = old })
+numbers_of stuck = None
 
 -- the first n numbers of an array name cells
 abbrev pub NamesCells : ℕ → List ℕ → Type 0

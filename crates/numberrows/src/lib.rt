@@ -14,10 +14,9 @@ ghost use Rattle.numberrows.specs.Numbers.{numbers_of, NamesCells, moved_by, mov
 
 use words::{apart, has};
 
-// The new number of each old cell and the old number of each new one, from 1, 0 past the cells; or none is found, and all are 0.
+// The new number of each old cell and the old number of each new one, from 1, 0 past the cells.
 #[derive(Clone, Copy)]
 pub struct Numbers {
-    pub found: bool,
     pub new: [u16; 32],
     pub old: [u16; 32],
 }
@@ -35,6 +34,7 @@ pub fn all_clash(rows: &[u32; 32], near: u32) -> bool
     ensures { result ≡ close_in rows.now near }
 {
     let mut rest = near;
+    // From member to member of a word: no index is counted.
     while rest != 0 {
         let a = u32::trailing_zeros(rest) as usize;
         if misses(near, rows[a], a) {
@@ -61,45 +61,34 @@ fn highest_fit(rows: &[u32; 32], cells: usize, left: u32) -> usize
     requires { cells ≤ 32 }
     ensures { result ≡ last (fit_in rows.now left) cells }
 {
-    let mut k = cells;
-    while 0 < k {
-        if fits(rows, left, k - 1) {
-            return k;
+    for i in (0..cells).rev() {
+        if fits(rows, left, i) {
+            return i + 1;
         }
-        k -= 1;
     }
-    k
+    0
 }
 
-// The numbering of so many cells, whose clashes are the bits of the rows. The last number is given first.
-pub fn number_cells(rows: &[u32; 32], cells: usize) -> Numbers
+// The numbering of so many cells, whose clashes are the bits of the rows; none where there is none. The last number is given first.
+#[tactic(auto, using(crate::proofs::Words::found_within))]
+pub fn number_cells(rows: &[u32; 32], cells: usize) -> Option<Numbers>
     requires { cells ≤ 32 }
     ensures { result ≡ numbers_of (numbering 32 (bit_in rows.now) cells) }
 {
     let mut new = [0u16; 32];
     let mut old = [0u16; 32];
     let mut left = square::low_bits(cells);
-    let mut m = cells;
-    while 0 < m {
+    for m in (0..cells).rev() {
         let h = highest_fit(rows, cells, left);
         if h == 0 {
-            return Numbers {
-                found: false,
-                new: [0u16; 32],
-                old: [0u16; 32],
-            };
+            return None;
         }
         let i = h - 1;
-        new[i] = m as u16;
-        old[m - 1] = h as u16;
+        new[i] = (m + 1) as u16;
+        old[m] = h as u16;
         left = apart(left, 1 << i);
-        m -= 1;
     }
-    Numbers {
-        found: true,
-        new,
-        old,
-    }
+    Some(Numbers { new, old })
 }
 
 // The index of the cell that the number at a names.

@@ -34,11 +34,11 @@ use Rattle.site.specs.Record.{site_of, positions, size, fault_of}
 use Rattle.site.specs.Reach.{net_of, clash_of}
 use Rattle.site.specs.Means.{UpTo, RowGood, FaultMeans, Reaches}
 use Rattle.site.specs.declared.Site.{Site}
-use Rattle.site.specs.declared.Fault.TheVariants.{Fine}
+use Rattle.std.specs.Prelude.{Result, Ok, Err}
 use Rattle.site.proofs.Means.{fault-means, fault-only}
 use Rattle.checker.specs.Check.{verdict_of, check_answer}
-use Rattle.checker.specs.declared.CheckAnswer.{CheckAnswer}
-use Rattle.checker.specs.declared.CheckAnswer.TheVariants as check
+use Rattle.checker.specs.declared.CheckError.{CheckError}
+use Rattle.checker.specs.declared.CheckError.TheVariants as check
 use Rattle.checker.proofs.Judged.{check-judged}
 use Rattle.checker.proofs.Meaning.{valid-means, clash-means}
 use Rattle.oneway.specs.TwoWay.{two_way_rows, two_way, Unseen, is_clash, is_valid, unseen_in}
@@ -166,27 +166,23 @@ module _ (s : Site) where
     others = λ q. g.others (reach-fewer k k q);
   }
 
-  pub two-way-fine : fault_of s ≡ Fine → fault_of (two_way s) ≡ Fine
+  pub two-way-fine : fault_of s ≡ Ok tt → fault_of (two_way s) ≡ Ok tt
   unfolding two_way
   two-way-fine e =
       let f = subst (FaultMeans s) e (fault-means s) in
-      fault-only (two_way s) Fine (f.0, f.1, f.2, (λ k u. row-good k u (f.3 k u)), f.4)
+      fault-only (two_way s) (Ok tt) (f.0, f.1, f.2, (λ k u. row-good k u (f.3 k u)), f.4)
 
-was-valid : (a : CheckAnswer) → is_valid a ≡ true → a ≡ check.Valid
-was-valid check.Valid e = refl
-was-valid check.TableShort e = absurd (false≢true e)
-was-valid (check.Blocked p c) e = absurd (false≢true e)
-was-valid (check.Clash p a c) e = absurd (false≢true e)
-was-valid (check.Count c n) e = absurd (false≢true e)
-was-valid (check.Refused f) e = absurd (false≢true e)
+was-valid : (a : Result Unit CheckError) → is_valid a ≡ true → a ≡ Ok tt
+was-valid (Ok u) e = refl
+was-valid (Err f) e = absurd (false≢true e)
 
-was-clash : (a : CheckAnswer) → is_clash a ≡ true → (p x z : ℕ) × (a ≡ check.Clash p x z)
-was-clash check.Valid e = absurd (false≢true e)
-was-clash check.TableShort e = absurd (false≢true e)
-was-clash (check.Blocked p c) e = absurd (false≢true e)
-was-clash (check.Clash p a c) e = (p, a, c, refl)
-was-clash (check.Count c n) e = absurd (false≢true e)
-was-clash (check.Refused f) e = absurd (false≢true e)
+was-clash : (a : Result Unit CheckError) → is_clash a ≡ true → (p x z : ℕ) × (a ≡ Err (check.Clash p x z))
+was-clash (Ok u) e = absurd (false≢true e)
+was-clash (Err check.TableShort) e = absurd (false≢true e)
+was-clash (Err (check.Blocked p c)) e = absurd (false≢true e)
+was-clash (Err (check.Clash p a c)) e = (p, a, c, refl)
+was-clash (Err (check.Count c n)) e = absurd (false≢true e)
+was-clash (Err (check.Record f)) e = absurd (false≢true e)
 
 module _ (s : Site) (t : List ℕ) where
   abbrev res : Reserved
@@ -210,7 +206,7 @@ module _ (s : Site) (t : List ℕ) where
       let m = clash-means s t w.0 w.1 w.2 w.3 in
       (w.0, m.0, m.1, m.4, unclashed e w.0 m.0 m.1 m.4)
 
-  module _ (fine : fault_of s ≡ Fine) (long : size s ≤ length t) where
+  module _ (fine : fault_of s ≡ Ok tt) (long : size s ≤ length t) where
     by-verdict : (v : TableVerdict) → table_verdict (net_of s) res ≡ v → Unseen s res → is_clash (verdict_of v) ≡ true
     unfolding verdict_of two_way
     by-verdict valid e u = absurd (u.1 (check-valid (net_of s) res e))

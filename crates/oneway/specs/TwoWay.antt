@@ -1,5 +1,5 @@
 -- The one-way reading: "a plan that is valid if only two-way ranges clash, and not valid in truth".
-use Rattle.std.specs.Prelude.{ℕ, Bool, true, false, ◌&&◌, List, ◌≡◌}
+use Rattle.std.specs.Prelude.{ℕ, Bool, true, false, ◌&&◌, List, Result, Ok, Err}
 use Rattle.laws.specs.Bits.{bit_in, word_of}
 use Rattle.laws.specs.Part.{list_of}
 use Rattle.theory.specs.Net.{Reserved, Valid}
@@ -7,8 +7,8 @@ use Rattle.site.specs.Record.{site_of}
 use Rattle.site.specs.Reach.{net_of}
 use Rattle.site.specs.declared.Site.{Site}
 use Rattle.checker.specs.Check.{check_answer}
-use Rattle.checker.specs.declared.CheckAnswer.{CheckAnswer}
-use Rattle.checker.specs.declared.CheckAnswer.TheVariants as check
+use Rattle.checker.specs.declared.CheckError.{CheckError}
+use Rattle.checker.specs.declared.CheckError.TheVariants.{TableShort, Blocked, Clash, Count, Record}
 
 -- "only two-way ranges": of the reach rows, bit b of row a stays where row b has bit a too
 unfoldable pub two_way_rows : List ℕ → List ℕ
@@ -24,21 +24,17 @@ Unseen s res = Valid (net_of (two_way s)) res × (Valid (net_of s) res → ⊥)
 
 -- ---- by the checker
 
-abbrev pub is_clash : CheckAnswer → Bool
-is_clash check.Valid = false
-is_clash check.TableShort = false
-is_clash (check.Blocked p c) = false
-is_clash (check.Clash p a c) = true
-is_clash (check.Count c n) = false
-is_clash (check.Refused f) = false
+abbrev pub is_clash : Result Unit CheckError → Bool
+is_clash (Ok u) = false
+is_clash (Err TableShort) = false
+is_clash (Err (Blocked p c)) = false
+is_clash (Err (Clash p a c)) = true
+is_clash (Err (Count c n)) = false
+is_clash (Err (Record f)) = false
 
-abbrev pub is_valid : CheckAnswer → Bool
-is_valid check.Valid = true
-is_valid check.TableShort = false
-is_valid (check.Blocked p c) = false
-is_valid (check.Clash p a c) = false
-is_valid (check.Count c n) = false
-is_valid (check.Refused f) = false
+abbrev pub is_valid : Result Unit CheckError → Bool
+is_valid (Ok u) = true
+is_valid (Err e) = false
 
 -- "with a clash that a one-way reading would not see"
 unfoldable pub unseen_in : Site → List ℕ → Bool

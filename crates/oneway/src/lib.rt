@@ -4,7 +4,7 @@
 ghost use Rattle.std.specs.Prelude.{◌≡◌};
 ghost use Rattle.oneway.specs.TwoWay.{two_way_rows, two_way, is_clash, is_valid, unseen_in};
 
-use checker::CheckAnswer;
+use checker::CheckError;
 use site::Site;
 
 // The rows with the bits that stand both ways: bit b of row a where row b has bit a too.
@@ -30,34 +30,28 @@ pub fn two_way(mut site: Site) -> Site
 }
 
 // Whether the checker names a clash.
-fn is_clash(reply: CheckAnswer) -> bool
+fn is_clash(reply: Result<(), CheckError>) -> bool
     ensures { result ≡ is_clash reply }
 {
     match reply {
-        CheckAnswer::Valid => false,
-        CheckAnswer::TableShort => false,
-        CheckAnswer::Blocked(_, _) => false,
-        CheckAnswer::Clash(_, _, _) => true,
-        CheckAnswer::Count(_, _) => false,
-        CheckAnswer::Refused(_) => false,
+        Ok(_) => false,
+        Err(CheckError::TableShort) => false,
+        Err(CheckError::Blocked(_, _)) => false,
+        Err(CheckError::Clash(_, _, _)) => true,
+        Err(CheckError::Count(_, _)) => false,
+        Err(CheckError::Record(_)) => false,
     }
 }
 
 // Whether the checker finds nothing wrong.
-pub fn is_valid(reply: CheckAnswer) -> bool
+pub fn is_valid(reply: Result<(), CheckError>) -> bool
     ensures { result ≡ is_valid reply }
 {
-    match reply {
-        CheckAnswer::Valid => true,
-        CheckAnswer::TableShort => false,
-        CheckAnswer::Blocked(_, _) => false,
-        CheckAnswer::Clash(_, _, _) => false,
-        CheckAnswer::Count(_, _) => false,
-        CheckAnswer::Refused(_) => false,
-    }
+    reply.is_ok()
 }
 
 // Whether a plan has a clash, and is valid where only two-way ranges clash.
+#[tactic(auto, unfolding(crate::specs::TwoWay::unseen_in))]
 pub fn unseen(site: Site, table: &[u8]) -> bool
     ensures { result ≡ unseen_in site table.now }
 {

@@ -1,7 +1,7 @@
 // A table of sentences is one byte string, each row ended by a bar. One of its rows is written into a lent buffer.
 #![tactic(auto)]
 
-ghost use Rattle.std.specs.Prelude.{◌≡◌, ◌+◌, ◌*◌, ◌≤◌, length, take, drop};
+ghost use Rattle.std.specs.Prelude.{◌≡◌, ◌+◌, ◌*◌, ◌≤◌, [], ◌∷◌, length, take, drop};
 ghost use Rattle.phrases.specs.Phrases.{skip, up_to_bar, row_in, part_in, phrase_in};
 ghost use Rattle.phrases.specs.Put.{Put, PutRow};
 
@@ -20,17 +20,15 @@ fn row_start(table: &[u8], row: usize) -> usize
     ensures start { drop result table.now ≡ skip row table.now }
 {
     let mut left = row;
-    let mut i = 0;
-    while i < table.len() {
+    for (i, &byte) in table.iter().enumerate() {
         if left == 0 {
             return i;
         }
-        if table[i] == b'|' {
+        if byte == b'|' {
             left -= 1;
         }
-        i += 1;
     }
-    i
+    table.len()
 }
 
 // Where the first row ends.
@@ -38,14 +36,12 @@ fn row_end(table: &[u8]) -> usize
     ensures inside { result ≤ length table.now }
     ensures end { take result table.now ≡ up_to_bar table.now }
 {
-    let mut i = 0;
-    while i < table.len() {
-        if table[i] == b'|' {
+    for (i, &byte) in table.iter().enumerate() {
+        if byte == b'|' {
             return i;
         }
-        i += 1;
     }
-    i
+    table.len()
 }
 
 // Puts a row of the table at `at`, with its values, and answers where the next byte goes.
@@ -77,4 +73,13 @@ pub fn put_phrase(out: &mut [u8], at: usize, table: &[u8], phrase: Phrase) -> us
         Phrase::Silent => at,
         Phrase::Row(row, a, b, c, d) => put_row(out, at, table, row, a, b, c, d),
     }
+}
+
+// Puts one byte.
+pub fn put_byte(out: &mut [u8], at: usize, byte: u8) -> usize
+    requires { at + 1 ≤ length out.old }
+    ensures { Put out.old at (byte ∷ []) 1 out.new result }
+{
+    out[at] = byte;
+    at + 1
 }

@@ -95,10 +95,8 @@ fn put_cells(out: &mut [u8], at: usize, word: u32) -> usize
     ensures { Put out.old at (cells_said word) 96 out.new result }
 {
     let mut next = at;
-    let mut i = 0;
-    while i < 32 {
+    for i in 0..32 {
         next = put(out, next, cell_phrase(word, i));
-        i += 1;
     }
     next
 }
@@ -171,7 +169,7 @@ fn spread_marks(clash: bool, blocked: bool) -> Phrase
     Phrase::Row(SPREAD_PLAIN, 0, 0, 0, 0)
 }
 
-// The first line for a spreadsheet, at the start of `out`.
+// The first line for a spreadsheet, at the start of `out`. No twin of `put_legend` in `say_grid`: a row of another table.
 pub fn put_spread_head(out: &mut [u8]) -> usize
     requires { 65536 ≤ length out.old }
     ensures { Put out.old 0 (phrase spread_lines (Row spread_head_row 0 0 0 0)) 300 out.new result }

@@ -227,7 +227,7 @@ packed-snoc t (suc m) k =
     let e : k + 8 * suc m ≡ k + 8 + 8 * m = omega arith in
     rw e (ap (λ (l : List ℕ). ones t k 8 ∷ l) (packed-snoc t m (k + 8)))
 
--- a turn of `put_whole`'s loop, and its end
+-- a turn of `put_rest`'s loop, and its end
 pub put_step :
     (t out : List ℕ) (at j m : ℕ) → j < m →
     sets (set out (at + j) (ones t (8 * j) 8)) (at + (j + 1)) (packed_from t (8 * (j + 1)) (m - (j + 1))) ≡ sets out (at + j) (packed_from t (8 * j) (m - j))

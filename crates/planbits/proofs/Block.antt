@@ -2,13 +2,14 @@
 -- Then the runs of bytes that the blocks and the rest store, one after the other. Assumes nothing.
 use Prim.Native.Nat.{ℕ, zero, suc, ◌+◌, ◌-◌, ◌*◌, ◌/◌, ◌%◌, ◌^◌, ◌≤◌, ◌<◌}
 use mathlib.Core.Path.{◌≡◌, sym, ap, ap₂, ◌∙◌}
-use mathlib.Core.List.{List, [], ◌∷◌, ◌++◌}
+use mathlib.Core.List.{List, ◌++◌, append_assoc}
 use native.Mathlib.Nat.{zero-add, mul-suc, mul_assoc, mul_left_comm, mul_right_comm, mul-le-mul_left}
 use native.Mathlib.Nat.{div-eq_of_lt, add-mul-div_right, add-mul-mod_self_right, mod-eq_of_lt}
 use native.Mathlib.Omega.{arith}
 use lib.ListN.{length, get_or, set, take}
+use borrow.Rule.Slice.PartMut.{put_mid}
 use lib.Pow.{pow_pos, pow_mono, pow-add}
-use lib.Seq.{sets, ext_get_or, get_or-take, get_or-set_same, get_or-set_other, length-take-le, take-suc}
+use lib.Seq.{sets, sets-eq, drop-drop, ext_get_or, get_or-take, get_or-set_same, get_or-set_other, length-take-le}
 use borrow.Author.Count.{below_more}
 use Rattle.laws.proofs.Stores.{sets-append}
 use Rattle.planbits.specs.Bits.{one, ones, packed_from}
@@ -84,19 +85,11 @@ module _ (t : List ℕ) where
 
 -- ---- stores
 
--- a turn of `put_bytes`, and its end
-pub bytes-step :
-    (out v o : List ℕ) (at i : ℕ) → i < length v → o ≡ sets out at (take i v) → set o (at + i) (get_or v i 0) ≡ sets out at (take (i + 1) v)
-bytes-step out v o at i h e =
-    let f : i + 1 ≡ suc i = omega arith in
-    ap (λ (l : List ℕ). set l (at + i) (get_or v i 0)) e
-    ∙ sym (ap (λ (n : ℕ). sets out at (take n v)) f
-    ∙ ap (sets out at) (take-suc v i 0 h)
-    ∙ sets-append out at (take i v) (get_or v i 0 ∷ [])
-    ∙ ap (λ (n : ℕ). set (sets out at (take i v)) (at + n) (get_or v i 0)) (length-take-le i v (omega arith)))
-
-pub bytes-all : (out v o : List ℕ) (at i : ℕ) → i ≡ 32 → o ≡ sets out at (take i v) → o ≡ sets out at (take 32 v)
-bytes-all out v o at i h e = e ∙ ap (λ (n : ℕ). sets out at (take n v)) h
+-- 32 bytes copied to `at` are stored there
+pub copied : (out bytes r : List ℕ) (at : ℕ) → length bytes ≡ 32 → at + 32 ≤ length out → r ≡ bytes → put_mid at (at + 32 - at) out r ≡ sets out at bytes
+copied out bytes r at size fits e =
+    let n : at + 32 - at ≡ length bytes = omega (arith, size) in
+    rw (e, n, sets-eq bytes out at (omega (arith, size)), drop-drop, append_assoc)
 
 packed-split : (t : List ℕ) (a b k : ℕ) → packed_from t k (a + b) ≡ packed_from t k a ++ packed_from t (k + 8 * a) b
 unfolding packed_from

@@ -1,7 +1,7 @@
 // The bits of a plan: a file byte holds the bits of eight table bytes. Packed and unpacked by blocks of 32 file bytes, and the rest by file byte.
 #![tactic(auto)]
 
-ghost use Rattle.std.specs.Prelude.{◌≡◌, [], ◌∷◌, ◌+◌, ◌-◌, ◌*◌, ◌%◌, ◌^◌, ◌≤◌, ◌<◌, length, take};
+ghost use Rattle.std.specs.Prelude.{◌≡◌, [], ◌∷◌, ◌+◌, ◌-◌, ◌*◌, ◌%◌, ◌^◌, ◌≤◌, ◌<◌, length};
 ghost use Rattle.std.proofs.lemmas.List.Edits.{sets};
 ghost use Rattle.laws.specs.Part.{Below, list_of};
 ghost use Rattle.records.specs.Bits.{bytes_for};
@@ -60,10 +60,8 @@ fn unpack_blocks(body: &[u8], table: &mut [u8], b: usize)
     requires { (32 * b ≤ length body.now) × (256 * b ≤ length table.old) }
     ensures { table.new ≡ sets table.old 0 (bits_from body.now 0 (256 * b)) }
 {
-    let mut j: usize = 0;
-    while j < b {
+    for j in 0..b {
         unpack_block(body, table, 32 * j);
-        j += 1;
     }
 }
 
@@ -72,11 +70,8 @@ fn unpack_whole(body: &[u8], table: &mut [u8], from: usize, m: usize)
     requires { (from ≤ m) × (m ≤ length body.now) × (8 * m ≤ length table.old) }
     ensures { table.new ≡ sets table.old (8 * from) (bits_from body.now (8 * from) (8 * (m - from))) }
 {
-    let mut j = from;
-    while j < m {
-        let x = body[j];
-        spread(table, 8 * j, x);
-        j += 1;
+    for j in from..m {
+        spread(table, 8 * j, body[j]);
     }
 }
 
@@ -85,12 +80,10 @@ fn unpack_rest(body: &[u8], table: &mut [u8], from: usize, n: usize)
     requires { (from ≤ n) × (n ≤ 8 * length body.now) × (n ≤ length table.old) }
     ensures { table.new ≡ sets table.old from (bits_from body.now from (n - from)) }
 {
-    let mut k = from;
-    while k < n {
+    for k in from..n {
         let b = k % 8;
         let x = body[k / 8];
         table[k] = (x >> b) % 2;
-        k += 1;
     }
 }
 
@@ -141,9 +134,7 @@ fn last_of(table: &[u8], k: usize) -> u8
     ensures { result ≡ ones table.now k 8 }
 {
     let mut v: u8 = 0;
-    let mut i = table.len();
-    while k < i {
-        i -= 1;
+    for i in (k..table.len()).rev() {
         let b = is_one(table[i]);
         v = 2 * v + b;
     }
@@ -155,11 +146,8 @@ fn take_bits(bits: &mut [u8], table: &[u8], k: usize)
     requires { (k + 256 ≤ length table.now) × (256 ≤ length bits.old) }
     ensures { Runs table.now k 1 256 bits.new }
 {
-    let mut i: usize = 0;
-    while i < 256 {
-        let x = is_one(table[k + i]);
-        bits[i] = x;
-        i += 1;
+    for i in 0..256 {
+        bits[i] = is_one(table[k + i]);
     }
 }
 
@@ -177,23 +165,8 @@ fn join_pairs(out: &mut [u8], pairs: &[u8], n: usize, c: usize)
     requires { (c ≤ 4) × Below (2 ^ c) (2 * n) pairs.now × (2 * n ≤ length pairs.now) × (n ≤ length out.old) }
     ensures { Joined (2 ^ c) n pairs.now out.new }
 {
-    let mut i: usize = 0;
-    while i < n {
-        let x = joined(pairs[2 * i], pairs[2 * i + 1], c);
-        out[i] = x;
-        i += 1;
-    }
-}
-
-// Stores the first 32 bytes from `at` on.
-fn put_bytes(out: &mut [u8], at: usize, bytes: &[u8])
-    requires { (32 ≤ length bytes.now) × (at + 32 ≤ length out.old) }
-    ensures { out.new ≡ sets out.old at (take 32 bytes.now) }
-{
-    let mut i: usize = 0;
-    while i < 32 {
-        out[at + i] = bytes[i];
-        i += 1;
+    for i in 0..n {
+        out[i] = joined(pairs[2 * i], pairs[2 * i + 1], c);
     }
 }
 
@@ -210,7 +183,9 @@ fn put_block(out: &mut [u8], at: usize, table: &[u8], j: usize)
     join_pairs(&mut fours, &twos, 64, 2);
     let mut bytes = [0u8; 32];
     join_pairs(&mut bytes, &fours, 32, 4);
-    put_bytes(out, at + j, &bytes);
+    let from = at + j;
+    let to = from + 32;
+    out[from..to].copy_from_slice(&bytes);
 }
 
 // Stores the first b blocks of the table's bits, 32 bytes each, from `at` on.
@@ -218,10 +193,8 @@ fn put_blocks(out: &mut [u8], at: usize, table: &[u8], b: usize)
     requires { (256 * b ≤ length table.now) × (at + 32 * b ≤ length out.old) }
     ensures { out.new ≡ sets out.old at (packed_from table.now 0 (32 * b)) }
 {
-    let mut j: usize = 0;
-    while j < b {
+    for j in 0..b {
         put_block(out, at, table, 32 * j);
-        j += 1;
     }
 }
 
@@ -230,11 +203,8 @@ fn put_rest(table: &[u8], out: &mut [u8], at: usize, from: usize, m: usize)
     requires { (from ≤ m) × (8 * m ≤ length table.now) × (at + m ≤ length out.old) }
     ensures { out.new ≡ sets out.old (at + from) (packed_from table.now (8 * from) (m - from)) }
 {
-    let mut j = from;
-    while j < m {
-        let x = byte_of(table, 8 * j);
-        out[at + j] = x;
-        j += 1;
+    for j in from..m {
+        out[at + j] = byte_of(table, 8 * j);
     }
 }
 

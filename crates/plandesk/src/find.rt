@@ -2,9 +2,8 @@
 ghost use Rattle.std.specs.Prelude.{◌≤◌, length};
 
 use arguments::{NUMBERS, is, tries};
-use finder::FindAnswer;
-use infiles::{give_plan, refuse};
-use records::ReadAnswer;
+use finder::{FindError, Way};
+use infiles::{give_plan, site_of};
 use site::Site;
 
 // The status of an answer, after its words.
@@ -38,7 +37,7 @@ fn put_air(rt: &HostRuntime, site: Site, text: &mut [u8]) -> bool
 }
 
 // What is found for a site: with the tries that are asked for, or with those of `why`.
-pub fn found(rt: &HostRuntime, site: Site, table: &mut [u8]) -> FindAnswer {
+pub fn found(rt: &HostRuntime, site: Site, table: &mut [u8]) -> Result<Way, FindError> {
     if arguments::count(rt) <= NUMBERS {
         return say_find::find_why(site, table);
     }
@@ -49,11 +48,7 @@ pub fn found(rt: &HostRuntime, site: Site, table: &mut [u8]) -> FindAnswer {
 fn find(rt: &HostRuntime, input: &[u8], table: &mut [u8], out: &mut [u8], text: &mut [u8])
     requires { 65536 ≤ length text.old }
 {
-    let read = sitefile::read_site(input);
-    let answer = read.answer;
-    let site = read.site;
-    let ReadAnswer::Done = answer else {
-        refuse(rt, text, input, answer);
+    let Some(site) = site_of(rt, input, text) else {
         return;
     };
     let reply = found(rt, site, table);
@@ -77,11 +72,7 @@ fn why(rt: &HostRuntime, input: &[u8], table: &mut [u8], text: &mut [u8])
     requires in_bounds { 65536 ≤ length table.old }
     requires in_bounds_2 { 65536 ≤ length text.old }
 {
-    let read = sitefile::read_site(input);
-    let answer = read.answer;
-    let site = read.site;
-    let ReadAnswer::Done = answer else {
-        refuse(rt, text, input, answer);
+    let Some(site) = site_of(rt, input, text) else {
         return;
     };
     let end = say_why::put_why(site, table, text);

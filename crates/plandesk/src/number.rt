@@ -2,16 +2,13 @@
 ghost use Rattle.std.specs.Prelude.{◌≤◌, length};
 
 use arguments::is;
-use infiles::{give_plan, read_pair, refuse};
-use numbering::{CarryAnswer, RenumberAnswer};
-use records::{ReadAnswer, Written};
+use infiles::{give_plan, read_pair, site_of};
 use reply::no;
 use site::Site;
 
 // A site in new numbers: the site file, and the text, a line for each cell. The lines are a part of the result: where they can't be written it is none.
 fn put_renumbered(rt: &HostRuntime, site: Site, out: &mut [u8], text: &[u8], end: usize) {
-    let written = sitefile::write_site(site, out);
-    let Written::Done(size) = written else {
+    let Ok(size) = sitefile::write_site(site, out) else {
         reply::unwritten(rt);
         return;
     };
@@ -30,11 +27,7 @@ fn put_renumbered(rt: &HostRuntime, site: Site, out: &mut [u8], text: &[u8], end
 fn renumber(rt: &HostRuntime, input: &[u8], out: &mut [u8], text: &mut [u8])
     requires { 65536 ≤ length text.old }
 {
-    let read = sitefile::read_site(input);
-    let answer = read.answer;
-    let site = read.site;
-    let ReadAnswer::Done = answer else {
-        refuse(rt, text, input, answer);
+    let Some(site) = site_of(rt, input, text) else {
         return;
     };
     let renumbered = numbering::renumber(site);
@@ -42,7 +35,7 @@ fn renumber(rt: &HostRuntime, input: &[u8], out: &mut [u8], text: &mut [u8])
     let new = renumbered.new;
     let moved = renumbered.site;
     let end = say_numbering::put_renumber(text, 0, new, found);
-    let RenumberAnswer::Done = found else {
+    let Ok(()) = found else {
         no(rt, text, end);
         return;
     };
@@ -61,14 +54,12 @@ fn carry(
 )
     requires { 65536 ≤ length text.old }
 {
-    let pair = read_pair(rt, input, second, from, text);
-    if !pair.good {
+    let Some(site) = read_pair(rt, input, second, from, text) else {
         return;
-    }
-    let site = pair.site;
+    };
     let carried = numbering::carry(site, from, table);
     let end = say_numbering::put_carry(text, 0, carried);
-    let CarryAnswer::Done = carried else {
+    let Ok(()) = carried else {
         no(rt, text, end);
         return;
     };

@@ -4,15 +4,9 @@ ghost use Rattle.std.specs.Prelude.{◌≤◌, length};
 
 use arguments::{NUMBERS, is, number, tries};
 use changelines::put_all_changes;
-use checker::CheckAnswer;
-use handheld::ChangeAnswer;
-use infiles::{give_plan, read_pair, refuse};
-use mender::MendAnswer;
-use planfile::PlanWritten;
-use planner::PlanAnswer;
-use records::{ReadAnswer, Written};
+use infiles::{give_plan, read_pair, site_of};
 use reply::{no, yes};
-use search::SearchAnswer;
+use search::SearchError;
 use site::Site;
 
 // After the tries of a search, whether to show how far it is.
@@ -22,16 +16,12 @@ const SHOWN: usize = 5;
 fn plan(rt: &HostRuntime, input: &[u8], table: &mut [u8], out: &mut [u8], text: &mut [u8])
     requires { 65536 ≤ length text.old }
 {
-    let read = sitefile::read_site(input);
-    let answer = read.answer;
-    let site = read.site;
-    let ReadAnswer::Done = answer else {
-        refuse(rt, text, input, answer);
+    let Some(site) = site_of(rt, input, text) else {
         return;
     };
     let planned = planner::plan(site, table);
     let end = say_verdicts::put_plan(text, 0, site, planned);
-    let PlanAnswer::Done = planned else {
+    let Ok(()) = planned else {
         no(rt, text, end);
         return;
     };
@@ -47,14 +37,12 @@ fn plan(rt: &HostRuntime, input: &[u8], table: &mut [u8], out: &mut [u8], text: 
 fn check(rt: &HostRuntime, input: &[u8], second: &[u8], table: &mut [u8], text: &mut [u8])
     requires { 65536 ≤ length text.old }
 {
-    let pair = read_pair(rt, input, second, table, text);
-    if !pair.good {
+    let Some(site) = read_pair(rt, input, second, table, text) else {
         return;
-    }
-    let site = pair.site;
+    };
     let verdict = checker::check(site, table);
     let end = say_verdicts::put_check(text, 0, site, verdict);
-    let CheckAnswer::Valid = verdict else {
+    let Ok(()) = verdict else {
         no(rt, text, end);
         return;
     };
@@ -100,15 +88,13 @@ fn mend(
 )
     requires { 65536 ≤ length text.old }
 {
-    let pair = read_pair(rt, input, second, old, text);
-    if !pair.good {
+    let Some(site) = read_pair(rt, input, second, old, text) else {
         return;
-    }
-    let site = pair.site;
+    };
     planfile::read_plan(second, table);
     let mended = mender::mend_only(site, table);
     let end = say_verdicts::put_mend(text, 0, mended);
-    let MendAnswer::Done(_) = mended else {
+    let Ok(_) = mended else {
         no(rt, text, end);
         return;
     };
@@ -118,12 +104,10 @@ fn mend(
 // Whether a plan file is the site's own plan. It has no forbidden marks, so the planner makes the table, with its marks, and the plan file of that has the same
 // bytes.
 fn own_plan(site: Site, second: &[u8], table: &mut [u8], out: &mut [u8]) -> bool {
-    let planned = planner::plan(site, table);
-    let PlanAnswer::Done = planned else {
+    let Ok(()) = planner::plan(site, table) else {
         return false;
     };
-    let written = planfile::write_plan(site, table, out);
-    let PlanWritten::Done(size) = written else {
+    let Ok(size) = planfile::write_plan(site, table, out) else {
         return false;
     };
     if size != second.len() {
@@ -134,15 +118,13 @@ fn own_plan(site: Site, second: &[u8], table: &mut [u8], out: &mut [u8]) -> bool
 
 // A site and its plan, each as a result of its own.
 fn put_both(rt: &HostRuntime, site: Site, table: &[u8], out: &mut [u8]) -> bool {
-    let written = sitefile::write_site(site, out);
-    let Written::Done(size) = written else {
+    let Ok(size) = sitefile::write_site(site, out) else {
         return false;
     };
     if !reply::result(rt, out, size) {
         return false;
     }
-    let planned = planfile::write_plan(site, table, out);
-    let PlanWritten::Done(length) = planned else {
+    let Ok(length) = planfile::write_plan(site, table, out) else {
         return false;
     };
     reply::second_result(rt, out, length)
@@ -164,7 +146,7 @@ fn change(
     let answer = changed.answer;
     let new = changed.site;
     let end = say_handheld::put_change(text, 0, cell as usize, load as usize, answer);
-    let ChangeAnswer::Done = answer else {
+    let Ok(()) = answer else {
         no(rt, text, end);
         return;
     };
@@ -190,11 +172,9 @@ fn load(
 )
     requires { 65536 ≤ length text.old }
 {
-    let pair = read_pair(rt, input, second, read, text);
-    if !pair.good {
+    let Some(site) = read_pair(rt, input, second, read, text) else {
         return;
-    }
-    let site = pair.site;
+    };
     if own_plan(site, second, table, out) {
         change(rt, site, cell, load, table, out, text);
         return;
@@ -210,7 +190,7 @@ fn sought(
     shown: bool,
     table: &mut [u8],
     text: &mut [u8],
-) -> SearchAnswer
+) -> Result<u64, SearchError>
     requires { 65536 ≤ length text.old }
 {
     if shown {
@@ -231,16 +211,12 @@ fn search(
 )
     requires { 65536 ≤ length text.old }
 {
-    let read = sitefile::read_site(input);
-    let answer = read.answer;
-    let site = read.site;
-    let ReadAnswer::Done = answer else {
-        refuse(rt, text, input, answer);
+    let Some(site) = site_of(rt, input, text) else {
         return;
     };
     let found = sought(rt, site, tries, shown, table, text);
     let end = say_search::put_search(text, 0, found);
-    let SearchAnswer::Plan(_) = found else {
+    let Ok(_) = found else {
         no(rt, text, end);
         return;
     };

@@ -3,13 +3,12 @@ ghost use Rattle.std.specs.Prelude.{◌≤◌, length};
 
 use crate::find::found;
 use arguments::is;
-use finder::FindAnswer;
-use infiles::refuse;
-use records::ReadAnswer;
+use finder::{FindError, Way};
+use infiles::site_of;
 use site::Site;
 
 // The first line, where no plan is found; whether all of it was written.
-fn put_word(rt: &HostRuntime, reply: FindAnswer, text: &mut [u8]) -> bool
+fn put_word(rt: &HostRuntime, reply: Result<Way, FindError>, text: &mut [u8]) -> bool
     requires { 65536 ≤ length text.old }
 {
     if say_find::status(reply) == 0 {
@@ -21,7 +20,7 @@ fn put_word(rt: &HostRuntime, reply: FindAnswer, text: &mut [u8]) -> bool
 }
 
 // The line of each cell, where a plan is found; whether all of it was written.
-fn put_rooms(rt: &HostRuntime, site: Site, reply: FindAnswer, text: &mut [u8]) -> bool
+fn put_rooms(rt: &HostRuntime, site: Site, reply: Result<Way, FindError>, text: &mut [u8]) -> bool
     requires { 65536 ≤ length text.old }
 {
     for i in 0..32 {
@@ -37,11 +36,7 @@ fn put_rooms(rt: &HostRuntime, site: Site, reply: FindAnswer, text: &mut [u8]) -
 fn tell_room(rt: &HostRuntime, input: &[u8], table: &mut [u8], text: &mut [u8])
     requires { 65536 ≤ length text.old }
 {
-    let read = sitefile::read_site(input);
-    let answer = read.answer;
-    let site = read.site;
-    let ReadAnswer::Done = answer else {
-        refuse(rt, text, input, answer);
+    let Some(site) = site_of(rt, input, text) else {
         return;
     };
     let reply = found(rt, site, table);

@@ -4,24 +4,17 @@ ghost use Rattle.std.specs.Prelude.{◌≡◌, ◌≤◌, ◌<◌, length};
 ghost use Rattle.search.specs.Search.{search_answer, search_table};
 ghost use Rattle.plandesk.specs.Met.{is_limit};
 
-use search::SearchAnswer;
+use search::SearchError;
 use site::Site;
 
 // The first limit: the fraction of a second that nobody minds.
 const FIRST: u64 = 100000000;
 
 // Whether the limit was met.
-fn met(reply: SearchAnswer) -> bool
+fn met(reply: Result<u64, SearchError>) -> bool
     ensures { result ≡ is_limit reply }
 {
-    match reply {
-        SearchAnswer::Plan(_) => false,
-        SearchAnswer::Full(_) => false,
-        SearchAnswer::Limit(_) => true,
-        SearchAnswer::TooMany => false,
-        SearchAnswer::TableShort => false,
-        SearchAnswer::Refused(_) => false,
-    }
+    matches!(reply, Err(SearchError::Limit(_)))
 }
 
 // The limit after this one: twice as much, or the last.
@@ -42,12 +35,13 @@ pub fn search_shown(
     limit: u64,
     table: &mut [u8],
     text: &mut [u8],
-) -> SearchAnswer
+) -> Result<u64, SearchError>
     requires { 1000 ≤ length text.old }
     ensures answer { result ≡ search_answer site limit table.old }
     ensures table { table.new ≡ search_table site limit table.old }
 {
     let mut step = FIRST;
+    // Each limit is computed from the one before it.
     while step < limit {
         let reply = search::search(site, step, table);
         if !met(reply) {

@@ -16,11 +16,12 @@ use Rattle.records.specs.Opener.{open_at}
 use Rattle.records.specs.Reasons.{Reason, reason, first_reason, record_reasons, end_reason}
 use Rattle.records.specs.Head.{head_size, cells_of_head, slots_of_head, channels_of_head, entries_of_head, head_reasons, head_answer}
 use Rattle.records.specs.declared.Length.TheVariants.{Exact}
-use Rattle.records.specs.declared.Opened.TheVariants.{Body, Refused as NotOpened}
-use Rattle.records.specs.declared.ReadAnswer.{ReadAnswer}
-use Rattle.records.specs.declared.ReadAnswer.TheVariants.{Done, Refused}
+use Rattle.records.specs.declared.Refusal.{Refusal}
+use Rattle.std.specs.Prelude.{Result, Ok, Err}
+use Rattle.records.specs.Reasons.{refusal}
 use Rattle.records.proofs.Laws as records
-use Rattle.records.proofs.Reasons.{and_then, first-append}
+use Rattle.std.specs.Result.{result_and}
+use Rattle.records.proofs.Reasons.{first-append}
 use Rattle.records.proofs.Head.{head_read-law, head-sizes}
 use Rattle.records.specs.Bits.{bytes_for, left_over}
 use Rattle.planbits.specs.Bits.{bits_from}
@@ -40,22 +41,24 @@ content_reasons s t =
     ∷ []
 
 module _ (s t : List ℕ) where
-  pub plan-parts : plan_read_answer s t ≡ and_then (head_answer s) (and_then (first_reason (open_reasons s)) (first_reason (content_reasons s t)))
+  pub plan-parts : plan_read_answer s t ≡ result_and (head_answer s) (result_and (first_reason (open_reasons s)) (first_reason (content_reasons s t)))
   unfolding plan_read_answer head_answer
   plan-parts =
       first-append (head_reasons s) (open_reasons s ++ content_reasons s t)
-      ∙ ap (and_then (first_reason (head_reasons s))) (first-append (open_reasons s) (content_reasons s t))
+      ∙ ap (result_and (first_reason (head_reasons s))) (first-append (open_reasons s) (content_reasons s t))
 
   -- what a refusal gives back and leaves
-  pub refuse : (n at : ℕ) → plan_read_answer s t ≡ Refused n at → (refused_plan (Refused n at) ≡ read_plan s t) × (t ≡ plan_table_read s t)
+  pub refuse : (r : Refusal) → plan_read_answer s t ≡ Err r → (refused_plan (Err r) ≡ read_plan s t) × (t ≡ plan_table_read s t)
   unfolding read_plan plan_read_of plan_table_read
-  refuse n at e = (rw e refl, rw e refl)
+  refuse r e = (rw e refl, rw e refl)
 
-  pub head-stop : (n at : ℕ) → head_answer s ≡ Refused n at → plan_read_answer s t ≡ Refused n at
-  head-stop n at e = plan-parts ∙ ap (λ (a : ReadAnswer). and_then a (and_then (first_reason (open_reasons s)) (first_reason (content_reasons s t)))) e
+  pub head-stop : (r : Refusal) → head_answer s ≡ Err r → plan_read_answer s t ≡ Err r
+  head-stop r e =
+      plan-parts ∙ ap (λ (a : Result Unit Refusal). result_and a (result_and (first_reason (open_reasons s)) (first_reason (content_reasons s t)))) e
 
-  past_head : head_answer s ≡ Done → plan_read_answer s t ≡ and_then (first_reason (open_reasons s)) (first_reason (content_reasons s t))
-  past_head e = plan-parts ∙ ap (λ (a : ReadAnswer). and_then a (and_then (first_reason (open_reasons s)) (first_reason (content_reasons s t)))) e
+  past_head : head_answer s ≡ Ok tt → plan_read_answer s t ≡ result_and (first_reason (open_reasons s)) (first_reason (content_reasons s t))
+  past_head e =
+      plan-parts ∙ ap (λ (a : Result Unit Refusal). result_and a (result_and (first_reason (open_reasons s)) (first_reason (content_reasons s t)))) e
 
   module _ (i a f : ℕ) (head : HeadRead s i a f) where
     pub entries-are : entries i a f ≡ entries_of_head s
@@ -67,11 +70,11 @@ module _ (s t : List ℕ) where
     pub due : head_size ≡ plan_at s
     due = omega (arith, (head_read-law s head.read).eight)
 
-    pub body-stop : (n at : ℕ) → open_at s (plan_at s) 4 (Exact (2 + bytes_for (entries_of_head s))) ≡ NotOpened n at → plan_read_answer s t ≡ Refused n at
-    body-stop n at e =
-        past_head head.read ∙ ap (λ (x : ReadAnswer). and_then x (first_reason (content_reasons s t))) (records.not_opened s (plan_at s) 4 _ n at e)
+    pub body-stop : (r : Refusal) → open_at s (plan_at s) 4 (Exact (2 + bytes_for (entries_of_head s))) ≡ Err r → plan_read_answer s t ≡ Err r
+    body-stop r e =
+        past_head head.read ∙ ap (λ (x : Result Unit Refusal). result_and x (first_reason (content_reasons s t))) (records.not_opened s (plan_at s) 4 _ r e)
 
-    module _ (start len : ℕ) (found : open_at s (plan_at s) 4 (Exact (2 + bytes_for (entries_of_head s))) ≡ Body start len) where
+    module _ (start len : ℕ) (found : open_at s (plan_at s) 4 (Exact (2 + bytes_for (entries_of_head s))) ≡ Ok (start, len)) where
       opening : records.Opening s (plan_at s) 4 (Exact (2 + bytes_for (entries_of_head s))) start len
       opening = records.opened s (plan_at s) 4 _ start len found
 
@@ -94,30 +97,31 @@ module _ (s t : List ℕ) where
 
       tail-first : plan_read_answer s t ≡ first_reason (content_reasons s t)
       tail-first =
-          past_head head.read ∙ ap (λ (x : ReadAnswer). and_then x (first_reason (content_reasons s t))) (records.opened-done s (plan_at s) 4 _ start len found)
+          past_head head.read
+          ∙ ap (λ (x : Result Unit Refusal). result_and x (first_reason (content_reasons s t))) (records.opened-done s (plan_at s) 4 _ start len found)
 
-      pub left-stop : left_over (body_in s) (entries_of_head s) ≡ true → plan_read_answer s t ≡ Refused 14 (plan_at s)
+      pub left-stop : left_over (body_in s) (entries_of_head s) ≡ true → plan_read_answer s t ≡ Err (refusal 14 (plan_at s))
       unfolding first_reason
       left-stop e = tail-first ∙ rw e refl
 
       module _ (none : left_over (body_in s) (entries_of_head s) ≡ false) where
-        pub more-stop : end_in s < length s → plan_read_answer s t ≡ Refused 12 (end_in s)
+        pub more-stop : end_in s < length s → plan_read_answer s t ≡ Err (refusal 12 (end_in s))
         unfolding first_reason
         more-stop h = tail-first ∙ rw (none, lt-ltb (end_in s) (length s) h) refl
 
         module _ (whole : length s ≤ end_in s) where
-          pub short-stop : length t < entries_of_head s → plan_read_answer s t ≡ Refused 4 0
+          pub short-stop : length t < entries_of_head s → plan_read_answer s t ≡ Err (refusal 4 0)
           unfolding first_reason
           short-stop h = tail-first ∙ rw (none, le-ltb (end_in s) (length s) whole, lt-ltb (length t) (entries_of_head s) h) refl
 
-          pub read_done : entries_of_head s ≤ length t → plan_read_answer s t ≡ Done
+          pub read_done : entries_of_head s ≤ length t → plan_read_answer s t ≡ Ok tt
           unfolding first_reason
           read_done h = tail-first ∙ rw (none, le-ltb (end_in s) (length s) whole, le-ltb (length t) (entries_of_head s) h) refl
 
 -- what a done read gives back and leaves
 pub accept :
-    (s t : List ℕ) → plan_read_answer s t ≡ Done → entries_of_head s ≤ length t →
-    (record { cells = cells_of_head s; slots = slots_of_head s; channels = channels_of_head s; answer = Done } ≡ read_plan s t)
+    (s t : List ℕ) → plan_read_answer s t ≡ Ok tt → entries_of_head s ≤ length t →
+    (record { cells = cells_of_head s; slots = slots_of_head s; channels = channels_of_head s; answer = Ok tt } ≡ read_plan s t)
     × (sets t 0 (bits_from (body_in s) 0 (entries_of_head s)) ≡ plan_table_read s t)
 unfolding read_plan plan_read_of plan_table_read
 accept s t e h =

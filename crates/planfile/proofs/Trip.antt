@@ -15,27 +15,29 @@ use Rattle.laws.specs.Choice.{pick}
 use Rattle.laws.proofs.Choice.{cases}
 use Rattle.laws.proofs.Any.{any_none, none_any}
 use Rattle.laws.proofs.Bits.{digit-zero}
-use Rattle.site.specs.Record.{entries, size, size_ok, is_fine, fault_of}
+use Rattle.site.specs.Record.{entries, size, size_ok, fault_of, answer_with}
 use Rattle.site.specs.declared.Site.{Site}
-use Rattle.site.specs.declared.Fault.TheVariants.{Fine, Size}
-use Rattle.site.proofs.Faults.{fine-is, took-first}
+use Rattle.site.specs.declared.Fault.TheVariants.{Size}
+use Rattle.site.specs.declared.Fault.{Fault}
+use Rattle.site.proofs.Faults.{took-first}
 use Rattle.records.specs.Bytes.{Bytes, le16, two_bytes_each}
 use Rattle.records.specs.Layout.{record_of}
 use Rattle.records.specs.Reasons.{first_reason}
 use Rattle.records.specs.Head.{head_record, cells_of_head, slots_of_head, channels_of_head, entries_of_head, head_answer}
 use Rattle.records.specs.declared.Length.TheVariants.{Exact}
-use Rattle.records.specs.declared.ReadAnswer.{ReadAnswer}
-use Rattle.records.specs.declared.ReadAnswer.TheVariants.{Done}
+use Rattle.records.specs.declared.Refusal.{Refusal}
+use Rattle.std.specs.Prelude.{Result, Ok, Err}
 use Rattle.records.proofs.Bytes.{bytes_drop, bytes_take}
 use Rattle.records.proofs.Laws.{Opening, record-open, exact, exact-true}
-use Rattle.records.proofs.Reasons.{and_then, both-done, done_none}
+use Rattle.std.specs.Result.{result_and}
+use Rattle.records.proofs.Reasons.{both-done, done_none}
 use Rattle.records.proofs.Head.{HeadGood, head_read-law, head_done}
 use Rattle.records.proofs.RecordTrip.{record-body, rest_back, record-back, body-length, record-again, head-again}
 use Rattle.records.specs.Bits.{bytes_for, bit_of, left_over}
 use Rattle.planbits.specs.Bits.{one, bits_from, ones, packed, packed_from}
 use Rattle.planfile.specs.Read.{plan_at, body_in, end_in, plan_read_answer, plan_read_of, read_plan, plan_table_read}
 use Rattle.planfile.specs.Write.{plan_bytes, plan_file, plan_written, plan_out}
-use Rattle.planfile.specs.declared.PlanWritten.TheVariants.{Done as Written, TableShort, OutShort, Refused as Faulty}
+use Rattle.planfile.specs.declared.PlanWriteError.TheVariants.{TableShort, OutShort, Record}
 use Rattle.planbits.proofs.Bits.{one_bit, ones_bit, bits-ones, bits_at, bit_in-law, length-bits, length-packed, packed-at}
 use Rattle.planfile.proofs.Order.{answer-is}
 use Rattle.planfile.proofs.ReadLaws.{open_reasons, content_reasons, plan-parts}
@@ -166,37 +168,37 @@ module _ (i a f : ℕ) (t : List ℕ) where
     left_back : left_over (body_in B) (entries_of_head B) ≡ false
     left_back = (λ j. left_over (body_back j) (entries-back j)) ∙ packed-left (take (entries i a f) t) (entries i a f) (length-take-le (entries i a f) t enough)
 
-    head-good : head_answer B ≡ Done
+    head-good : head_answer B ≡ Ok tt
     head-good =
         head_done B (record-back B 0 1 (two_bytes_each (i ∷ a ∷ f ∷ [])) (record_of 4 P) head-here (Exact 8) (exact-true 8 (omega arith)))
         ((λ j. size_ok (cells-back j) (slots-back j) (channels-back j)) ∙ ok)
 
-    plan-good : first_reason (open_reasons B) ≡ Done
+    plan-good : first_reason (open_reasons B) ≡ Ok tt
     plan-good =
         let n : 2 + length P ≡ 2 + bytes_for (entries_of_head B) = ap (λ (k : ℕ). 2 + k) p-length ∙ ap (λ (k : ℕ). 2 + bytes_for k) (sym entries-back) in
         record-back B (plan_at B) 4 P [] plan-here (Exact (2 + bytes_for (entries_of_head B)))
         (rw n (exact-true (2 + bytes_for (entries_of_head B)) (omega arith)))
 
-    content-good : (u : List ℕ) → entries i a f ≤ length u → first_reason (content_reasons B u) ≡ Done
+    content-good : (u : List ℕ) → entries i a f ≤ length u → first_reason (content_reasons B u) ≡ Ok tt
     unfolding first_reason
     content-good u h =
         rw (left_back, le-ltb (end_in B) (length B) (omega (arith, no_more)), le-ltb (length u) (entries_of_head B) (rw entries-back h)) refl
 
-    done-back : (u : List ℕ) → entries i a f ≤ length u → plan_read_answer B u ≡ Done
+    done-back : (u : List ℕ) → entries i a f ≤ length u → plan_read_answer B u ≡ Ok tt
     done-back u h =
         plan-parts B u
-        ∙ ap (λ (x : ReadAnswer). and_then x (and_then (first_reason (open_reasons B)) (first_reason (content_reasons B u)))) head-good
-        ∙ ap (λ (x : ReadAnswer). and_then x (first_reason (content_reasons B u))) plan-good
+        ∙ ap (λ (x : Result Unit Refusal). result_and x (result_and (first_reason (open_reasons B)) (first_reason (content_reasons B u)))) head-good
+        ∙ ap (λ (x : Result Unit Refusal). result_and x (first_reason (content_reasons B u))) plan-good
         ∙ content-good u h
 
     -- the file of a table gives back I, T and F, and 1 for each byte that was 1, 0 for each other
     pub written_read :
         (u : List ℕ) → entries i a f ≤ length u →
-        (read_plan (plan_bytes i a f t) u ≡ record { cells = i; slots = a; channels = f; answer = Done })
+        (read_plan (plan_bytes i a f t) u ≡ record { cells = i; slots = a; channels = f; answer = Ok tt })
         × (plan_table_read (plan_bytes i a f t) u ≡ map one (take (entries i a f) t) ++ drop (entries i a f) u)
     unfolding read_plan plan_read_of plan_table_read
     written_read u h = (
-      rw (done-back u h) (λ j. record { cells = cells-back j; slots = slots-back j; channels = channels-back j; answer = Done }),
+      rw (done-back u h) (λ j. record { cells = cells-back j; slots = slots-back j; channels = channels-back j; answer = Ok tt }),
       rw (done-back u h)
           ((λ j. bits_from (body_back j) 0 (entries-back j) ++ drop (entries-back j) u)
           ∙ ap (λ (l : List ℕ). l ++ drop (entries i a f) u) (packed-bits (take (entries i a f) t) (entries i a f) (length-take-le (entries i a f) t enough))),
@@ -212,7 +214,7 @@ pub record Accepted (s t : List ℕ) : Type 0 where
   pub whole : length s ≤ end_in s
   pub room : entries_of_head s ≤ length t
 
-pub accepted : (s t : List ℕ) → (read_plan s t).answer ≡ Done → Accepted s t
+pub accepted : (s t : List ℕ) → (read_plan s t).answer ≡ Ok tt → Accepted s t
 accepted s t e =
     let h = both-done _ _ (sym (plan-parts s t) ∙ sym (answer-is s t) ∙ e) in
     let p = both-done _ _ h.1 in
@@ -225,7 +227,7 @@ accepted s t e =
       room = ltb-false (length t) (entries_of_head s) n.1.1.0;
     }
 
-module _ (s t : List ℕ) (done : (read_plan s t).answer ≡ Done) (bytes : Bytes s) where
+module _ (s t : List ℕ) (done : (read_plan s t).answer ≡ Ok tt) (bytes : Bytes s) where
   ok : Accepted s t
   ok = accepted s t done
 
@@ -267,12 +269,12 @@ module _ (s t : List ℕ) (done : (read_plan s t).answer ≡ Done) (bytes : Byte
 
 -- what a done writer tells
 pub record WrittenDone (s : Site) (t out : List ℕ) (m : ℕ) : Type 0 where
-  pub fine : fault_of s ≡ Fine
+  pub fine : fault_of s ≡ Ok tt
   pub enough : size s ≤ length t
   pub fits : length (plan_file s t) ≤ length out
   pub count : m ≡ length (plan_file s t)
 
-pub written-tells : (s : Site) (t out : List ℕ) (m : ℕ) → plan_written s t out ≡ Written m → WrittenDone s t out m
+pub written-tells : (s : Site) (t out : List ℕ) (m : ℕ) → plan_written s t out ≡ Ok m → WrittenDone s t out m
 unfolding plan_written
 written-tells s t out m e = go _ _ _ refl refl refl e
   where
@@ -280,19 +282,19 @@ written-tells s t out m e = go _ _ _ refl refl refl e
     n = size s
 
     go :
-        (x y z : Bool) → is_fine (fault_of s) ≡ x → ltb (length t) n ≡ y → leb (length (plan_file s t)) (length out) ≡ z →
-        pick x (pick y TableShort (pick z (Written (length (plan_file s t))) (OutShort (length (plan_file s t))))) (Faulty (fault_of s)) ≡ Written m →
+        (x : Result Unit Fault) (y z : Bool) → fault_of s ≡ x → ltb (length t) n ≡ y → leb (length (plan_file s t)) (length out) ≡ z →
+        answer_with Record x (pick y (Err TableShort) (pick z (Ok (length (plan_file s t))) (Err (OutShort (length (plan_file s t)))))) ≡ Ok m →
         WrittenDone s t out m
-    go true false true p q r e =
-        record { fine = fine-is (fault_of s) p; enough = ltb-false (length t) n q; fits = leb-true (length (plan_file s t)) (length out) r; count = cc }
-    go true false false p q r e = let o : ◌≡◌ {A = ℕ} 0 1 = cc in absurd (omega arith)
-    go true true z p q r e = let o : ◌≡◌ {A = ℕ} 0 1 = cc in absurd (omega arith)
-    go false y z p q r e = let o : ◌≡◌ {A = ℕ} 0 1 = cc in absurd (omega arith)
+    go (Ok u) false true p q r e =
+        record { fine = p; enough = ltb-false (length t) n q; fits = leb-true (length (plan_file s t)) (length out) r; count = cc }
+    go (Ok u) false false p q r e = let o : ◌≡◌ {A = ℕ} 0 1 = cc in absurd (omega arith)
+    go (Ok u) true z p q r e = let o : ◌≡◌ {A = ℕ} 0 1 = cc in absurd (omega arith)
+    go (Err f) y z p q r e = let o : ◌≡◌ {A = ℕ} 0 1 = cc in absurd (omega arith)
 
 -- what `write_plan` wrote, `read_plan` reads: the site's I, T and F, and its table's reservations
 pub calls-written-read :
-    (s : Site) (t out u : List ℕ) (m : ℕ) → plan_written s t out ≡ Written m → size s ≤ length u →
-    (read_plan (take m (plan_out s t out)) u ≡ record { cells = s.cells; slots = s.slots; channels = s.channels; answer = Done })
+    (s : Site) (t out u : List ℕ) (m : ℕ) → plan_written s t out ≡ Ok m → size s ≤ length u →
+    (read_plan (take m (plan_out s t out)) u ≡ record { cells = s.cells; slots = s.slots; channels = s.channels; answer = Ok tt })
     × (plan_table_read (take m (plan_out s t out)) u
     ≡ map one (take (size s) t) ++ drop (size s) u)
 unfolding fault_of
@@ -300,18 +302,18 @@ calls-written-read s t out u m e h =
     let w = written-tells s t out m e in
     let file : take m (plan_out s t out) ≡ plan_file s t =
     rw (out-done s t out w.fine w.enough w.fits) (take_at (plan_file s t) (drop (length (plan_file s t)) out) m (sym w.count)) in
-    let r = written_read s.cells s.slots s.channels t (took-first _ _ Size refl w.fine) w.enough u h in
+    let r = written_read s.cells s.slots s.channels t (took-first _ _ Size w.fine) w.enough u h in
     (ap (λ (l : List ℕ). read_plan l u) file ∙ r.0, ap (λ (l : List ℕ). plan_table_read l u) file ∙ r.1)
 
 -- what `read_plan` accepted, `write_plan` writes as the same bytes, given a site with the I, T and F that were read
 pub calls-read-written :
-    (s t : List ℕ) → (read_plan s t).answer ≡ Done → Bytes s →
-    (x : Site) → fault_of x ≡ Fine → x.cells ≡ (read_plan s t).cells → x.slots ≡ (read_plan s t).slots → x.channels ≡ (read_plan s t).channels →
+    (s t : List ℕ) → (read_plan s t).answer ≡ Ok tt → Bytes s →
+    (x : Site) → fault_of x ≡ Ok tt → x.cells ≡ (read_plan s t).cells → x.slots ≡ (read_plan s t).slots → x.channels ≡ (read_plan s t).channels →
     (out : List ℕ) → length s ≤ length out →
-    (plan_written x (plan_table_read s t) out ≡ Written (length s)) × (plan_out x (plan_table_read s t) out ≡ s ++ drop (length s) out)
+    (plan_written x (plan_table_read s t) out ≡ Ok (length s)) × (plan_out x (plan_table_read s t) out ≡ s ++ drop (length s) out)
 unfolding read_plan plan_read_of plan_written
 calls-read-written s t done bytes x fine i a f out h =
-    let p : plan_read_answer s t ≡ Done = sym (answer-is s t) ∙ done in
+    let p : plan_read_answer s t ≡ Ok tt = sym (answer-is s t) ∙ done in
     let ci : x.cells ≡ cells_of_head s = rw p at i in
     let ca : x.slots ≡ slots_of_head s = rw p at a in
     let cf : x.channels ≡ channels_of_head s = rw p at f in

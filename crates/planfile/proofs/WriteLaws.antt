@@ -10,9 +10,9 @@ use lib.Seq.{sets}
 use lib.Dec.{ltb}
 use borrow.Author.Tests.{lt-ltb, le-ltb, lt-leb, le-leb}
 use Rattle.laws.proofs.Stores.{sets-append, sets-front}
-use Rattle.site.specs.Record.{entries, size, is_fine, fault_of}
+use Rattle.site.specs.Record.{entries, size, fault_of}
 use Rattle.site.specs.declared.Site.{Site}
-use Rattle.site.specs.declared.Fault.TheVariants.{Fine}
+use Rattle.std.specs.Prelude.{Ok, Err}
 use Rattle.records.specs.Bytes.{two_bytes_each}
 use Rattle.records.specs.Layout.{record_of}
 use Rattle.records.specs.Head.{head_record, head_size}
@@ -21,7 +21,7 @@ use Rattle.records.proofs.Write.{laid-short, record-put}
 use Rattle.records.specs.Bits.{bytes_for}
 use Rattle.planbits.specs.Bits.{packed}
 use Rattle.planfile.specs.Write.{plan_bytes, plan_file, plan_written, plan_out}
-use Rattle.planfile.specs.declared.PlanWritten.TheVariants.{Done, TableShort, OutShort, Refused}
+use Rattle.planfile.specs.declared.PlanWriteError.TheVariants.{TableShort, OutShort}
 use Rattle.planbits.proofs.Bits.{length-packed}
 
 pub file-length : (i a f : ℕ) (t : List ℕ) → length (plan_bytes i a f t) ≡ head_size + 4 + bytes_for (entries i a f)
@@ -29,12 +29,8 @@ unfolding plan_bytes
 file-length i a f t = simp length-append (omega (arith, length-packed (take (entries i a f) t) (bytes_for (entries i a f)) 0))
 
 module _ (s : Site) (t out : List ℕ) where
-  pub faulty : is_fine (fault_of s) ≡ false → (Refused (fault_of s) ≡ plan_written s t out) × (out ≡ plan_out s t out)
-  unfolding plan_written plan_out
-  faulty e = (rw e refl, rw e refl)
-
-  module _ (fine : fault_of s ≡ Fine) where
-    pub table-short : length t < size s → (TableShort ≡ plan_written s t out) × (out ≡ plan_out s t out)
+  module _ (fine : fault_of s ≡ Ok tt) where
+    pub table-short : length t < size s → (Err TableShort ≡ plan_written s t out) × (out ≡ plan_out s t out)
     unfolding plan_written plan_out
     table-short h =
         let e = lt-ltb (length t) (size s) h in
@@ -46,7 +42,7 @@ module _ (s : Site) (t out : List ℕ) where
 
       pub out-short :
           (need : ℕ) → need ≡ head_size + 4 + bytes_for (size s) → length out < need →
-          (OutShort need ≡ plan_written s t out) × (out ≡ plan_out s t out)
+          (Err (OutShort need) ≡ plan_written s t out) × (out ≡ plan_out s t out)
       unfolding plan_written plan_out
       out-short need q h =
           let l : length (plan_file s t) ≡ need = file-length s.cells s.slots s.channels t ∙ sym q in
@@ -59,7 +55,7 @@ module _ (s : Site) (t out : List ℕ) where
 
       pub all_done :
           (need : ℕ) → need ≡ head_size + 4 + bytes_for (size s) → need ≤ length out →
-          (Done need ≡ plan_written s t out)
+          (Ok need ≡ plan_written s t out)
           × (sets (sets (sets out 0 (head_record s.cells s.slots s.channels)) head_size (two_bytes_each ((2 + bytes_for (size s)) ∷ 4 ∷ [])))
           (head_size + 4) (packed t (size s))
           ≡ plan_out s t out)

@@ -1,13 +1,12 @@
 -- The plan file as it is read. "A plan file is kinds 1, 4." Its reader's refusals stand in one list, in the order of document 01;
 -- the answer is the first that applies.
-use Rattle.std.specs.Prelude.{ℕ, ◌+◌, List, [], ◌∷◌, ◌++◌, length, drop, ltb}
+use Rattle.std.specs.Prelude.{ℕ, ◌+◌, List, [], ◌∷◌, ◌++◌, length, drop, ltb, Result, Ok, Err}
 use Rattle.laws.specs.Choice.{pick}
 use Rattle.records.specs.Layout.{body_at, record_end}
 use Rattle.records.specs.Reasons.{Reason, reason, first_reason, is_done, record_reasons, end_reason}
 use Rattle.records.specs.Head.{cells_of_head, slots_of_head, channels_of_head, entries_of_head, after_head, head_reasons}
 use Rattle.records.specs.declared.Length.TheVariants.{Exact}
-use Rattle.records.specs.declared.ReadAnswer.{ReadAnswer}
-use Rattle.records.specs.declared.ReadAnswer.TheVariants.{Done, Refused}
+use Rattle.records.specs.declared.Refusal.{Refusal}
 use Rattle.records.specs.Bits.{bytes_for, left_over}
 use Rattle.planbits.specs.Bits.{bits_from}
 use Rattle.planfile.specs.declared.PlanRead.{PlanRead}
@@ -37,16 +36,16 @@ plan_reasons s table =
     ∷ reason (ltb (length table) (entries_of_head s)) 4 0
     ∷ []))
 
-unfoldable pub plan_read_answer : List ℕ → List ℕ → ReadAnswer
+unfoldable pub plan_read_answer : List ℕ → List ℕ → Result Unit Refusal
 plan_read_answer s table = first_reason (plan_reasons s table)
 
 -- "A plan read gives I, T and F; refused, three zeros."
-abbrev pub refused_plan : ReadAnswer → PlanRead
+abbrev pub refused_plan : Result Unit Refusal → PlanRead
 refused_plan answer = record { cells = 0; slots = 0; channels = 0; answer = answer }
 
-unfoldable pub plan_read_of : ℕ → ℕ → ℕ → ReadAnswer → PlanRead
-plan_read_of cells slots channels Done = record { cells = cells; slots = slots; channels = channels; answer = Done }
-plan_read_of cells slots channels (Refused number at) = refused_plan (Refused number at)
+unfoldable pub plan_read_of : ℕ → ℕ → ℕ → Result Unit Refusal → PlanRead
+plan_read_of cells slots channels (Ok u) = record { cells = cells; slots = slots; channels = channels; answer = Ok tt }
+plan_read_of cells slots channels (Err r) = refused_plan (Err r)
 
 unfoldable pub read_plan : List ℕ → List ℕ → PlanRead
 read_plan s table = plan_read_of (cells_of_head s) (slots_of_head s) (channels_of_head s) (plan_read_answer s table)

@@ -6,12 +6,13 @@ ghost use Rattle.site.specs.Record.{entries};
 ghost use Rattle.records.specs.Bits.{bytes_for};
 ghost use Rattle.planfile.specs.Read.{refused_plan, read_plan, plan_table_read};
 ghost use Rattle.planfile.specs.Loop.{HeadRead};
+ghost use Rattle.planfile.specs.declared.PlanWriteError.TheVariants.{Record};
 ghost use Rattle.planfile.specs.Write.{plan_written, plan_out};
 
 use planbits::{put_bits, unpack};
 use records::{
-    AFTER_HEAD, Length, Opened, ReadAnswer, head_answer, left_over, open, opened_answer, put_head,
-    put_start, two_bytes,
+    AFTER_HEAD, Length, Refusal, head_answer, left_over, open, opened_answer, put_head, put_start,
+    refuse, two_bytes,
 };
 use site::{Fault, Site};
 
@@ -21,16 +22,23 @@ pub struct PlanRead {
     pub cells: u16,
     pub slots: u16,
     pub channels: u16,
-    pub answer: ReadAnswer,
+    pub answer: Result<(), Refusal>,
 }
 
-// What the writer answers: the bytes written; the table is too short; the output is too short, with the bytes needed; or the site's fault.
+// Why the writer refuses: the table is too short; the output is too short, with the bytes needed; or what is wrong with the record.
 #[derive(Clone, Copy)]
-pub enum PlanWritten {
-    Done(usize),
+pub enum PlanWriteError {
     TableShort,
     OutShort(usize),
-    Refused(Fault),
+    Record(Fault),
+}
+
+impl From<Fault> for PlanWriteError {
+    ghost from_gives = { λ f e. e ≡ Record f };
+
+    fn from(f: Fault) -> PlanWriteError {
+        PlanWriteError::Record(f)
+    }
 }
 
 // How many table bytes a plan speaks of.
@@ -41,7 +49,7 @@ fn entries(cells: u16, slots: u16, channels: u16) -> usize
 }
 
 // A refused read: the refusal, and no site.
-fn refused(answer: ReadAnswer) -> PlanRead
+fn refused(answer: Result<(), Refusal>) -> PlanRead
     ensures { result ≡ refused_plan answer }
 {
     PlanRead {
@@ -61,25 +69,25 @@ fn read_body(bytes: &[u8], table: &mut [u8], cells: u16, slots: u16, channels: u
     let n = entries(cells, slots, channels);
     let m = (n + 7) / 8;
     let o = open(bytes, AFTER_HEAD, 4, Length::Exact((2 + m) as u16));
-    let Opened::Body(start, len) = o else {
+    let Ok((start, len)) = o else {
         return refused(opened_answer(o));
     };
     let end = start + len;
     if left_over(&bytes[start..end], n) {
-        return refused(ReadAnswer::Refused(14, AFTER_HEAD));
+        return refused(Err(refuse(14, AFTER_HEAD)));
     }
     if end < bytes.len() {
-        return refused(ReadAnswer::Refused(12, end));
+        return refused(Err(refuse(12, end)));
     }
     if table.len() < n {
-        return refused(ReadAnswer::Refused(4, 0));
+        return refused(Err(refuse(4, 0)));
     }
     unpack(&bytes[start..end], table, n);
     PlanRead {
         cells,
         slots,
         channels,
-        answer: ReadAnswer::Done,
+        answer: Ok(()),
     }
 }
 
@@ -89,7 +97,7 @@ pub fn read_plan(bytes: &[u8], table: &mut [u8]) -> PlanRead
     ensures table_after { table.new ≡ plan_table_read bytes.now table.old }
 {
     let head = head_answer(bytes);
-    let ReadAnswer::Done = head else {
+    let Ok(()) = head else {
         return refused(head);
     };
     let cells = two_bytes(bytes, 4);
@@ -99,29 +107,27 @@ pub fn read_plan(bytes: &[u8], table: &mut [u8]) -> PlanRead
 }
 
 // Writes the plan file of a site and its table into the lent output.
-pub fn write_plan(site: Site, table: &[u8], out: &mut [u8]) -> PlanWritten
+#[tactic(auto, unfolding(crate::specs::Write::plan_written, crate::specs::Write::plan_out))]
+pub fn write_plan(site: Site, table: &[u8], out: &mut [u8]) -> Result<usize, PlanWriteError>
     ensures value { result ≡ plan_written site table.now out.old }
     ensures out_after { out.new ≡ plan_out site table.now out.old }
 {
-    let fault = site.fault_in();
-    let Fault::Fine = fault else {
-        return PlanWritten::Refused(fault);
-    };
+    site.accepted()?;
     let cells = site.cells;
     let slots = site.slots;
     let channels = site.channels;
     let n = entries(cells, slots, channels);
     if table.len() < n {
-        return PlanWritten::TableShort;
+        return Err(PlanWriteError::TableShort);
     }
     let m = (n + 7) / 8;
     let at = AFTER_HEAD + 4;
     let need = at + m;
     if out.len() < need {
-        return PlanWritten::OutShort(need);
+        return Err(PlanWriteError::OutShort(need));
     }
     put_head(out, cells, slots, channels);
     put_start(out, AFTER_HEAD, (2 + m) as u16, 4);
     put_bits(&table[..n], out, at);
-    PlanWritten::Done(need)
+    Ok(need)
 }

@@ -1,43 +1,32 @@
--- The three ways that a call of the planner goes, each with its answer and its table: by the record's fault, then by the table's length. Assumes nothing.
+-- The bounds of an accepted record that the planner asks; and its answer and its table where the table that is lent is long enough. Assumes nothing.
 use mathlib.Core.Path.{◌≡◌}
-use mathlib.Core.Bool.{false}
 use mathlib.Core.List.{List, ◌++◌}
-use Prim.Native.Nat.{ℕ, ◌≤◌, ◌<◌}
+use Prim.Native.Nat.{ℕ, ◌*◌, ◌≤◌}
 use lib.ListN.{length, drop}
-use borrow.Author.Tests.{lt-ltb, le-ltb}
+use borrow.Author.Tests.{le-ltb}
 use Rattle.theory.specs.Greedy.{greedy}
-use Rattle.site.specs.Record.{fault_of, is_fine, size}
+use Rattle.site.specs.Record.{fault_of, size}
 use Rattle.site.specs.Reach.{net_of}
 use Rattle.site.specs.declared.Site.{Site}
-use Rattle.site.specs.declared.Fault.{Fault}
-use Rattle.site.specs.declared.Fault.TheVariants.{Fine}
+use Rattle.site.proofs.Faults.{fine-sized, few-positions, few_bytes}
+use Rattle.planner.proofs.Before.{either_way}
+use Rattle.std.specs.Prelude.{Ok}
 use Rattle.planner.specs.Plan.{answer_of, table_of, plan_answer, plan_table}
-use Rattle.planner.specs.declared.PlanAnswer.TheVariants.{TableShort, Refused}
+
+-- the numbers of an accepted record, multiplied as the code does
+pub few-numbers : (s : Site) → fault_of s ≡ Ok tt
+    → (s.cells ≤ 32) × (s.channels ≤ 16) × (s.slots * s.channels ≤ 2048) × (s.cells * (s.slots * s.channels) ≤ 65536)
+few-numbers s fine =
+    let z = fine-sized s fine in
+    (z.cells_most, z.channels_most, few-positions z, few_bytes z)
+
+pub ruleset accepted_record = (few-numbers, either_way)
 
 module _ (s : Site) (t : List ℕ) where
-  -- the record is at fault
-  pub refused-answer : (f : Fault) → fault_of s ≡ f → is_fine f ≡ false → plan_answer s t ≡ Refused f
-  unfolding plan_answer
-  refused-answer f e h = rw (e, h)
-
-  pub refused-table : (f : Fault) → fault_of s ≡ f → is_fine f ≡ false → plan_table s t ≡ t
-  unfolding plan_table
-  refused-table f e h = rw (e, h)
-
-  -- the table is short
-  pub short-answer : fault_of s ≡ Fine → length t < size s → plan_answer s t ≡ TableShort
-  unfolding plan_answer
-  short-answer e h = rw (e, lt-ltb (length t) (size s) h)
-
-  pub short-table : fault_of s ≡ Fine → length t < size s → plan_table s t ≡ t
-  unfolding plan_table
-  short-table e h = rw (e, lt-ltb (length t) (size s) h)
-
-  -- the greedy run
-  pub run-answer : fault_of s ≡ Fine → size s ≤ length t → plan_answer s t ≡ answer_of (greedy (net_of s))
+  pub run-answer : fault_of s ≡ Ok tt → size s ≤ length t → plan_answer s t ≡ answer_of (greedy (net_of s))
   unfolding plan_answer
   run-answer e h = rw (e, le-ltb (length t) (size s) h)
 
-  pub run-table : fault_of s ≡ Fine → size s ≤ length t → plan_table s t ≡ table_of (size s) (greedy (net_of s)) ++ drop (size s) t
+  pub run-table : fault_of s ≡ Ok tt → size s ≤ length t → plan_table s t ≡ table_of (size s) (greedy (net_of s)) ++ drop (size s) t
   unfolding plan_table
   run-table e h = rw (e, le-ltb (length t) (size s) h)

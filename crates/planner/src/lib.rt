@@ -6,6 +6,7 @@ ghost use Rattle.std.specs.Prelude.{◌≡◌, not, ◌*◌, ◌^◌, ◌≤◌,
 ghost use Rattle.laws.specs.Bits.{bit_at, bit_in};
 ghost use Rattle.theory.specs.Greedy.{greedy};
 ghost use Rattle.planner.specs.Plan.{plan_answer, plan_table, answer_of, leaves};
+ghost use Rattle.planner.specs.declared.PlanError.TheVariants.{Record};
 ghost use Rattle.planrows.specs.Row.{opens, Masks, EitherWay};
 ghost use Rattle.site.specs.Reach.{net_in, is_open};
 
@@ -14,13 +15,20 @@ use planrows::plan_row;
 use shortrows::{open_word, plan_short_row};
 use site::{Fault, Site};
 
-// What the planner answers: done; 4, the table is short; 5, a cell's number and how many of its fragments found no room; or what is wrong with the record.
+// Why the planner refuses: 4, the table is short; 5, a cell's number and how many of its fragments found no room; or what is wrong with the record.
 #[derive(Clone, Copy)]
-pub enum PlanAnswer {
-    Done,
+pub enum PlanError {
     TableShort,
     NoRoom(usize, usize),
-    Refused(Fault),
+    Record(Fault),
+}
+
+impl From<Fault> for PlanError {
+    ghost from_gives = { λ f e. e ≡ Record f };
+
+    fn from(fault: Fault) -> PlanError {
+        PlanError::Record(fault)
+    }
 }
 
 // A row of so many positions at most is planned as one word. A word has 64, but there the passes over bytes are as quick.
@@ -38,7 +46,7 @@ fn plan_rows(
     loads: &[u16; 32],
     clash: &[u32; 32],
     mask: &[u8],
-) -> PlanAnswer
+) -> Result<(), PlanError>
     requires cells_bound { (cells ≤ 32) × (channels ≤ 16) × (slots * channels ≤ 2048) × (length starts.old ≡ 32) × (length ends.old ≡ 32) }
     requires channels_in_bounds { (cells * (slots * channels) ≤ length table.old) × Masks (slots * channels) mask.now × EitherWay clash.now }
     ensures answer { result ≡ answer_of (greedy (net_in cells (slots * channels) loads.now (bit_in clash.now)
@@ -54,12 +62,12 @@ fn plan_rows(
             let end = cells * (slots * channels);
             rows::clear(&mut table[..end]);
             let cell = i + 1;
-            return PlanAnswer::NoRoom(cell, short);
+            return Err(PlanError::NoRoom(cell, short));
         }
         starts[i] = row.from as u16;
         ends[i] = row.to as u16;
     }
-    PlanAnswer::Done
+    Ok(())
 }
 
 // The same where these positions are blocked: rows are planned with a mask only where there are any.
@@ -71,7 +79,7 @@ fn plan_long(
     loads: &[u16; 32],
     clash: &[u32; 32],
     blocked: &[u64; 32],
-) -> PlanAnswer
+) -> Result<(), PlanError>
     requires { (cells ≤ 32) × (channels ≤ 16) × (slots * channels ≤ 2048) × (cells * (slots * channels) ≤ length table.old) × EitherWay clash.now }
     ensures answer { result ≡ answer_of (greedy (net_in cells (slots * channels) loads.now (bit_in clash.now)
         (is_open blocked.now))) }
@@ -120,7 +128,7 @@ fn plan_short(
     loads: &[u16; 32],
     clash: &[u32; 32],
     usable: u64,
-) -> PlanAnswer
+) -> Result<(), PlanError>
     requires cells_bound { (cells ≤ 32) × (slots * channels ≤ 64) × (length held.old ≡ 32) × (usable < 2 ^ (slots * channels)) }
     requires channels_in_bounds { (cells * (slots * channels) ≤ length table.old) × EitherWay clash.now }
     ensures answer { result ≡ answer_of (greedy (net_in cells (slots * channels) loads.now (bit_in clash.now) (bit_at usable))) }
@@ -134,10 +142,10 @@ fn plan_short(
             let end = cells * (slots * channels);
             rows::clear(&mut table[..end]);
             let cell = i + 1;
-            return PlanAnswer::NoRoom(cell, lacks);
+            return Err(PlanError::NoRoom(cell, lacks));
         }
     }
-    PlanAnswer::Done
+    Ok(())
 }
 
 // The same where the positions of a word are blocked.
@@ -149,7 +157,7 @@ fn plan_few(
     loads: &[u16; 32],
     clash: &[u32; 32],
     blocked: u64,
-) -> PlanAnswer
+) -> Result<(), PlanError>
     requires { (cells ≤ 32) × (slots * channels ≤ 64) × (cells * (slots * channels) ≤ length table.old) × EitherWay clash.now }
     ensures answer { result ≡ answer_of (greedy (net_in cells (slots * channels) loads.now (bit_in clash.now)
         (λ k. not (bit_at blocked k)))) }
@@ -165,20 +173,18 @@ fn plan_few(
 }
 
 // Plans the site into the lent table: the planner's answer for any site and any table.
-pub fn plan(site: Site, table: &mut [u8]) -> PlanAnswer
+#[tactic(auto, using(crate::proofs::Answer::accepted_record), unfolding(crate::specs::Plan::plan_answer, crate::specs::Plan::plan_table))]
+pub fn plan(site: Site, table: &mut [u8]) -> Result<(), PlanError>
     ensures answer { result ≡ plan_answer site table.old }
     ensures table { table.new ≡ plan_table site table.old }
 {
-    let fault = site.fault_in();
-    let Fault::Fine = fault else {
-        return PlanAnswer::Refused(fault);
-    };
+    site.accepted()?;
     let cells = site.cells as usize;
     let slots = site.slots as usize;
     let channels = site.channels as usize;
     let size = cells * (slots * channels);
     if table.len() < size {
-        return PlanAnswer::TableShort;
+        return Err(PlanError::TableShort);
     }
     let loads = site.loads;
     let clash = site.clash_rows();

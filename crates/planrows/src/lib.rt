@@ -54,7 +54,8 @@ fn take_over(table: &mut [u8], n: usize, i: usize, clash: &[u32; 32]) -> u32
 }
 
 // The position at index `j`: where the stretch of row `j` begins, or where it ends.
-fn place_of(places: &[u16; 32], j: usize) -> u16
+// It only looks like `loads::load_of`: a load is no place, and a name for both would say less at each of their calls.
+pub fn place_of(places: &[u16; 32], j: usize) -> u16
     requires { j < 32 }
     ensures { result ≡ get_or places.now j 0 }
 {
@@ -68,6 +69,7 @@ fn mark_by(table: &mut [u8], n: usize, i: usize, cells: u32, starts: &[u16; 32],
     ensures { table.new ≡ put (i * n) n (marks_here n (by_word cells) table.old i) table.old }
 {
     let mut left = cells;
+    // From member to member of a word: no index is counted.
     while left != 0 {
         let j = u32::trailing_zeros(left) as usize;
         let start = place_of(starts, j) as usize;

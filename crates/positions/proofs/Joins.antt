@@ -43,16 +43,16 @@ neither-not true b = not-not b
 neither-not false b = refl
 
 -- two words joined are 0 where the first is, and the second has no bit
-pub join-none : (x y : ℕ) → y < 2 ^ 64 → eqb (bit_or x y) 0 ≡ (eqb x 0 && not (any (bit_at y) 64))
+join-none : (x y : ℕ) → y < 2 ^ 64 → eqb (bit_or x y) 0 ≡ (eqb x 0 && not (any (bit_at y) 64))
 join-none x y h =
     let none : eqb y 0 ≡ not (any (bit_at y) 64) = ap (λ (n : ℕ). eqb n 0) (word-bits y 64 h) ∙ word-empty (bit_at y) 64 in
     sym (not-not (eqb (bit_or x y) 0)) ∙ ap not (either-some x y) ∙ neither-not (eqb x 0) (eqb y 0) ∙ ap (λ t. eqb x 0 && t) none
 
 -- the words below j joined, and word j
-pub joined-more : (set : List ℕ) (j all r : ℕ) → eqb all 0 ≡ not (any (blocked_at set) (64 * j))
-    → eqb r 0 ≡ (eqb all 0 && not (any (bit_at (get_or set j 0)) 64)) → eqb r 0 ≡ not (any (blocked_at set) (64 * (j + 1)))
-joined-more set j all r so_far e =
-    e ∙ ap (λ t. t && not (any (bit_at (get_or set j 0)) 64)) so_far
+pub joined-more : (set : List ℕ) (j all : ℕ) → eqb all 0 ≡ not (any (blocked_at set) (64 * j)) → get_or set j 0 < 2 ^ 64
+    → eqb (bit_or all (get_or set j 0)) 0 ≡ not (any (blocked_at set) (64 * (j + 1)))
+joined-more set j all so_far small =
+    join-none all (get_or set j 0) small ∙ ap (λ t. t && not (any (bit_at (get_or set j 0)) 64)) so_far
     ∙ neither (any (blocked_at set) (64 * j)) (any (bit_at (get_or set j 0)) 64) ∙ sym (ap not (any_word set j))
 
 -- a digit, four times

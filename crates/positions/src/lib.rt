@@ -13,7 +13,7 @@ ghost use Rattle.positions.specs.Blocked.{most_positions, blocked_at, open_in, f
 const MOST: usize = 2048;
 
 // Whether a word has bit b.
-fn has_bit(x: u64, b: usize) -> bool
+pub fn has_bit(x: u64, b: usize) -> bool
     requires { b < 64 }
     ensures { result ≡ bit_at x b }
 {
@@ -87,20 +87,13 @@ pub fn open_count(set: &[u64; 32], n: usize) -> usize
     n - blocked_count(set, n)
 }
 
-// Two words joined: it has no bit where neither has one.
-fn join(x: u64, y: u64) -> u64
-    ensures { eqb result 0 ≡ (eqb x 0 && not (any (bit_at y) 64)) }
-{
-    x | y
-}
-
 // All words of a set joined: 0 where it is empty. The loop has no branch.
 fn joined(set: &[u64; 32]) -> u64
     ensures { eqb result 0 ≡ not (any_in set.now most_positions) }
 {
     let mut all: u64 = 0;
     for j in 0..32 {
-        all = join(all, set[j]);
+        all = all | set[j];
     }
     all
 }
@@ -122,15 +115,13 @@ fn joined_past(set: &[u64; 32], n: usize) -> u64
 fn search_past(set: &[u64; 32], n: usize) -> usize
     ensures { result ≡ first_past set.now n }
 {
-    let mut k = n;
-    while k < MOST {
-        let b = lowest_from(set[k / 64], k % 64);
+    for j in n / 64..set.len() {
+        let b = lowest_from(set[j], n.saturating_sub(64 * j));
         if b < 64 {
-            return k / 64 * 64 + b;
+            return 64 * j + b;
         }
-        k = k / 64 * 64 + 64;
     }
-    k
+    n.max(MOST)
 }
 
 // The lowest position of the set at or past n; 2,048 where it has none, and n where that is more.

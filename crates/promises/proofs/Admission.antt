@@ -8,17 +8,18 @@ use mathlib.Core.Logic.{◌↔◌}
 use Prim.Native.Nat.{ℕ, ◌+◌, ◌^◌, ◌≤◌, ◌<◌}
 use native.Mathlib.Omega.{arith}
 use lib.ListN.{length}
+use Rattle.std.specs.Prelude.{Result, Ok, Err}
 use Rattle.laws.proofs.Stores.{length-list}
 use Rattle.theory.specs.Net.{Net, Reserved, Valid, everyone, Chained, Class}
 use Rattle.theory.specs.Verdict.{chain_verdict}
 use Rattle.theory.specs.Greedy.{Plans}
 use Rattle.site.specs.Record.{positions, load_at, is_fine, fault_of}
 use Rattle.site.specs.Reach.{net_of}
-use Rattle.site.specs.Given.{Given, fault_given}
+use Rattle.site.specs.Given.{Given, done_given}
 use Rattle.site.specs.declared.Site.{Site}
-use Rattle.site.specs.declared.Fault.TheVariants.{Fine, Size, Rule, Load, Reach, Blocked}
+use Rattle.site.specs.declared.Fault.{Fault}
+use Rattle.site.specs.declared.Fault.TheVariants.{Size, Rule, Load, Reach, Blocked}
 use Rattle.site.proofs.Faults.{few-positions, fine-sized}
-use Rattle.site.proofs.Means.{no-fine}
 use Rattle.judges.specs.Judges.{load_answer}
 use Rattle.judges.specs.Given.{load_given}
 use Rattle.judges.proofs.Meaning.{holds-means}
@@ -31,12 +32,12 @@ use Rattle.bestset.proofs.Carry.{best-planned, best-of-carried}
 use Rattle.flowlist.specs.List.{flow_at}
 use Rattle.flowlist.specs.declared.Flow.{Flow}
 use Rattle.admission.specs.Admit.{is_chained, answer_where, flows_of, admitted, admit_answer}
-use Rattle.admission.specs.Given.{admit_given, admit_proper, of_record}
+use Rattle.admission.specs.Given.{admit_given, of_record}
 use Rattle.admission.specs.Laden.{laden_site, Shared, summed}
 use Rattle.admission.specs.Means.{two, fifteen, sixteen, Settled, Stops}
-use Rattle.admission.specs.declared.AdmitAnswer.{AdmitAnswer}
-use Rattle.admission.specs.declared.AdmitAnswer.TheVariants.{Admitted, TooMany, NotNested, BadCell, BadFlow, BigShare, Refused}
-use Rattle.admission.proofs.Given.{admit-apart, admit-proper, done-set}
+use Rattle.admission.specs.declared.AdmitError.{AdmitError}
+use Rattle.admission.specs.declared.AdmitError.TheVariants.{TooMany, NotNested, BadCell, BadFlow, BigShare, Record}
+use Rattle.admission.proofs.Given.{admit-apart, done-set}
 use Rattle.admission.proofs.Meaning.{set-means, many-means, outside-means, flow-means, fault-means}
 use Rattle.admission.proofs.Suits.{chained-unchanged}
 use Rattle.admission.proofs.OneFlow.{sends-shared}
@@ -121,41 +122,39 @@ empty-counts s fs = empty-allowed (net_of s) (flows_of s fs)
 -- class. Each exactly where it is due; 2, 15 and 16 by the flow's cell, by its burst, period and repeats, and by products (crates/admission/specs/Means.antt).
 
 -- the record's numbers are 1 to 3, 20 and 24
-between : (a : AdmitAnswer) → 3 < (admit_given a).number → (admit_given a).number < 20 → of_record a ≡ false
-between (Admitted set) h l = refl
-between TooMany h l = refl
-between NotNested h l = refl
-between (BadCell flow) h l = refl
-between (BadFlow flow) h l = refl
-between (BigShare flow) h l = refl
-between (Refused Fine) h l = absurd (omega arith)
-between (Refused Size) h l = absurd (omega arith)
-between (Refused Rule) h l = absurd (omega arith)
-between (Refused (Load k)) h l = absurd (omega arith)
-between (Refused (Reach k)) h l = absurd (omega arith)
-between (Refused (Blocked k)) h l = absurd (omega arith)
+between : (a : Result ℕ AdmitError) → 3 < (admit_given a).number → (admit_given a).number < 20 → of_record a ≡ false
+between (Ok set) h l = refl
+between (Err TooMany) h l = refl
+between (Err NotNested) h l = refl
+between (Err (BadCell flow)) h l = refl
+between (Err (BadFlow flow)) h l = refl
+between (Err (BigShare flow)) h l = refl
+between (Err (Record Size)) h l = absurd (omega arith)
+between (Err (Record Rule)) h l = absurd (omega arith)
+between (Err (Record (Load k))) h l = absurd (omega arith)
+between (Err (Record (Reach k))) h l = absurd (omega arith)
+between (Err (Record (Blocked k))) h l = absurd (omega arith)
 
 module _ (s : Site) (fs : List Flow) where
   -- an accepted record is not refused
   not-record : Accepted s → of_record (admit_answer s fs) ≡ false
   not-record ok = at (admit_answer s fs) refl
     where
-      at : (a : AdmitAnswer) → admit_answer s fs ≡ a → of_record a ≡ false
-      at (Admitted set) e = refl
-      at TooMany e = refl
-      at NotNested e = refl
-      at (BadCell flow) e = refl
-      at (BadFlow flow) e = refl
-      at (BigShare flow) e = refl
-      at (Refused f) e =
+      at : (a : Result ℕ AdmitError) → admit_answer s fs ≡ a → of_record a ≡ false
+      at (Ok set) e = refl
+      at (Err TooMany) e = refl
+      at (Err NotNested) e = refl
+      at (Err (BadCell flow)) e = refl
+      at (Err (BadFlow flow)) e = refl
+      at (Err (BigShare flow)) e = refl
+      at (Err (Record f)) e =
           let h = (fault-means (idle (net_of s)) s fs f).0 e in
-          let fine : is_fine f ≡ true = ap is_fine (h.0 ∙ (accepted-number s).0 ok) in
-          absurd (true≢false (sym fine ∙ h.1))
+          absurd (true≢false (sym (ap is_fine ((accepted-number s).0 ok)) ∙ ap is_fine h))
 
   -- the answer behind a number, where it does not refuse the record
-  answer-of : (b : AdmitAnswer) → admit_proper b ≡ true → of_record b ≡ false → of_record (admit_answer s fs) ≡ false
+  answer-of : (b : Result ℕ AdmitError) → of_record b ≡ false → of_record (admit_answer s fs) ≡ false
       → admit_given (admit_answer s fs) ≡ admit_given b → admit_answer s fs ≡ b
-  answer-of b p q o = admit-apart (admit_answer s fs) b (admit-proper s fs) p (o ∙ sym q)
+  answer-of b q o = admit-apart (admit_answer s fs) b (o ∙ sym q)
 
   -- a number above 3 and below 20 is not the record's
   own : (g : Given) → 3 < g.number → g.number < 20 → admit_given (admit_answer s fs) ≡ g → of_record (admit_answer s fs) ≡ false
@@ -163,13 +162,17 @@ module _ (s : Site) (fs : List Flow) where
       let same = ap (λ (x : Given). x.number) e in
       between (admit_answer s fs) (omega (arith, same)) (omega (arith, same))
 
-  pub admit-fault : (Accepted s → ⊥) → admit_given (admit_answer s fs) ≡ fault_given (fault_of s)
-  admit-fault n = ap admit_given ((fault-means (idle (net_of s)) s fs (fault_of s)).1 (refl, no-fine (fault_of s) (λ e. n ((accepted-number s).1 e))))
+  pub admit-fault : (Accepted s → ⊥) → admit_given (admit_answer s fs) ≡ done_given (fault_of s)
+  admit-fault n = at (fault_of s) refl
+    where
+      at : (f : Result Unit Fault) → fault_of s ≡ f → admit_given (admit_answer s fs) ≡ done_given f
+      at (Ok u) e = absurd (n ((accepted-number s).1 e))
+      at (Err f) e = ap admit_given ((fault-means (idle (net_of s)) s fs f).1 e)
 
   pub eighteen : admit_given (admit_answer s fs) ≡ refused 18 [] ↔ (Accepted s × (16 < length fs))
   eighteen =
       let m = many-means (idle (net_of s)) s fs in (
-        λ e. let h = m.0 (answer-of TooMany refl refl (own (refused 18 []) (omega arith) (omega arith) e) e) in ((accepted-number s).1 h.0, h.1),
+        λ e. let h = m.0 (answer-of (Err TooMany) refl (own (refused 18 []) (omega arith) (omega arith) e) e) in ((accepted-number s).1 h.0, h.1),
         λ h. ap admit_given (m.1 ((accepted-number s).0 h.0, h.1)),
       )
 
@@ -177,7 +180,7 @@ module _ (s : Site) (fs : List Flow) where
   pub nineteen : admit_given (admit_answer s fs) ≡ refused 19 [] ↔ (Accepted s × (length fs ≤ 16) × (Class (net_of s) everyone → ⊥))
   nineteen =
       let m = outside-means (idle (net_of s)) s fs in (
-        λ e. let h = m.0 (answer-of NotNested refl refl (own (refused 19 []) (omega arith) (omega arith) e) e) in ((accepted-number s).1 h.0, h.1, h.2),
+        λ e. let h = m.0 (answer-of (Err NotNested) refl (own (refused 19 []) (omega arith) (omega arith) e) e) in ((accepted-number s).1 h.0, h.1, h.2),
         λ h. ap admit_given (m.1 ((accepted-number s).0 h.0, h.1, h.2)),
       )
 
@@ -190,17 +193,17 @@ module _ (s : Site) (fs : List Flow) where
   pub flow-two : Accepted s → (n : ℕ) → admit_given (admit_answer s fs) ≡ refused 2 (n ∷ []) ↔ ((k : ℕ) × (n ≡ k + 1) × Stops s fs k two)
   flow-two ok n =
       let m = flow-means (idle (net_of s)) s fs two n in
-      (λ e. m.0 (answer-of (BadCell n) refl refl (not-record ok) e), λ h. ap admit_given (m.1 h))
+      (λ e. m.0 (answer-of (Err (BadCell n)) refl (not-record ok) e), λ h. ap admit_given (m.1 h))
 
   pub flow-fifteen : (n : ℕ) → admit_given (admit_answer s fs) ≡ refused 15 (n ∷ []) ↔ ((k : ℕ) × (n ≡ k + 1) × Stops s fs k fifteen)
   flow-fifteen n =
       let m = flow-means (idle (net_of s)) s fs fifteen n in
-      (λ e. m.0 (answer-of (BadFlow n) refl refl (own (refused 15 (n ∷ [])) (omega arith) (omega arith) e) e), λ h. ap admit_given (m.1 h))
+      (λ e. m.0 (answer-of (Err (BadFlow n)) refl (own (refused 15 (n ∷ [])) (omega arith) (omega arith) e) e), λ h. ap admit_given (m.1 h))
 
   pub flow-sixteen : (n : ℕ) → admit_given (admit_answer s fs) ≡ refused 16 (n ∷ []) ↔ ((k : ℕ) × (n ≡ k + 1) × Stops s fs k sixteen)
   flow-sixteen n =
       let m = flow-means (idle (net_of s)) s fs sixteen n in
-      (λ e. m.0 (answer-of (BigShare n) refl refl (own (refused 16 (n ∷ [])) (omega arith) (omega arith) e) e), λ h. ap admit_given (m.1 h))
+      (λ e. m.0 (answer-of (Err (BigShare n)) refl (own (refused 16 (n ∷ [])) (omega arith) (omega arith) e) e), λ h. ap admit_given (m.1 h))
 
   -- a set is answered wherever nothing is refused, and only there
   pub admitted-answer : (x : ℕ) → admit_given (admit_answer s fs) ≡ done_with (x ∷ []) ↔ (Settled s fs × (x ≡ admitted s fs))

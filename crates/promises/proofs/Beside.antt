@@ -2,28 +2,26 @@
 -- where the public load test holds for the site that it makes, whose loads are the site's own and the public shares of the set's flows.
 -- A record has 32 loads. Assumes nothing.
 use mathlib.Core.Path.{◌≡◌, refl, sym, ap, subst, ◌∙◌}
-use mathlib.Core.Bool.{Bool, true, false, true≢false}
+use mathlib.Core.Bool.{true, false}
 use mathlib.Core.List.{List, [], ◌∷◌}
 use mathlib.Core.Logic.{⊎_elim, ◌↔◌}
 use Prim.Native.Nat.{ℕ, ◌+◌, ◌^◌, ◌≤◌, ◌<◌}
-use native.Mathlib.Omega.{arith}
 use lib.ListN.{length}
+use Rattle.std.specs.Prelude.{Result, Ok, Err}
 use Rattle.laws.proofs.Stores.{length-list}
 use Rattle.theory.specs.Net.{Net, Reserved, Valid, everyone, loaded, Class, LoadTest}
-use Rattle.theory.specs.Verdict.{LoadVerdict, holds, over, load_verdict}
 use Rattle.theory.specs.Greedy.{Plans}
 use Rattle.site.specs.Held.{Held}
-use Rattle.site.specs.Record.{positions, load_at, is_fine, fault_of}
+use Rattle.site.specs.Record.{positions, load_at, fault_of}
 use Rattle.site.specs.Reach.{net_of}
-use Rattle.site.specs.Given.{fault_given}
+use Rattle.site.specs.Given.{done_given}
 use Rattle.site.specs.declared.Site.{Site}
-use Rattle.site.specs.declared.Fault.TheVariants.{Fine}
+use Rattle.site.specs.declared.Fault.{Fault}
 use Rattle.site.proofs.Faults.{few-positions, fine-sized}
-use Rattle.site.proofs.Means.{no-fine}
 use Rattle.laws.proofs.Choice.{cases}
 use Rattle.judges.specs.Judges.{load_answer}
 use Rattle.judges.specs.Given.{load_given}
-use Rattle.judges.specs.declared.LoadAnswer.TheVariants as load
+use Rattle.judges.specs.declared.LoadVerdict.TheVariants as load
 use Rattle.judges.proofs.Meaning.{holds-means}
 use Rattle.planner.specs.Plan.{plan_answer}
 use Rattle.planner.specs.Given.{plan_given}
@@ -33,17 +31,14 @@ use Rattle.admitting.proofs.Best.{beside-means, empty-beside, best-beside-is}
 use Rattle.bestset.proofs.Carry.{beside-planned, beside-of-carried}
 use Rattle.flowlist.specs.List.{flow_at}
 use Rattle.flowlist.specs.declared.Flow.{Flow}
-use Rattle.admission.specs.Admit.{answer_from, flows_of}
+use Rattle.admission.specs.Admit.{flows_of}
 use Rattle.admission.specs.Beside.{admitted_beside, beside_answer}
 use Rattle.admission.specs.Given.{beside_given}
 use Rattle.admission.specs.Laden.{beside_site, Shared, summed}
-use Rattle.admission.specs.Means.{Looked, Settled}
-use Rattle.admission.specs.declared.AdmitAnswer.{AdmitAnswer}
-use Rattle.admission.specs.declared.AdmitAnswer.TheVariants.{Admitted}
-use Rattle.admission.specs.declared.BesideAnswer.TheVariants.{Answered, Over}
+use Rattle.admission.specs.Means.{Settled}
 use Rattle.admission.proofs.Given.{beside-done, beside-five}
 use Rattle.admission.proofs.BesideMeans.{besides-means, over-means, fine-means, over-not}
-use Rattle.admission.proofs.Laden.{beside-load, beside-net, beside-fine, beside-allowed, beside-most, shares-joined}
+use Rattle.admission.proofs.Laden.{beside-net, beside-fine, beside-allowed, beside-most, shares-joined}
 use Rattle.demanded.specs.Numbers.{done, done_with, refused}
 use Rattle.demanded.specs.Demands.{Accepted, LongEnough}
 use Rattle.demanded.proofs.Numbers.{accepted-number, load-number, plan-number}
@@ -124,14 +119,14 @@ module _ (s : Site) (held : Held s) (fs : List Flow) (x : ℕ) (e : beside_given
 module _ (s : Site) (fs : List Flow) where
   -- 5 exactly where the flows are looked at, and the public load test of the site names this cell and this excess
   pub five-beside : (cell excess : ℕ) → beside_given (beside_answer s fs) ≡ refused 5 (cell ∷ excess ∷ [])
-      ↔ ((length fs ≤ 16) × Class (net_of s) everyone × (load_answer s ≡ load.Over cell excess))
+      ↔ ((length fs ≤ 16) × Class (net_of s) everyone × (load_answer s ≡ Ok (load.Over cell excess)))
   five-beside cell excess = (
     λ e. (over-means s fs cell excess).0 (beside-five (beside_answer s fs) cell excess e),
     λ h. ap beside_given ((over-means s fs cell excess).1 h),
   )
 
   -- then no set is allowed, not even the empty one
-  pub five-none : (cell excess : ℕ) → load_answer s ≡ load.Over cell excess → allowed_beside (net_of s) (flows_of s fs) 0 ≡ false
+  pub five-none : (cell excess : ℕ) → load_answer s ≡ Ok (load.Over cell excess) → allowed_beside (net_of s) (flows_of s fs) 0 ≡ false
   five-none cell excess o = ⊎_elim (λ h. absurd (over-not s cell excess o ((empty-beside (net_of s) (flows_of s fs)).0 h))) (λ h. h)
       (cases (allowed_beside (net_of s) (flows_of s fs) 0))
 
@@ -141,5 +136,9 @@ module _ (s : Site) (fs : List Flow) where
   beside-answer x = (λ e. (besides-means s fs x).0 (beside-done (beside_answer s fs) x e), λ h. ap beside_given ((besides-means s fs x).1 h))
 
   -- the record's fault is passed on
-  pub beside-fault : (Accepted s → ⊥) → beside_given (beside_answer s fs) ≡ fault_given (fault_of s)
-  beside-fault n = ap beside_given (fine-means s fs (no-fine (fault_of s) (λ e. n ((accepted-number s).1 e))))
+  pub beside-fault : (Accepted s → ⊥) → beside_given (beside_answer s fs) ≡ done_given (fault_of s)
+  beside-fault n = at (fault_of s) refl
+    where
+      at : (f : Result Unit Fault) → fault_of s ≡ f → beside_given (beside_answer s fs) ≡ done_given f
+      at (Ok u) e = absurd (n ((accepted-number s).1 e))
+      at (Err f) e = ap beside_given (fine-means s fs f e)

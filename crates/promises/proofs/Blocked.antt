@@ -17,6 +17,7 @@ use Rattle.laws.proofs.Choice.{refute}
 use Rattle.laws.proofs.Grid.{kept_byte}
 use Rattle.laws.proofs.Stores.{length-list, list_at}
 use Rattle.laws.proofs.Words.{none-word}
+use Rattle.std.specs.Prelude.{Result, Ok, Err}
 use Rattle.theory.specs.Net.{Net, Reserved, demand, taken}
 use Rattle.theory.specs.Greedy.{Outcome, planned, no_room, sends, reserved, row, greedy}
 use Rattle.theory.specs.Named.{FirstBarred}
@@ -28,15 +29,15 @@ use Rattle.theory.proofs.TableLaws.{check-valid, check-names-barred, check-names
 use Rattle.positions.specs.Blocked.{blocked_at, any_in}
 use Rattle.positions.proofs.Counts.{count-open}
 use Rattle.positions.proofs.Room.{all-open}
-use Rattle.site.specs.Record.{site_of, positions, size, fault_of, is_fine}
+use Rattle.site.specs.Record.{site_of, positions, size, fault_of, answer_with}
 use Rattle.site.specs.Reach.{net_of}
 use Rattle.site.specs.Means.{FaultMeans}
-use Rattle.site.specs.Given.{Given, fault_given}
+use Rattle.site.specs.Given.{Given, fault_given, done_given}
 use Rattle.site.specs.declared.Site.{Site}
 use Rattle.site.specs.declared.Fault.{Fault}
 use Rattle.site.specs.declared.Fault.TheVariants as fault
 use Rattle.site.proofs.Accepted.{net-open, fine-sound, sound-fine}
-use Rattle.site.proofs.Given.{fault-apart}
+use Rattle.site.proofs.Given.{done-apart}
 use Rattle.site.proofs.Means.{fault-means, fault-only}
 use Rattle.judges.specs.Judges.{counted, load_answer}
 use Rattle.judges.specs.Given.{load_given}
@@ -44,12 +45,12 @@ use Rattle.judges.proofs.Meaning.{holds-open}
 use Rattle.words.specs.Words.{word_at, words_of}
 use Rattle.planner.specs.Plan.{table_of, answer_of, plan_answer, plan_table}
 use Rattle.planner.specs.Given.{plan_given}
-use Rattle.planner.specs.declared.PlanAnswer.TheVariants as plan
+use Rattle.planner.specs.declared.PlanError.TheVariants as plan
 use Rattle.planner.proofs.Meaning.{done-means}
 use Rattle.planner.proofs.Answer.{run-table}
 use Rattle.checker.specs.Check.{verdict_of, checked_by, check_answer}
 use Rattle.checker.specs.Given.{check_given}
-use Rattle.checker.specs.declared.CheckAnswer.TheVariants as check
+use Rattle.checker.specs.declared.CheckError.TheVariants as check
 use Rattle.wordforms.specs.Words.{sends_at}
 use Rattle.wordtable.specs.Plan.{plan_words_answer, plan_words}
 use Rattle.wordtable.specs.Check.{check_words_answer}
@@ -57,8 +58,7 @@ use Rattle.wordtable.specs.Forms.{to_bytes}
 use Rattle.mender.specs.Mend.{mend_answer, mend_table}
 use Rattle.mender.specs.Given.{mend_given}
 use Rattle.records.specs.Given.{read_given, written_given}
-use Rattle.records.specs.Reasons.{first_reason}
-use Rattle.records.specs.declared.ReadAnswer.TheVariants as read
+use Rattle.records.specs.Reasons.{refusal, first_reason}
 use Rattle.blockbits.specs.Blocks.{nothing_in}
 use Rattle.sitehead.specs.Head.{is_ruled}
 use Rattle.sitefile.specs.Before.{three_kinds, three_reasons, three_site}
@@ -70,7 +70,7 @@ use Rattle.demanded.specs.Numbers.{done, done_with, refused}
 use Rattle.demanded.specs.Demands.{Accepted, LongEnough, WordsEnough, open_positions}
 use Rattle.demanded.proofs.Numbers.{accepted-number, plan-number, load-number}
 use Rattle.demanded.proofs.Names.{over-names}
-use Rattle.promises.proofs.Demand1.{fault-number, site-write-leaves}
+use Rattle.promises.proofs.Demand1.{fault-other, fault-number, site-write-leaves}
 use Rattle.demanded.proofs.Demand2.{check-is-valid}
 use Rattle.promises.proofs.Words.{check-words-same, byte-is, valid-enough, room_for}
 use Rattle.promises.proofs.Mending.{mended-checks}
@@ -78,24 +78,17 @@ use Rattle.promises.proofs.Mending.{mended-checks}
 -- ---- from a number back to the tests of a call: the record's fault, and then what is lent
 
 -- an answer that no fault gives came after the record's own tests
-module _ {A : Type 0} (give : A → Given) (refuse next : A) (g : Given) where
-  no-fault : (f : Fault) → is_fine f ≡ false → give refuse ≡ fault_given f → (fault_given f ≡ g → f ≡ fault.Fine) → give refuse ≡ g → ⊥
-  no-fault f bad r h e = true≢false (sym (ap is_fine (h (sym r ∙ e))) ∙ bad)
-
-  went_on : (f : Fault) → give refuse ≡ fault_given f → (fault_given f ≡ g → f ≡ fault.Fine) → give (pick (is_fine f) next refuse) ≡ g
-      → (f ≡ fault.Fine) × (give next ≡ g)
-  went_on fault.Fine r h e = (refl, e)
-  went_on fault.Size r h e = absurd (no-fault fault.Size refl r h e)
-  went_on fault.Rule r h e = absurd (no-fault fault.Rule refl r h e)
-  went_on (fault.Load k) r h e = absurd (no-fault (fault.Load k) refl r h e)
-  went_on (fault.Reach k) r h e = absurd (no-fault (fault.Reach k) refl r h e)
-  went_on (fault.Blocked k) r h e = absurd (no-fault (fault.Blocked k) refl r h e)
+module _ {E : Type 0} (give : Result Unit E → Given) (refuse : Fault → E) (passes : (f : Fault) → give (Err (refuse f)) ≡ fault_given f)
+    (next : Result Unit E) (g : Given) (other : (f : Fault) → fault_given f ≡ g → ⊥) where
+  went_on : (f : Result Unit Fault) → give (answer_with refuse f next) ≡ g → (f ≡ Ok tt) × (give next ≡ g)
+  went_on (Ok u) e = (refl, e)
+  went_on (Err f) e = absurd (other f (sym (passes f) ∙ e))
 
 -- 4 and 22 are no fault's
-not-faulty : (f : Fault) (g : Given) → 3 < g.number → (g.number ≡ 20 → ⊥) → (g.number ≡ 24 → ⊥) → fault_given f ≡ g → f ≡ fault.Fine
-not-faulty f g l n m e =
+not-faulty : (g : Given) → 3 < g.number → (g.number ≡ 20 → ⊥) → (g.number ≡ 24 → ⊥) → (f : Fault) → fault_given f ≡ g → ⊥
+not-faulty g l n m f e =
     let same : (fault_given f).number ≡ g.number = ap (λ (x : Given). x.number) e in
-    absurd (⊎_elim (λ h. omega arith) (λ h. ⊎_elim (λ k. n (sym same ∙ k)) (λ k. m (sym same ∙ k)) h) (fault-number f))
+    ⊎_elim (λ h. omega arith) (λ h. ⊎_elim (λ k. n (sym same ∙ k)) (λ k. m (sym same ∙ k)) h) (fault-number (Err f))
 
 -- ---- "The planner skips them"
 
@@ -129,7 +122,8 @@ module _ (s : Site) (t : List ℕ) (e : plan_given (plan_answer s t) ≡ done) w
       ∙ idle-there (net_of s) p h.2.1 k w (ap not b) i l
 
 -- a run that is done, by the planner's tests
-done-then : (short : Bool) (o : Outcome) → plan_given (pick short plan.TableShort (answer_of o)) ≡ done → (short ≡ false) × ((p : List ℕ) × (o ≡ planned p))
+done-then : (short : Bool) (o : Outcome) → plan_given (pick short (Err plan.TableShort) (answer_of o)) ≡ done
+    → (short ≡ false) × ((p : List ℕ) × (o ≡ planned p))
 done-then true o e = let z : ◌≡◌ {A = ℕ} 4 0 = ap (λ (g : Given). g.number) e in absurd (omega arith)
 done-then false (planned p) e = (refl, (p, refl))
 done-then false (no_room c m) e = let z : ◌≡◌ {A = ℕ} 5 0 = ap (λ (g : Given). g.number) e in absurd (omega arith)
@@ -140,7 +134,7 @@ pub blocked-word : (s : Site) (w : List ℕ) → plan_given (plan_words_answer s
 unfolding plan_words_answer plan_words
 blocked-word s w e k l b =
     let short = ltb (length w) (positions s) in
-    let f = went_on plan_given (plan.Refused (fault_of s)) _ done (fault_of s) refl (fault-apart (fault_of s) fault.Fine) e in
+    let f = went_on plan_given plan.Record (λ g. refl) _ done (λ g z. (fault-other g).0 (ap (λ (x : Given). x.number) z)) (fault_of s) e in
     let h = done-then short (greedy (net_of s)) f.1 in
     let p = h.1.0 in
     let n = positions s in
@@ -175,7 +169,7 @@ pub mended-open : (s : Site) (u l : List ℕ) (n : ℕ) → mend_given (mend_ans
 mended-open s u l n e = valid-open s (mend_table s u l) (mended-checks s u l n e)
 
 -- a 22, by the checkers' tests
-barred-then : (short : Bool) (v : TableVerdict) (p c : ℕ) → check_given (pick short check.TableShort (verdict_of v)) ≡ refused 22 (p ∷ c ∷ [])
+barred-then : (short : Bool) (v : TableVerdict) (p c : ℕ) → check_given (pick short (Err check.TableShort) (verdict_of v)) ≡ refused 22 (p ∷ c ∷ [])
     → (short ≡ false) × ((i : ℕ) × (c ≡ i + 1) × (v ≡ barred p i))
 unfolding verdict_of
 barred-then true v p c e = let z : ◌≡◌ {A = ℕ} 4 22 = ap (λ (g : Given). g.number) e in absurd (omega arith)
@@ -214,8 +208,8 @@ module _ (s : Site) (lent due : ℕ) (res : Reserved) (p c : ℕ) where
   blocked-exactly = (
     λ e.
         let g = refused 22 (p ∷ c ∷ []) in
-        let own = not-faulty (fault_of s) g (omega arith) (λ z. omega arith) (λ z. omega arith) in
-        let f = went_on check_given (check.Refused (fault_of s)) _ g (fault_of s) refl own e in
+        let own = not-faulty g (omega arith) (λ z. omega arith) (λ z. omega arith) in
+        let f = went_on check_given check.Record (λ h. refl) _ g own (fault_of s) e in
         let w = barred-then (ltb lent due) (table_verdict (net_of s) res) p c f.1 in
         ((accepted-number s).1 f.0, ltb-false lent due w.0, (w.1.0, w.1.1, check-names-barred (net_of s) res p w.1.0 w.1.2)),
     λ h.
@@ -255,12 +249,12 @@ nothing-blocked s e = all-open s.blocked (positions s) e
 
 -- ---- "refusal 4 still counts all FT positions"
 
-plan-four : (short : Bool) (o : Outcome) → plan_given (pick short plan.TableShort (answer_of o)) ≡ refused 4 [] → short ≡ true
+plan-four : (short : Bool) (o : Outcome) → plan_given (pick short (Err plan.TableShort) (answer_of o)) ≡ refused 4 [] → short ≡ true
 plan-four true o e = refl
 plan-four false (planned u) e = let z : ◌≡◌ {A = ℕ} 0 4 = ap (λ (g : Given). g.number) e in absurd (omega arith)
 plan-four false (no_room c m) e = let z : ◌≡◌ {A = ℕ} 5 4 = ap (λ (g : Given). g.number) e in absurd (omega arith)
 
-check-four : (short : Bool) (v : TableVerdict) → check_given (pick short check.TableShort (verdict_of v)) ≡ refused 4 [] → short ≡ true
+check-four : (short : Bool) (v : TableVerdict) → check_given (pick short (Err check.TableShort) (verdict_of v)) ≡ refused 4 [] → short ≡ true
 unfolding verdict_of
 check-four true v e = refl
 check-four false valid e = let z : ◌≡◌ {A = ℕ} 0 4 = ap (λ (g : Given). g.number) e in absurd (omega arith)
@@ -269,14 +263,15 @@ check-four false (clash k a c) e = let z : ◌≡◌ {A = ℕ} 6 4 = ap (λ (g :
 check-four false (wrong i n) e = let z : ◌≡◌ {A = ℕ} 7 4 = ap (λ (g : Given). g.number) e in absurd (omega arith)
 
 module _ (s : Site) (lent due : ℕ) where
-  four : {A : Type 0} (give : A → Given) (refuse short next : A) → give refuse ≡ fault_given (fault_of s) → give short ≡ refused 4 []
-      → ((t : Bool) → give (pick t short next) ≡ refused 4 [] → t ≡ true)
-      → give (pick (is_fine (fault_of s)) (pick (ltb lent due) short next) refuse) ≡ refused 4 [] ↔ ((Accepted s) × (lent < due))
-  four give refuse short next r q only = (
+  four : {E : Type 0} (give : Result Unit E → Given) (refuse : Fault → E) (short : E) (next : Result Unit E)
+      → ((f : Fault) → give (Err (refuse f)) ≡ fault_given f) → give (Err short) ≡ refused 4 []
+      → ((t : Bool) → give (pick t (Err short) next) ≡ refused 4 [] → t ≡ true)
+      → give (answer_with refuse (fault_of s) (pick (ltb lent due) (Err short) next)) ≡ refused 4 [] ↔ ((Accepted s) × (lent < due))
+  four give refuse short next passes q only = (
     λ e.
         let g = refused 4 [] in
-        let own = not-faulty (fault_of s) g (omega arith) (λ z. omega arith) (λ z. omega arith) in
-        let f = went_on give refuse (pick (ltb lent due) short next) g (fault_of s) r own e in
+        let own = not-faulty g (omega arith) (λ z. omega arith) (λ z. omega arith) in
+        let f = went_on give refuse passes (pick (ltb lent due) (Err short) next) g own (fault_of s) e in
         ((accepted-number s).1 f.0, ltb-true lent due (only (ltb lent due) f.1)),
     λ h. rw ((accepted-number s).0 h.0, lt-ltb lent due h.1) q,
   )
@@ -290,21 +285,20 @@ pub four-counts-all : (s : Site) (t w : List ℕ)
 unfolding plan_answer check_answer plan_words_answer check_words_answer
 four-counts-all s t w =
     let run = answer_of (greedy (net_of s)) in
-    let f = fault_of s in
     let bytes = table_verdict (net_of s) (reserved (positions s) t) in
     let words = table_verdict (net_of s) (sends_at w) in (
-      four s (length t) (size s) plan_given (plan.Refused f) plan.TableShort run refl refl (λ b. plan-four b (greedy (net_of s))),
-      four s (length t) (size s) check_given (check.Refused f) check.TableShort (verdict_of bytes) refl refl (λ b. check-four b bytes),
-      four s (length w) (positions s) plan_given (plan.Refused f) plan.TableShort run refl refl (λ b. plan-four b (greedy (net_of s))),
-      four s (length w) (positions s) check_given (check.Refused f) check.TableShort (verdict_of words) refl refl (λ b. check-four b words),
+      four s (length t) (size s) plan_given plan.Record plan.TableShort run (λ f. refl) refl (λ b. plan-four b (greedy (net_of s))),
+      four s (length t) (size s) check_given check.Record check.TableShort (verdict_of bytes) (λ f. refl) refl (λ b. check-four b bytes),
+      four s (length w) (positions s) plan_given plan.Record plan.TableShort run (λ f. refl) refl (λ b. plan-four b (greedy (net_of s))),
+      four s (length w) (positions s) check_given check.Record check.TableShort (verdict_of words) (λ f. refl) refl (λ b. check-four b words),
     )
 
 -- ---- "20, blocked bit at or past FT (the lowest), after 3"
 
-pub twenty : (s : Site) (k : ℕ) → fault_given (fault_of s) ≡ refused 20 (k ∷ []) ↔ FaultMeans s (fault.Blocked k)
+pub twenty : (s : Site) (k : ℕ) → done_given (fault_of s) ≡ refused 20 (k ∷ []) ↔ FaultMeans s (Err (fault.Blocked k))
 twenty s k = (
-  λ e. let is : fault_of s ≡ fault.Blocked k = fault-apart (fault_of s) (fault.Blocked k) e in rw is at (fault-means s),
-  λ m. ap fault_given (fault-only s (fault.Blocked k) m),
+  λ e. let is : fault_of s ≡ Err (fault.Blocked k) = done-apart (fault_of s) (Err (fault.Blocked k)) e in rw is at (fault-means s),
+  λ m. ap done_given (fault-only s (Err (fault.Blocked k)) m),
 )
 
 -- any set of a site's positions may be blocked, all of them too
@@ -326,13 +320,13 @@ unblocked-written s out one e zero =
     subst (λ (file : List ℕ). ((written_given (site_written s out)).values ≡ length file ∷ []) × (site_out s out ≡ file ++ drop (length file) out))
     (same_bytes-law s one e) ((site-write-leaves s out).if_done zero)
 
-pub old-read : (file : List ℕ) → first_reason (three_reasons file) ≡ read.Done
+pub old-read : (file : List ℕ) → first_reason (three_reasons file) ≡ Ok tt
     → (read_given (read_site file).answer ≡ done) × ((read_site file).site ≡ three_site file)
 old-read file e =
     let is = same_read file e in
     (ap (λ (r : SiteRead). read_given r.answer) is, ap (λ (r : SiteRead). r.site) is)
 
 -- and what was refused is refused as it was, but for bytes after kind 3, and for a head of kind 5
-pub old-refused : (file : List ℕ) (n at : ℕ) → is_ruled file ≡ false → first_reason (three_reasons file) ≡ read.Refused n at → (n ≡ 12 → ⊥)
-    → read_given (read_site file).answer ≡ read_given (read.Refused n at)
+pub old-refused : (file : List ℕ) (n at : ℕ) → is_ruled file ≡ false → first_reason (three_reasons file) ≡ Err (refusal n at) → (n ≡ 12 → ⊥)
+    → read_given (read_site file).answer ≡ read_given (Err (refusal n at))
 old-refused file n at plain e other = ap read_given (same-refused file n at plain e other)

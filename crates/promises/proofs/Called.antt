@@ -9,11 +9,11 @@ use lib.Dec.{eqb}
 use lib.ListN.{length, take}
 use borrow.Author.Tests.{le-ltb}
 use Rattle.laws.specs.Choice.{pick}
+use Rattle.std.specs.Prelude.{Ok}
 use Rattle.records.specs.Bytes.{Bytes, two_bytes_each}
 use Rattle.records.specs.Layout.{record_of}
 use Rattle.records.specs.Given.{read_given}
 use Rattle.records.proofs.Given.{read-apart}
-use Rattle.records.specs.declared.ReadAnswer.TheVariants as read
 use Rattle.site.specs.Record.{positions}
 use Rattle.site.specs.declared.Site.{Site}
 use Rattle.blockbits.specs.Blocks.{block_record}
@@ -69,4 +69,4 @@ flows-called f n = refl
 -- so of a file that is accepted
 pub accepted-called : (file : List ℕ) → Bytes file → read_given (read_site file).answer ≡ done → input_of file ≡ SiteFile
 accepted-called file bytes ok =
-    ap input_of (sym (read_then_written file bytes (read-apart (read_site file).answer read.Done ok))) ∙ site-called (read_site file).site
+    ap input_of (sym (read_then_written file bytes (read-apart (read_site file).answer (Ok tt) ok))) ∙ site-called (read_site file).site

@@ -9,30 +9,28 @@ use native.Mathlib.Omega.{arith}
 use lib.Dec.{ltb, leb}
 use lib.ListN.{length, drop, replicate}
 use lib.Seq.{drop_at}
+use Rattle.std.specs.Prelude.{Result, Ok, Err}
+use Rattle.std.specs.Result.{result_and}
 use Rattle.laws.specs.Choice.{pick}
 use Rattle.theory.specs.Greedy.{Outcome, planned, no_room, greedy}
-use Rattle.theory.specs.Verdict.{LoadVerdict, holds, over, load_verdict, ChainVerdict, chained, broken, chain_verdict}
-use Rattle.theory.specs.Verdict.{ClassVerdict, in_class, outside, class_verdict}
+use Rattle.theory.specs.Verdict as theory
+use Rattle.theory.specs.Verdict.{holds, over, load_verdict, chained, broken, chain_verdict, in_class, outside, class_verdict}
 use Rattle.theory.proofs.Exact.{planned-size}
-use Rattle.site.specs.Record.{fault_of, is_fine, size}
+use Rattle.site.specs.Record.{fault_of, is_fine, answer_with, size}
 use Rattle.site.specs.Reach.{net_of}
-use Rattle.site.specs.Given.{Given, fault_given}
+use Rattle.site.specs.Given.{Given, fault_given, done_given}
 use Rattle.site.specs.declared.Site.{Site}
 use Rattle.site.specs.declared.Fault.{Fault}
-use Rattle.site.specs.declared.Fault.TheVariants.{Fine, Size, Rule, Load, Reach, Blocked}
+use Rattle.site.specs.declared.Fault.TheVariants.{Size, Rule, Load, Reach, Blocked}
 use Rattle.planner.specs.Plan.{answer_of, table_of, plan_answer, plan_table}
 use Rattle.planner.specs.Given.{plan_given}
-use Rattle.planner.specs.declared.PlanAnswer.TheVariants as planner
+use Rattle.planner.specs.declared.PlanError.TheVariants as planner
 use Rattle.judges.specs.Judges.{counted, load_of, load_answer, chain_of, chain_answer, class_of, class_answer}
 use Rattle.judges.specs.Given.{load_given, chain_given, class_given}
-use Rattle.judges.specs.declared.LoadAnswer.TheVariants as load
-use Rattle.judges.specs.declared.ChainAnswer.TheVariants as chain
-use Rattle.judges.specs.declared.ClassAnswer.TheVariants as class
 use Rattle.records.specs.Given.{read_given, written_given}
 use Rattle.records.specs.Write.{written, laid_over}
-use Rattle.records.specs.declared.ReadAnswer.{ReadAnswer}
-use Rattle.records.specs.declared.ReadAnswer.TheVariants as read
-use Rattle.records.specs.declared.Written.TheVariants as wrote
+use Rattle.records.specs.declared.Refusal.{Refusal}
+use Rattle.records.specs.declared.WriteError.TheVariants as wrote
 use Rattle.sitefile.specs.Write.{site_bytes, site_written, site_out}
 use Rattle.planbits.specs.Bits.{bits_from}
 use Rattle.planfile.specs.Given.{plan_written_given}
@@ -40,12 +38,20 @@ use Rattle.records.specs.Reasons.{is_done}
 use Rattle.records.specs.Head.{cells_of_head, slots_of_head, channels_of_head, entries_of_head}
 use Rattle.planfile.specs.Read.{body_in, plan_read_answer, plan_read_of, read_plan, plan_table_read}
 use Rattle.planfile.specs.Write.{plan_file, plan_written, plan_out}
-use Rattle.planfile.specs.declared.PlanWritten.TheVariants as plan
+use Rattle.planfile.specs.declared.PlanWriteError.TheVariants as plan
 use Rattle.planbits.proofs.Bits.{length-bits}
 use Rattle.demanded.specs.Numbers.{done_with}
 use Rattle.promises.specs.Leaves.{PlannerLeaves, ReaderLeaves, WriterLeaves}
 
 -- ---- the planner
+
+-- the number of a fault is neither 0 nor 5
+pub fault-other : (f : Fault) → ((fault_given f).number ≡ 0 → ⊥) × ((fault_given f).number ≡ 5 → ⊥)
+fault-other Size = (λ e. omega arith, λ e. omega arith)
+fault-other Rule = (λ e. omega arith, λ e. omega arith)
+fault-other (Load k) = (λ e. omega arith, λ e. omega arith)
+fault-other (Reach k) = (λ e. omega arith, λ e. omega arith)
+fault-other (Blocked k) = (λ e. omega arith, λ e. omega arith)
 
 -- any number but 0 and 5, and the table as it was
 plan-untouched : (n : ℕ) (t : List ℕ) (number : ℕ) → (number ≡ 0 → ⊥) → (number ≡ 5 → ⊥) → PlannerLeaves n t number t
@@ -53,19 +59,15 @@ plan-untouched n t number z f = record { if_done = λ e. absurd (z e); if_no_roo
 
 -- in either form of a table: what an outcome lays down has n places, and a cell without room leaves them 0
 module _ (n : ℕ) (t : List ℕ) (laid : Outcome → List ℕ) (idle : (c m : ℕ) → laid (no_room c m) ≡ replicate n 0) where
-  pub plan-left : (f : Fault) (short : Bool) (o : Outcome) → ((u : List ℕ) → o ≡ planned u → length (laid (planned u)) ≡ n)
-      → PlannerLeaves n t (plan_given (pick (is_fine f) (pick short planner.TableShort (answer_of o)) (planner.Refused f))).number
+  pub plan-left : (f : Result Unit Fault) (short : Bool) (o : Outcome) → ((u : List ℕ) → o ≡ planned u → length (laid (planned u)) ≡ n)
+      → PlannerLeaves n t (plan_given (answer_with planner.Record f (pick short (Err planner.TableShort) (answer_of o)))).number
       (pick (is_fine f) (pick short t (laid o ++ drop n t)) t)
-  plan-left Fine true o h = plan-untouched n t 4 (λ e. omega arith) (λ e. omega arith)
-  plan-left Fine false (planned u) h =
-      record { if_done = λ _. drop_at (laid (planned u)) (drop n t) n (h u refl); if_no_room = λ e. absurd (omega arith); if_refused = λ z _. absurd (z refl) }
-  plan-left Fine false (no_room c m) h =
+  plan-left (Ok u) true o h = plan-untouched n t 4 (λ e. omega arith) (λ e. omega arith)
+  plan-left (Ok u) false (planned v) h =
+      record { if_done = λ _. drop_at (laid (planned v)) (drop n t) n (h v refl); if_no_room = λ e. absurd (omega arith); if_refused = λ z _. absurd (z refl) }
+  plan-left (Ok u) false (no_room c m) h =
       record { if_done = λ e. absurd (omega arith); if_no_room = λ _. ap (λ (x : List ℕ). x ++ drop n t) (idle c m); if_refused = λ _ f. absurd (f refl) }
-  plan-left Size short o h = plan-untouched n t 1 (λ e. omega arith) (λ e. omega arith)
-  plan-left Rule short o h = plan-untouched n t 24 (λ e. omega arith) (λ e. omega arith)
-  plan-left (Load k) short o h = plan-untouched n t 2 (λ e. omega arith) (λ e. omega arith)
-  plan-left (Reach k) short o h = plan-untouched n t 3 (λ e. omega arith) (λ e. omega arith)
-  plan-left (Blocked k) short o h = plan-untouched n t 20 (λ e. omega arith) (λ e. omega arith)
+  plan-left (Err f) short o h = plan-untouched n t (fault_given f).number (fault-other f).0 (fault-other f).1
 
 pub plan-leaves : (s : Site) (t : List ℕ) → PlannerLeaves (size s) t (plan_given (plan_answer s t)).number (plan_table s t)
 unfolding plan_answer plan_table
@@ -73,11 +75,11 @@ plan-leaves s t = plan-left (size s) t (table_of (size s)) (λ _ _. refl) (fault
 
 -- ---- the plan reader
 
-read_left : (a : ReadAnswer) (bits t : List ℕ) (n i o u : ℕ) → length bits ≡ n
+read_left : (a : Result Unit Refusal) (bits t : List ℕ) (n i o u : ℕ) → length bits ≡ n
     → ReaderLeaves n t (read_given (plan_read_of i o u a).answer).number (pick (is_done a) (bits ++ drop n t) t)
 unfolding plan_read_of
-read_left read.Done bits t n i o u h = record { if_done = λ _. drop_at bits (drop n t) n h; if_refused = λ z. absurd (z refl) }
-read_left (read.Refused number at) bits t n i o u h = record { if_done = λ _. refl; if_refused = λ _. refl }
+read_left (Ok a) bits t n i o u h = record { if_done = λ _. drop_at bits (drop n t) n h; if_refused = λ z. absurd (z refl) }
+read_left (Err r) bits t n i o u h = record { if_done = λ _. refl; if_refused = λ _. refl }
 
 pub plan-read-leaves : (file t : List ℕ) → ReaderLeaves (entries_of_head file) t (read_given (read_plan file t).answer).number (plan_table_read file t)
 unfolding read_plan plan_table_read
@@ -98,39 +100,28 @@ module _ (file out : List ℕ) where
   out-untouched g z = record { if_done = λ e. absurd (z e); if_refused = λ _. refl }
 
   -- a site file, or a sheet
-  pub file-left : (f : Fault) (fits : Bool)
-      → WriterLeaves file out (written_given (pick (is_fine f) (pick fits (wrote.Done (length file)) (wrote.OutShort (length file))) (wrote.Refused f)))
+  pub file-left : (f : Result Unit Fault) (fits : Bool)
+      → WriterLeaves file out (written_given (answer_with wrote.Record f (pick fits (Ok (length file)) (Err (wrote.OutShort (length file))))))
       (pick (is_fine f) (pick fits (file ++ drop (length file) out) out) out)
-  file-left Fine true = did_write
-  file-left Fine false = out-untouched _ (λ e. omega arith)
-  file-left Size fits = out-untouched _ (λ e. omega arith)
-  file-left Rule fits = out-untouched _ (λ e. omega arith)
-  file-left (Load k) fits = out-untouched _ (λ e. omega arith)
-  file-left (Reach k) fits = out-untouched _ (λ e. omega arith)
-  file-left (Blocked k) fits = out-untouched _ (λ e. omega arith)
+  file-left (Ok u) true = did_write
+  file-left (Ok u) false = out-untouched _ (λ e. omega arith)
+  file-left (Err f) fits = out-untouched _ (fault-other f).0
 
-  plan-file-left : (f : Fault) (short fits : Bool)
+  plan-file-left : (f : Result Unit Fault) (short fits : Bool)
       → WriterLeaves file out
-      (plan_written_given (pick (is_fine f) (pick short plan.TableShort (pick fits (plan.Done (length file)) (plan.OutShort (length file)))) (plan.Refused f)))
+      (plan_written_given
+      (answer_with plan.Record f (pick short (Err plan.TableShort) (pick fits (Ok (length file)) (Err (plan.OutShort (length file)))))))
       (pick (is_fine f) (pick short out (pick fits (file ++ drop (length file) out) out)) out)
-  plan-file-left Fine true fits = out-untouched _ (λ e. omega arith)
-  plan-file-left Fine false true = did_write
-  plan-file-left Fine false false = out-untouched _ (λ e. omega arith)
-  plan-file-left Size short fits = out-untouched _ (λ e. omega arith)
-  plan-file-left Rule short fits = out-untouched _ (λ e. omega arith)
-  plan-file-left (Load k) short fits = out-untouched _ (λ e. omega arith)
-  plan-file-left (Reach k) short fits = out-untouched _ (λ e. omega arith)
-  plan-file-left (Blocked k) short fits = out-untouched _ (λ e. omega arith)
+  plan-file-left (Ok u) true fits = out-untouched _ (λ e. omega arith)
+  plan-file-left (Ok u) false true = did_write
+  plan-file-left (Ok u) false false = out-untouched _ (λ e. omega arith)
+  plan-file-left (Err f) short fits = out-untouched _ (fault-other f).0
 
 -- what a writer that is done was given
-pub wrote-fine : (f : Fault) (fits : Bool) (n : ℕ)
-    → (written_given (pick (is_fine f) (pick fits (wrote.Done n) (wrote.OutShort n)) (wrote.Refused f))).number ≡ 0 → f ≡ Fine
-wrote-fine Fine fits n e = refl
-wrote-fine Size fits n e = absurd (omega arith)
-wrote-fine Rule fits n e = absurd (omega arith)
-wrote-fine (Load k) fits n e = absurd (omega arith)
-wrote-fine (Reach k) fits n e = absurd (omega arith)
-wrote-fine (Blocked k) fits n e = absurd (omega arith)
+pub wrote-fine : (f : Result Unit Fault) (fits : Bool) (n : ℕ)
+    → (written_given (answer_with wrote.Record f (pick fits (Ok n) (Err (wrote.OutShort n))))).number ≡ 0 → f ≡ Ok tt
+wrote-fine (Ok u) fits n e = refl
+wrote-fine (Err f) fits n e = absurd ((fault-other f).0 e)
 
 pub site-write-leaves : (s : Site) (out : List ℕ) → WriterLeaves (site_bytes s) out (written_given (site_written s out)) (site_out s out)
 unfolding site_written site_out written laid_over
@@ -142,44 +133,32 @@ plan-write-leaves s t out = plan-file-left (plan_file s t) out (fault_of s) (ltb
 
 -- ---- "Load test and chain judge are verdicts; they refuse only with 1 to 3."; W8: and with 20, "after 3"; W11: and with 24, "after 1"
 
-load-refusals : (f : Fault) (v : LoadVerdict) → (load_given (pick (is_fine f) (load_of v) (load.Refused f))).number ≡ (fault_given f).number
-load-refusals Fine holds = refl
-load-refusals Fine (over i m) = refl
-load-refusals Size v = refl
-load-refusals Rule v = refl
-load-refusals (Load k) v = refl
-load-refusals (Reach k) v = refl
-load-refusals (Blocked k) v = refl
+load-refusals : (f : Result Unit Fault) (v : theory.LoadVerdict) → (load_given (result_and f (Ok (load_of v)))).number ≡ (done_given f).number
+load-refusals (Ok u) holds = refl
+load-refusals (Ok u) (over i m) = refl
+load-refusals (Err f) v = refl
 
-chain-refusals : (f : Fault) (v : ChainVerdict) → (chain_given (pick (is_fine f) (chain_of v) (chain.Refused f))).number ≡ (fault_given f).number
-chain-refusals Fine chained = refl
-chain-refusals Fine (broken a b c) = refl
-chain-refusals Size v = refl
-chain-refusals Rule v = refl
-chain-refusals (Load k) v = refl
-chain-refusals (Reach k) v = refl
-chain-refusals (Blocked k) v = refl
+chain-refusals : (f : Result Unit Fault) (v : theory.ChainVerdict) → (chain_given (result_and f (Ok (chain_of v)))).number ≡ (done_given f).number
+chain-refusals (Ok u) chained = refl
+chain-refusals (Ok u) (broken a b c) = refl
+chain-refusals (Err f) v = refl
 
-class-refusals : (f : Fault) (v : ClassVerdict) → (class_given (pick (is_fine f) (class_of v) (class.Refused f))).number ≡ (fault_given f).number
-class-refusals Fine in_class = refl
-class-refusals Fine (outside a b i) = refl
-class-refusals Size v = refl
-class-refusals Rule v = refl
-class-refusals (Load k) v = refl
-class-refusals (Reach k) v = refl
-class-refusals (Blocked k) v = refl
+class-refusals : (f : Result Unit Fault) (v : theory.ClassVerdict) → (class_given (result_and f (Ok (class_of v)))).number ≡ (done_given f).number
+class-refusals (Ok u) in_class = refl
+class-refusals (Ok u) (outside a b i) = refl
+class-refusals (Err f) v = refl
 
 -- their number is that of the record's fault
-pub load-refuses : (s : Site) → (load_given (load_answer s)).number ≡ (fault_given (fault_of s)).number
+pub load-refuses : (s : Site) → (load_given (load_answer s)).number ≡ (done_given (fault_of s)).number
 unfolding load_answer
 load-refuses s = load-refusals (fault_of s) (load_verdict (net_of s) (counted s))
 
-pub chain-refuses : (s : Site) → (chain_given (chain_answer s)).number ≡ (fault_given (fault_of s)).number
+pub chain-refuses : (s : Site) → (chain_given (chain_answer s)).number ≡ (done_given (fault_of s)).number
 unfolding chain_answer
 chain-refuses s = chain-refusals (fault_of s) (chain_verdict (net_of s) (counted s))
 
 -- W9: and so the judge of the class
-pub class-refuses : (s : Site) → (class_given (class_answer s)).number ≡ (fault_given (fault_of s)).number
+pub class-refuses : (s : Site) → (class_given (class_answer s)).number ≡ (done_given (fault_of s)).number
 unfolding class_answer
 class-refuses s = class-refusals (fault_of s) (class_verdict (net_of s) (counted s))
 
@@ -187,13 +166,13 @@ class-refuses s = class-refusals (fault_of s) (class_verdict (net_of s) (counted
 abbrev pub OfRecord : ℕ → Type 0
 OfRecord number = (number ≤ 3) ⊎ ((number ≡ 20) ⊎ (number ≡ 24))
 
-pub fault-number : (f : Fault) → OfRecord (fault_given f).number
-fault-number Fine = inl (omega arith)
-fault-number Size = inl (omega arith)
-fault-number Rule = inr (inr refl)
-fault-number (Load k) = inl (omega arith)
-fault-number (Reach k) = inl (omega arith)
-fault-number (Blocked k) = inr (inl refl)
+pub fault-number : (f : Result Unit Fault) → OfRecord (done_given f).number
+fault-number (Ok u) = inl (omega arith)
+fault-number (Err Size) = inl (omega arith)
+fault-number (Err Rule) = inr (inr refl)
+fault-number (Err (Load k)) = inl (omega arith)
+fault-number (Err (Reach k)) = inl (omega arith)
+fault-number (Err (Blocked k)) = inr (inl refl)
 
 -- and so is 0, or 1 to 3, or 20, or 24
 pub verdicts-of-record : (s : Site) → OfRecord (load_given (load_answer s)).number × OfRecord (chain_given (chain_answer s)).number

@@ -8,11 +8,11 @@ use lib.Dec.{leb}
 use lib.ListN.{length, take, drop}
 use lib.Seq.{take_at}
 use borrow.Author.Tests.{le-leb}
+use Rattle.std.specs.Prelude.{Ok}
 use Rattle.records.specs.Bytes.{Bytes, le16}
 use Rattle.records.specs.Given.{read_given, written_given}
 use Rattle.records.proofs.Given.{read-apart}
 use Rattle.records.specs.Write.{written, laid_over}
-use Rattle.records.specs.declared.ReadAnswer.TheVariants as read
 use Rattle.site.specs.Record.{size, fault_of}
 use Rattle.site.specs.declared.Site.{Site}
 use Rattle.site.specs.Given.{Given}
@@ -31,7 +31,6 @@ use Rattle.planfile.specs.Read.{read_plan, plan_table_read}
 use Rattle.planfile.specs.Write.{plan_written, plan_out}
 use Rattle.planfile.specs.Given.{plan_written_given}
 use Rattle.planfile.specs.declared.PlanRead.{PlanRead}
-use Rattle.planfile.specs.declared.PlanWritten.TheVariants as plan
 use Rattle.planfile.proofs.Given.{written_apart}
 use Rattle.planfile.proofs.Trip.{calls-written-read, calls-read-written}
 use Rattle.demanded.specs.Numbers.{done, done_with}
@@ -63,7 +62,7 @@ pub site-read-written : (file : List ℕ) → Bytes file → read_given (read_si
     × (site_out (read_site file).site out ≡ file ++ drop (length file) out)
 unfolding written laid_over
 site-read-written file bytes ok out fits =
-    let w = written-again file bytes (read-apart (read_site file).answer read.Done ok) out in
+    let w = written-again file bytes (read-apart (read_site file).answer (Ok tt) ok) out in
     let room = le-leb (length file) (length out) fits in
     (ap written_given w.0 ∙ rw room, w.1 ∙ rw room)
 
@@ -75,7 +74,7 @@ pub plan-written-read : (s : Site) (t out u : List ℕ) (n : ℕ) → plan_writt
     (read_given back.answer ≡ done) × (back.cells ≡ s.cells) × (back.slots ≡ s.slots) × (back.channels ≡ s.channels)
     × (plan_table_read (take n (plan_out s t out)) u ≡ map one (take (size s) t) ++ drop (size s) u)
 plan-written-read s t out u n e long =
-    let w = calls-written-read s t out u n (written_apart (plan_written s t out) (plan.Done n) e) long in (
+    let w = calls-written-read s t out u n (written_apart (plan_written s t out) (Ok n) e) long in (
       ap (λ (r : PlanRead). read_given r.answer) w.0,
       ap (λ (r : PlanRead). r.cells) w.0,
       ap (λ (r : PlanRead). r.slots) w.0,
@@ -90,12 +89,12 @@ pub plan-read-written : (file t : List ℕ) → read_given (read_plan file t).an
     → (plan_written_given (plan_written s (plan_table_read file t) out) ≡ done_with (length file ∷ []))
     × (plan_out s (plan_table_read file t) out ≡ file ++ drop (length file) out)
 plan-read-written file t ok bytes s fine i a f out fits =
-    let w = calls-read-written file t (read-apart (read_plan file t).answer read.Done ok) bytes s ((accepted-number s).0 fine) i a f out fits in
+    let w = calls-read-written file t (read-apart (read_plan file t).answer (Ok tt) ok) bytes s ((accepted-number s).0 fine) i a f out fits in
     (ap plan_written_given w.0, w.1)
 
 -- "A site file is kinds 1, 2, 3; kind 3 is there even when empty": its length and its kind stand after the loads of every file that is accepted
 pub kind-three-there : (file : List ℕ) → read_given (read_site file).answer ≡ done
     → let at = reach_at file in (at + 4 ≤ length file) × (2 ≤ le16 file at) × (le16 file (at + 2) ≡ 3)
 kind-three-there file ok =
-    let r = (accepted file (sym (first-refused file) ∙ read-apart (read_site file).answer read.Done ok)).reach in
+    let r = (accepted file (sym (first-refused file) ∙ read-apart (read_site file).answer (Ok tt) ok)).reach in
     (r.four, length-least Pairs (le16 file (reach_at file)) r.fits, r.same)

@@ -9,6 +9,7 @@ use native.Mathlib.Omega.{arith}
 use lib.Dec.{eqb}
 use lib.ListN.{get_or}
 use borrow.Author.Tests.{le-ltb}
+use Rattle.std.specs.Prelude.{Result, Ok, Err, is_ok}
 use Rattle.laws.specs.Bits.{bit_at}
 use Rattle.laws.specs.Choice.{pick}
 use Rattle.laws.specs.Sum.{sum}
@@ -20,7 +21,7 @@ use Rattle.site.specs.Reach.{net_of}
 use Rattle.site.specs.Given.{Given, fault_given}
 use Rattle.site.specs.declared.Site.{Site}
 use Rattle.site.specs.declared.Fault.{Fault}
-use Rattle.site.specs.declared.Fault.TheVariants.{Fine, Size, Rule, Load, Reach, Blocked}
+use Rattle.site.specs.declared.Fault.TheVariants.{Size, Rule, Load, Reach, Blocked}
 use Rattle.planner.specs.Plan.{plan_answer, plan_table}
 use Rattle.planner.specs.Given.{plan_given}
 use Rattle.heaviest.specs.Sets.{heaviest_of}
@@ -29,11 +30,13 @@ use Rattle.search.specs.Search.{most_fragments, most_open, too_large}
 use Rattle.finding.specs.Means.{NoneOver, NoNumbering}
 use Rattle.finder.specs.Find.{find_answer, find_table, over_full_answer}
 use Rattle.finder.specs.Given.{find_given, over_full_given}
-use Rattle.finder.specs.declared.FindAnswer.{FindAnswer}
-use Rattle.finder.specs.declared.FindAnswer.TheVariants.{Greedy, Renumbered, Searched, Full, FullInClass, FullSearched, NotKnown, TableShort, Refused}
-use Rattle.finder.specs.declared.OverFullAnswer.TheVariants as over
-use Rattle.finder.proofs.Given.{find-apart, find-proper, over-apart, over-proper}
-use Rattle.finder.proofs.Right.{is_plan, is_none, is_verdict, none-verdict, none-no-plan}
+use Rattle.finder.specs.declared.Way.{Way}
+use Rattle.finder.specs.declared.FindError.{FindError}
+use Rattle.finder.specs.declared.Way.TheVariants.{Greedy, Renumbered, Searched}
+use Rattle.finder.specs.declared.FindError.TheVariants.{Full, FullInClass, FullSearched, NotKnown, TableShort, Record}
+use Rattle.finder.specs.declared.OverFull.TheVariants as over
+use Rattle.finder.proofs.Given.{find-apart, over-apart}
+use Rattle.finder.proofs.Right.{is_none, is_verdict, none-verdict, none-no-plan}
 use Rattle.finder.proofs.Right as right
 use Rattle.demanded.specs.Numbers.{done, done_with}
 use Rattle.demanded.specs.Demands.{Accepted, DefinitionOne}
@@ -52,45 +55,40 @@ abbrev way_in : Given → ℕ
 way_in g = get_or g.values 1 9
 
 fault-none : (f : Fault) → verdict_in (fault_given f) ≡ 9
-fault-none Fine = refl
 fault-none Size = refl
 fault-none Rule = refl
 fault-none (Load k) = refl
 fault-none (Reach k) = refl
 fault-none (Blocked k) = refl
 
-plan-said : (a : FindAnswer) (way x : ℕ) → find_given a ≡ found_plan way x → is_plan a ≡ true
-plan-said Greedy way x e = refl
-plan-said Renumbered way x e = refl
-plan-said (Searched n) way x e = refl
-plan-said (Full c) way x e = let z : ◌≡◌ {A = ℕ} 1 0 = ap verdict_in e in absurd (omega arith)
-plan-said FullInClass way x e = let z : ◌≡◌ {A = ℕ} 1 0 = ap verdict_in e in absurd (omega arith)
-plan-said (FullSearched n) way x e = let z : ◌≡◌ {A = ℕ} 1 0 = ap verdict_in e in absurd (omega arith)
-plan-said (NotKnown n) way x e = let z : ◌≡◌ {A = ℕ} 2 0 = ap verdict_in e in absurd (omega arith)
-plan-said TableShort way x e = let z : ◌≡◌ {A = ℕ} 9 0 = ap verdict_in e in absurd (omega arith)
-plan-said (Refused f) way x e = let z : verdict_in (fault_given f) ≡ 0 = ap verdict_in e in absurd (omega (arith, fault-none f))
+plan-said : (a : Result Way FindError) (way x : ℕ) → find_given a ≡ found_plan way x → is_ok a ≡ true
+plan-said (Ok w) way x e = refl
+plan-said (Err (Full c)) way x e = let z : ◌≡◌ {A = ℕ} 1 0 = ap verdict_in e in absurd (omega arith)
+plan-said (Err FullInClass) way x e = let z : ◌≡◌ {A = ℕ} 1 0 = ap verdict_in e in absurd (omega arith)
+plan-said (Err (FullSearched n)) way x e = let z : ◌≡◌ {A = ℕ} 1 0 = ap verdict_in e in absurd (omega arith)
+plan-said (Err (NotKnown n)) way x e = let z : ◌≡◌ {A = ℕ} 2 0 = ap verdict_in e in absurd (omega arith)
+plan-said (Err TableShort) way x e = let z : ◌≡◌ {A = ℕ} 9 0 = ap verdict_in e in absurd (omega arith)
+plan-said (Err (Record f)) way x e = let z : verdict_in (fault_given f) ≡ 0 = ap verdict_in e in absurd (omega (arith, fault-none f))
 
-none_said : (a : FindAnswer) (way x : ℕ) → find_given a ≡ found_none way x → is_none a ≡ true
-none_said Greedy way x e = let z : ◌≡◌ {A = ℕ} 0 1 = ap verdict_in e in absurd (omega arith)
-none_said Renumbered way x e = let z : ◌≡◌ {A = ℕ} 0 1 = ap verdict_in e in absurd (omega arith)
-none_said (Searched n) way x e = let z : ◌≡◌ {A = ℕ} 0 1 = ap verdict_in e in absurd (omega arith)
-none_said (Full c) way x e = refl
-none_said FullInClass way x e = refl
-none_said (FullSearched n) way x e = refl
-none_said (NotKnown n) way x e = let z : ◌≡◌ {A = ℕ} 2 1 = ap verdict_in e in absurd (omega arith)
-none_said TableShort way x e = let z : ◌≡◌ {A = ℕ} 9 1 = ap verdict_in e in absurd (omega arith)
-none_said (Refused f) way x e = let z : verdict_in (fault_given f) ≡ 1 = ap verdict_in e in absurd (omega (arith, fault-none f))
+none_said : (a : Result Way FindError) (way x : ℕ) → find_given a ≡ found_none way x → is_none a ≡ true
+none_said (Ok Greedy) way x e = let z : ◌≡◌ {A = ℕ} 0 1 = ap verdict_in e in absurd (omega arith)
+none_said (Ok Renumbered) way x e = let z : ◌≡◌ {A = ℕ} 0 1 = ap verdict_in e in absurd (omega arith)
+none_said (Ok (Searched n)) way x e = let z : ◌≡◌ {A = ℕ} 0 1 = ap verdict_in e in absurd (omega arith)
+none_said (Err (Full c)) way x e = refl
+none_said (Err FullInClass) way x e = refl
+none_said (Err (FullSearched n)) way x e = refl
+none_said (Err (NotKnown n)) way x e = let z : ◌≡◌ {A = ℕ} 2 1 = ap verdict_in e in absurd (omega arith)
+none_said (Err TableShort) way x e = let z : ◌≡◌ {A = ℕ} 9 1 = ap verdict_in e in absurd (omega arith)
+none_said (Err (Record f)) way x e = let z : verdict_in (fault_given f) ≡ 1 = ap verdict_in e in absurd (omega (arith, fault-none f))
 
-class-said : (a : FindAnswer) (x : ℕ) → is_none a ≡ true → find_given a ≡ found_none 2 x → a ≡ FullInClass
-class-said Greedy x h e = absurd (true≢false (sym h))
-class-said Renumbered x h e = absurd (true≢false (sym h))
-class-said (Searched n) x h e = absurd (true≢false (sym h))
-class-said (Full c) x h e = let z : ◌≡◌ {A = ℕ} 1 2 = ap way_in e in absurd (omega arith)
-class-said FullInClass x h e = refl
-class-said (FullSearched n) x h e = let z : ◌≡◌ {A = ℕ} 3 2 = ap way_in e in absurd (omega arith)
-class-said (NotKnown n) x h e = absurd (true≢false (sym h))
-class-said TableShort x h e = absurd (true≢false (sym h))
-class-said (Refused f) x h e = absurd (true≢false (sym h))
+class-said : (a : Result Way FindError) (x : ℕ) → is_none a ≡ true → find_given a ≡ found_none 2 x → a ≡ Err FullInClass
+class-said (Ok w) x h e = absurd (true≢false (sym h))
+class-said (Err (Full c)) x h e = let z : ◌≡◌ {A = ℕ} 1 2 = ap way_in e in absurd (omega arith)
+class-said (Err FullInClass) x h e = refl
+class-said (Err (FullSearched n)) x h e = let z : ◌≡◌ {A = ℕ} 3 2 = ap way_in e in absurd (omega arith)
+class-said (Err (NotKnown n)) x h e = absurd (true≢false (sym h))
+class-said (Err TableShort) x h e = absurd (true≢false (sym h))
+class-said (Err (Record f)) x h e = absurd (true≢false (sym h))
 
 -- ---- `find`
 
@@ -101,7 +99,7 @@ too_large-law s e few =
     true≢false (sym e ∙ no)
 
 module _ (s : Site) (limit : ℕ) (t : List ℕ) where
-  abbrev said : FindAnswer
+  abbrev said : Result Way FindError
   said = find_answer s limit t
 
   a-plan : (way x : ℕ) → find_given said ≡ found_plan way x → DefinitionOne s (find_table s limit t)
@@ -118,7 +116,7 @@ module _ (s : Site) (limit : ℕ) (t : List ℕ) where
       → (heaviest_given (heaviest_of s) ≡ done_with (weight (net_of s) (bit_at cells) ∷ cells ∷ []))
       × (over_full_given (over_full_answer s cells) ≡ done_with (1 ∷ weight (net_of s) (bit_at cells) ∷ []))
   a-set cells e =
-      let f = right.full-right s limit t cells (find-apart said (Full cells) (find-proper s limit t) refl e) in
+      let f = right.full-right s limit t cells (find-apart said (Err (Full cells)) e) in
       (ap heaviest_given f.0, ap over_full_given f.1)
 
   no-class : (x : ℕ) → find_given said ≡ found_none 2 x → ⊥
@@ -135,11 +133,11 @@ module _ (s : Site) (limit : ℕ) (t : List ℕ) where
       → (NoNumbering (net_of s)) × (NoneOver (net_of s)) × (Idle (size s) t (find_table s limit t))
       × (((tries ≡ limit) × (limit < tries_for s)) ⊎ ((tries ≡ 0) × (Searchable s → ⊥)))
   unknown tries e =
-      let is = find-apart said (NotKnown tries) (find-proper s limit t) refl e in
+      let is = find-apart said (Err (NotKnown tries)) e in
       let h = right.not_known-law s limit t tries is in (
         h.0,
         h.1,
-        right.idle-part s limit t (ap is_verdict is) (ap is_plan is),
+        right.idle-part s limit t (ap is_verdict is) (ap is_ok is),
         ⊎_elim (λ m. inl m) (λ m. inr (m.0, too_large-law s m.1)) h.2,
       )
 
@@ -160,8 +158,8 @@ a-plan-by-any-way = record {
 -- ---- `over_full`
 
 module _ (s : Site) (cells load : ℕ) where
-  is-over : over_full_given (over_full_answer s cells) ≡ done_with (1 ∷ load ∷ []) → over_full_answer s cells ≡ over.Over load
-  is-over = over-apart (over_full_answer s cells) (over.Over load) (over-proper s cells) refl
+  is-over : over_full_given (over_full_answer s cells) ≡ done_with (1 ∷ load ∷ []) → over_full_answer s cells ≡ Ok (over.Over load)
+  is-over = over-apart (over_full_answer s cells) (Ok (over.Over load))
 
   exactly : over_full_given (over_full_answer s cells) ≡ done_with (1 ∷ load ∷ [])
       ↔ ((Accepted s) × (cells < 2 ^ s.cells) × Mutual (net_of s) (bit_at cells) × (room (net_of s) < load) × (load ≡ weight (net_of s) (bit_at cells)))
@@ -175,7 +173,7 @@ module _ (s : Site) (cells load : ℕ) where
   )
 
   within : over_full_given (over_full_answer s cells) ≡ done_with (0 ∷ load ∷ []) → load ≡ weight (net_of s) (bit_at cells)
-  within e = (right.within_load s cells load (over-apart (over_full_answer s cells) (over.Within load) (over-proper s cells) refl e)).1
+  within e = (right.within_load s cells load (over-apart (over_full_answer s cells) (Ok (over.Within load)) e)).1
 
   none : over_full_given (over_full_answer s cells) ≡ done_with (1 ∷ load ∷ []) → NoTable s
   none e any one = right.over-right s cells load (is-over e) (reserved (positions s) any) ((valid-is-definition-one s any).1 one)

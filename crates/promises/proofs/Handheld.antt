@@ -9,28 +9,28 @@ use native.Mathlib.Omega.{arith}
 use borrow.Author.Tests.{ltb-false, eq-eqb}
 use lib.Dec.{ltb, eqb}
 use lib.ListN.{length, take}
+use Rattle.std.specs.Prelude.{Result, Ok, Err}
 use Rattle.laws.proofs.Choice.{refute}
 use Rattle.theory.specs.Greedy.{Outcome, planned, no_room, greedy}
 use Rattle.site.specs.Record.{positions, size, fault_of}
-use Rattle.site.specs.Edit.{load_edit_fault, with_load, set_load_of}
+use Rattle.site.specs.Edit.{load_edit_fault, with_load}
 use Rattle.site.specs.Reach.{net_of}
-use Rattle.site.specs.Given.{fault_given}
+use Rattle.site.specs.Given.{done_given}
 use Rattle.site.specs.declared.Site.{Site}
 use Rattle.site.specs.declared.Edited.{Edited}
 use Rattle.site.specs.declared.Fault.{Fault}
-use Rattle.site.specs.declared.Fault.TheVariants.{Fine, Size, Rule, Load, Reach, Blocked}
 use Rattle.site.proofs.Faults.{load-edit-fine}
-use Rattle.site.proofs.Given.{fault-apart}
+use Rattle.site.proofs.Given.{done-apart}
 use Rattle.planner.specs.Plan.{answer_of, plan_answer, plan_table}
 use Rattle.planner.specs.Given.{plan_given}
-use Rattle.planner.specs.declared.PlanAnswer.{PlanAnswer}
-use Rattle.planner.specs.declared.PlanAnswer.TheVariants as Planner
+use Rattle.planner.specs.declared.PlanError.{PlanError}
+use Rattle.planner.specs.declared.PlanError.TheVariants as Planner
 use Rattle.planner.proofs.Answer.{run-answer}
 use Rattle.handheld.specs.Change.{table_is_plan, change_of, in_order, change_answer, change_site, change_table}
 use Rattle.handheld.specs.Given.{change_given}
-use Rattle.handheld.specs.declared.ChangeAnswer.{ChangeAnswer}
-use Rattle.handheld.specs.declared.ChangeAnswer.TheVariants as Change
-use Rattle.handheld.proofs.Given.{change-apart, change-proper}
+use Rattle.handheld.specs.declared.ChangeError.{ChangeError}
+use Rattle.handheld.specs.declared.ChangeError.TheVariants as Change
+use Rattle.handheld.proofs.Given.{change-apart}
 use Rattle.handheld.proofs.Ways.{edit-fault, edit-site, edited-fine}
 use Rattle.handheld.proofs.Meaning.{plan-means, not-plan, fresh, lower-rows, next-good, left-long, two_edits}
 use Rattle.contracts.specs.SiteSays.{SiteSetLoad}
@@ -41,18 +41,18 @@ use Rattle.demanded.specs.Demands.{LongEnough}
 use Rattle.promises.specs.Untouched.{Idle, RefusedElse}
 use Rattle.promises.specs.Handheld.{IsThePlan, EditDone, OneLoadChanges}
 use Rattle.demanded.proofs.Numbers.{plan-number}
-use Rattle.promises.proofs.Demand1.{plan-leaves}
+use Rattle.promises.proofs.Demand1.{fault-other, plan-leaves}
 
 -- a number that is neither 0 nor 5
 neither : (n : ℕ) → eqb n 0 ≡ false → eqb n 5 ≡ false → RefusedElse n
 neither n z f = (λ e. false≢true (sym z ∙ eq-eqb n 0 e), λ e. false≢true (sym f ∙ eq-eqb n 5 e))
 
 -- the planner's numbers are this call's
-same-given : (a : PlanAnswer) → change_given (change_of a) ≡ plan_given a
-same-given Planner.Done = refl
-same-given Planner.TableShort = refl
-same-given (Planner.NoRoom c m) = refl
-same-given (Planner.Refused f) = refl
+same-given : (a : Result Unit PlanError) → change_given (change_of a) ≡ plan_given a
+same-given (Ok u) = refl
+same-given (Err Planner.TableShort) = refl
+same-given (Err (Planner.NoRoom c m)) = refl
+same-given (Err (Planner.Record f)) = refl
 
 -- a run ends with 0 or with 5
 zero-or-five : (o : Outcome) → RefusedElse (plan_given (answer_of o)).number → ⊥
@@ -60,7 +60,7 @@ zero-or-five (planned p) z = z.0 refl
 zero-or-five (no_room c m) z = z.1 refl
 
 -- the table is the plan
-pub is-the-plan : (s : Site) (t : List ℕ) → fault_of s ≡ Fine → size s ≤ length t → table_is_plan s t ≡ true ↔ IsThePlan s t
+pub is-the-plan : (s : Site) (t : List ℕ) → fault_of s ≡ Ok tt → size s ≤ length t → table_is_plan s t ≡ true ↔ IsThePlan s t
 is-the-plan s t fine long = (
   λ e said left says. let m = (plan-means s t fine long).0 e in (ap plan_given (says.answer ∙ m.0), says.table_after ∙ m.1),
   λ h.
@@ -73,21 +73,17 @@ module _ (s : Site) (cell load : ℕ) (t : List ℕ) where
   new = with_load s (cell - 1) load
 
   abbrev Passed : Type 0
-  Passed = (load_edit_fault s cell ≡ Fine) × (size s ≤ length t) × (table_is_plan s t ≡ true)
+  Passed = (load_edit_fault s cell ≡ Ok tt) × (size s ≤ length t) × (table_is_plan s t ≡ true)
 
   abbrev Kept : Type 0
   Kept = (change_site s cell load t ≡ s) × (change_table s cell load t ≡ t) × RefusedElse (change_given (change_answer s cell load t)).number
 
-  way_at : (f : Fault) (short plan : Bool) → load_edit_fault s cell ≡ f → ltb (length t) (size s) ≡ short → table_is_plan s t ≡ plan → Passed ⊎ Kept
+  way_at : (f : Result Unit Fault) (short plan : Bool) → load_edit_fault s cell ≡ f → ltb (length t) (size s) ≡ short → table_is_plan s t ≡ plan → Passed ⊎ Kept
   unfolding in_order
-  way_at Fine false true e h g = inl (e, ltb-false (length t) (size s) h, g)
-  way_at Fine false false e h g = inr (rw (e, h, g) (refl, refl, neither 26 refl refl))
-  way_at Fine true plan e h g = inr (rw (e, h) (refl, refl, neither 4 refl refl))
-  way_at Size short plan e h g = inr (rw e (refl, refl, neither 1 refl refl))
-  way_at Rule short plan e h g = inr (rw e (refl, refl, neither 24 refl refl))
-  way_at (Load k) short plan e h g = inr (rw e (refl, refl, neither 2 refl refl))
-  way_at (Reach k) short plan e h g = inr (rw e (refl, refl, neither 3 refl refl))
-  way_at (Blocked k) short plan e h g = inr (rw e (refl, refl, neither 20 refl refl))
+  way_at (Ok u) false true e h g = inl (e, ltb-false (length t) (size s) h, g)
+  way_at (Ok u) false false e h g = inr (rw (e, h, g) (refl, refl, neither 26 refl refl))
+  way_at (Ok u) true plan e h g = inr (rw (e, h) (refl, refl, neither 4 refl refl))
+  way_at (Err f) short plan e h g = inr (rw e (refl, refl, fault-other f))
 
   way : Passed ⊎ Kept
   way = way_at (load_edit_fault s cell) (ltb (length t) (size s)) (table_is_plan s t) refl refl refl
@@ -111,7 +107,7 @@ module _ (s : Site) (cell load : ℕ) (t : List ℕ) where
   passed-with n e never = ⊎_elim (λ p. p) (λ k. absurd (never (rw e at k.2))) way
 
   pub change-no-room : (change_given (change_answer s cell load t)).number ≡ 5
-      → (change_site s cell load t ≡ with_load s (cell - 1) load) × (Idle (size s) t (change_table s cell load t)) × (load_edit_fault s cell ≡ Fine)
+      → (change_site s cell load t ≡ with_load s (cell - 1) load) × (Idle (size s) t (change_table s cell load t)) × (load_edit_fault s cell ≡ Ok tt)
   change-no-room e =
       let p = passed-with 5 e (λ z. z.1 refl) in
       let f = fresh s cell load t p.0 p.1 p.2 in
@@ -120,7 +116,7 @@ module _ (s : Site) (cell load : ℕ) (t : List ℕ) where
 
   -- ---- where it is done
 
-  done-passed : change_given (change_answer s cell load t) ≡ done → Passed × (plan_answer new t ≡ Planner.Done)
+  done-passed : change_given (change_answer s cell load t) ≡ done → Passed × (plan_answer new t ≡ Ok tt)
   done-passed e =
       let p = passed-with 0 (ap (λ g. g.number) e) (λ z. z.0 refl) in
       (p, (plan-number new t).0 (sym (number_is p) ∙ e))
@@ -128,14 +124,14 @@ module _ (s : Site) (cell load : ℕ) (t : List ℕ) where
   -- ---- 26
 
   pub twenty-six : change_given (change_answer s cell load t) ≡ refused 26 []
-      ↔ ((fault_given (load_edit_fault s cell) ≡ done) × (LongEnough s t) × (IsThePlan s t → ⊥))
+      ↔ ((done_given (load_edit_fault s cell) ≡ done) × (LongEnough s t) × (IsThePlan s t → ⊥))
   twenty-six = (
     λ e.
-        let m = (not-plan s cell load t).0 (change-apart (change_answer s cell load t) Change.NotPlan (change-proper s cell load t) refl e) in
+        let m = (not-plan s cell load t).0 (change-apart (change_answer s cell load t) (Err Change.NotPlan) e) in
         let fine = (load-edit-fine s cell m.0).was-fine in
-        (ap fault_given m.0, m.1, λ h. false≢true (sym m.2 ∙ (is-the-plan s t fine m.1).1 h)),
+        (ap done_given m.0, m.1, λ h. false≢true (sym m.2 ∙ (is-the-plan s t fine m.1).1 h)),
     λ h.
-        let f = fault-apart (load_edit_fault s cell) Fine h.0 in
+        let f = done-apart (load_edit_fault s cell) (Ok tt) h.0 in
         let fine = (load-edit-fine s cell f).was-fine in
         let other = refute (table_is_plan s t) (λ e. h.2 ((is-the-plan s t fine h.1).0 e)) in
         ap change_given ((not-plan s cell load t).1 (f, h.1, other)),
@@ -143,18 +139,18 @@ module _ (s : Site) (cell load : ℕ) (t : List ℕ) where
 
 -- ---- over the contracts
 
-module _ (s s' : Site) (cell load : ℕ) (t t' : List ℕ) (r : ChangeAnswer) (says : ChangeLoad s cell load t r s' t') where
+module _ (s s' : Site) (cell load : ℕ) (t t' : List ℕ) (r : Result Unit ChangeError) (says : ChangeLoad s cell load t r s' t') where
   number : change_given r ≡ done → change_given (change_answer s cell load t) ≡ done
   number e = ap change_given (sym says.answer) ∙ e
 
   module _ (edited : Edited) (sets : SiteSetLoad s cell load edited) where
-    fine-edit : EditDone edited → load_edit_fault s cell ≡ Fine
-    fine-edit e = sym (edit-fault s cell load sets.answer) ∙ fault-apart edited.answer Fine e
+    fine-edit : EditDone edited → load_edit_fault s cell ≡ Ok tt
+    fine-edit e = sym (edit-fault s cell load sets.answer) ∙ done-apart edited.answer (Ok tt) e
 
     pub not_the_plan : change_given r ≡ refused 26 [] ↔ ((EditDone edited) × (LongEnough s t) × (IsThePlan s t → ⊥))
     not_the_plan = rw (says.answer, edit-fault s cell load sets.answer) (twenty-six s cell load t)
 
-    pub fresh_plan : LongEnough s t → IsThePlan s t → EditDone edited → (left : List ℕ) (said : PlanAnswer) → Plan edited.site t said left
+    pub fresh_plan : LongEnough s t → IsThePlan s t → EditDone edited → (left : List ℕ) (said : Result Unit PlanError) → Plan edited.site t said left
         → (s' ≡ edited.site) × (t' ≡ left) × (change_given r ≡ plan_given said)
     fresh_plan long plan ok left said plans =
         let f = fine-edit ok in
@@ -174,7 +170,7 @@ module _ (s s' : Site) (cell load : ℕ) (t t' : List ℕ) (r : ChangeAnswer) (s
 
   -- where it is done: the record is the edited one, without a fault, and the table is its plan
   module _ (ok : change_given r ≡ done) where
-    abbrev passed : (Passed s cell load t) × (plan_answer (with_load s (cell - 1) load) t ≡ Planner.Done)
+    abbrev passed : (Passed s cell load t) × (plan_answer (with_load s (cell - 1) load) t ≡ Ok tt)
     passed = done-passed s cell load t (number ok)
 
     pub lower_rows_stay : take ((cell - 1) * positions s) t' ≡ take ((cell - 1) * positions s) t
@@ -201,7 +197,7 @@ module _ (s s' : Site) (cell load : ℕ) (t t' : List ℕ) (r : ChangeAnswer) (s
     leaves_the_plan =
         rw new-site (new-long, (is-the-plan (with_load s (cell - 1) load) t' (edited-fine s cell load passed.0.0) new-long).0 new-plan)
 
-    module _ (last : Site) (cell₂ load₂ : ℕ) (t'' : List ℕ) (q : ChangeAnswer) (then : ChangeLoad s' cell₂ load₂ t' q last t'') where
+    module _ (last : Site) (cell₂ load₂ : ℕ) (t'' : List ℕ) (q : Result Unit ChangeError) (then : ChangeLoad s' cell₂ load₂ t' q last t'') where
       pub next_not_26 : change_given q ≡ refused 26 [] → ⊥
       next_not_26 e =
           let z = (twenty-six s' cell₂ load₂ t').0 (ap change_given (sym then.answer) ∙ e) in
@@ -218,17 +214,17 @@ module _ (s s' : Site) (cell load : ℕ) (t t' : List ℕ) (r : ChangeAnswer) (s
         once_is : edited.site ≡ once
         once_is = edit-site s cell load sets.answer passed.0.0
 
-        fine-again : load_edit_fault edited.site cell₂ ≡ Fine
-        fine-again = sym (edit-fault edited.site cell₂ load₂ resets.answer) ∙ fault-apart again.answer Fine good
+        fine-again : load_edit_fault edited.site cell₂ ≡ Ok tt
+        fine-again = sym (edit-fault edited.site cell₂ load₂ resets.answer) ∙ done-apart again.answer (Ok tt) good
 
-        fine₂ : load_edit_fault once cell₂ ≡ Fine
+        fine₂ : load_edit_fault once cell₂ ≡ Ok tt
         fine₂ = ap (λ (x : Site). load_edit_fault x cell₂) (sym once_is) ∙ fine-again
 
         twice-is : again.site ≡ twice
         twice-is =
             edit-site edited.site cell₂ load₂ resets.answer fine-again ∙ ap (λ (x : Site). with_load x (cell₂ - 1) load₂) once_is
 
-        pub two-fresh : (left : List ℕ) (said : PlanAnswer) → Plan again.site t said left
+        pub two-fresh : (left : List ℕ) (said : Result Unit PlanError) → Plan again.site t said left
             → (last ≡ again.site) × (t'' ≡ left) × (change_given q ≡ plan_given said)
         two-fresh left said plans =
             let p = passed in

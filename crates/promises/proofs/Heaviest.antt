@@ -5,6 +5,7 @@ use mathlib.Core.List.{List, [], ◌∷◌}
 use mathlib.Core.Logic.{◌↔◌}
 use Prim.Native.Nat.{ℕ, ◌≤◌, ◌<◌}
 use native.Mathlib.Omega.{arith}
+use Rattle.std.specs.Prelude.{Ok}
 use Rattle.laws.specs.Bits.{bit_at}
 use Rattle.theory.specs.Full.{weight}
 use Rattle.theory.specs.Greedy.{reserved}
@@ -19,7 +20,6 @@ use Rattle.checker.specs.Check.{check_answer}
 use Rattle.checker.specs.Given.{check_given}
 use Rattle.heaviest.specs.Sets.{heaviest_set, heaviest_of, Heaviest}
 use Rattle.heaviest.specs.Given.{heaviest_given}
-use Rattle.heaviest.specs.declared.HeaviestAnswer.TheVariants as heaviest
 use Rattle.heaviest.proofs.Mutual.{heaviest-is, heaviest-only}
 use Rattle.heaviest.proofs.Meaning.{done-fine, done-is-fine, done-means, done-mutual, done-fits, done-enough, done-class}
 use Rattle.demanded.specs.Numbers.{done, done_with}
@@ -38,7 +38,7 @@ heaviest-exact s load cells = (
   λ h.
       let same : heaviest_set (net_of s) ≡ cells = heaviest-only (net_of s) (heaviest_set (net_of s)) cells (heaviest-is (net_of s)) h.1 in
       (heaviest-number s load cells).1
-      (done-fine s ((accepted-number s).0 h.0) ∙ ap₂ heaviest.Done (ap (λ (x : ℕ). weight (net_of s) (bit_at x)) same ∙ h.2) same),
+      (done-fine s ((accepted-number s).0 h.0) ∙ ap₂ (λ (l x : ℕ). Ok (l, x)) (ap (λ (x : ℕ). weight (net_of s) (bit_at x)) same ∙ h.2) same),
 )
 
 module _ (site : Site) (load cells : ℕ) (e : heaviest_given (heaviest_of site) ≡ done_with (load ∷ cells ∷ [])) where

@@ -10,6 +10,7 @@ use lib.Dec.{ltb}
 use lib.ListN.{length, take, drop}
 use borrow.Author.Tests.{ltb-true, ltb-false}
 use lib.Seq.{sets}
+use Rattle.std.specs.Prelude.{Ok, Err}
 use Rattle.laws.specs.Choice.{Rising}
 use Rattle.laws.specs.Sum.{bit, count}
 use Rattle.laws.proofs.Any.{any-eq}
@@ -21,7 +22,7 @@ use Rattle.theory.specs.Greedy.{reserved}
 use Rattle.theory.specs.Named.{Fails}
 use Rattle.theory.proofs.Run.{is-planned}
 use Rattle.theory.proofs.Exact.{covers-loaded}
-use Rattle.site.specs.Record.{positions, size, load_at, fault_of, is_fine}
+use Rattle.site.specs.Record.{positions, size, load_at, fault_of}
 use Rattle.site.specs.Reach.{is_open, net_of}
 use Rattle.site.specs.declared.Site.{Site}
 use Rattle.site.specs.declared.Fault.{Fault}
@@ -37,8 +38,8 @@ use Rattle.mending.proofs.Overlay.{overlay-length, overlay-reserved}
 use Rattle.mending.proofs.Mended as rule
 use Rattle.mender.specs.Mend.{mend_answer, mend_table, mend_list, list_room}
 use Rattle.mender.specs.Given.{mend_given}
-use Rattle.mender.specs.declared.MendAnswer.TheVariants.{Done, NoRoom, ListShort}
-use Rattle.mender.proofs.Given.{mend-apart, mend-proper}
+use Rattle.mender.specs.declared.MendError.TheVariants.{NoRoom, ListShort}
+use Rattle.mender.proofs.Given.{mend-apart}
 use Rattle.mender.proofs.Meaning as means
 use Rattle.mender.proofs.Ends.{refused-ends, short-ends}
 use Rattle.mender.proofs.Room.{any-room}
@@ -59,8 +60,8 @@ module _ (s : Site) (u l : List ℕ) where
   abbrev pub MendedBy : ℕ → Type 0
   MendedBy n = mend_given (mend_answer s u l) ≡ done_with (n ∷ [])
 
-  done-number : (n : ℕ) → MendedBy n → mend_answer s u l ≡ Done n
-  done-number n e = mend-apart (mend_answer s u l) (Done n) (mend-proper s u l) refl e
+  done-number : (n : ℕ) → MendedBy n → mend_answer s u l ≡ Ok n
+  done-number n e = mend-apart (mend_answer s u l) (Ok n) e
 
   went : (n : ℕ) → MendedBy n → means.Mended s u l n
   went n e = means.done-means s u l n (done-number n e)
@@ -84,7 +85,7 @@ module _ (s : Site) (u l : List ℕ) where
       let v = (check-is-valid s u).0 e in
       let r = rule.valid-mends (net_of s) u v.2 in
       let a = means.means-done s u l ((accepted-number s).0 v.0) v.1 r.table r.mends (omega (arith, r.number)) in
-      let is : mend_answer s u l ≡ Done 0 = a ∙ ap Done r.number in
+      let is : mend_answer s u l ≡ Ok 0 = a ∙ ap Ok r.number in
       let d = means.done-means s u l 0 is in
       let same : d.stands ≡ r.table = is-planned d.stands r.table (sym d.mends ∙ r.mends) in (
         ap mend_given is,
@@ -111,8 +112,8 @@ module _ (s : Site) (u l : List ℕ) where
   refused-untouched h = means.untouched s u l (λ n e. h (ap (λ a. (mend_given a).number) e))
 
   -- "1 to 4": the record's fault, whatever is lent; then 4, where the table is short
-  pub fault-of-mend : (f : Fault) → fault_of s ≡ f → is_fine f ≡ false → mend_given (mend_answer s u l) ≡ fault_given f
-  fault-of-mend f e h = ap mend_given (sym (refused-ends s u l f e h).0)
+  pub fault-of-mend : (f : Fault) → fault_of s ≡ Err f → mend_given (mend_answer s u l) ≡ fault_given f
+  fault-of-mend f e = ap mend_given (sym (refused-ends s u l f e).0)
 
   pub four-of-mend : Accepted s → length u < size s → mend_given (mend_answer s u l) ≡ refused 4 []
   four-of-mend ok h = ap mend_given (sym (short-ends s u l ((accepted-number s).0 ok) h).0)
@@ -120,16 +121,16 @@ module _ (s : Site) (u l : List ℕ) where
   -- "then 5": the first cell whose load can't be met
   pub five-of-mend : (cell short : ℕ) → mend_given (mend_answer s u l) ≡ refused 5 (cell ∷ short ∷ [])
       → (k : ℕ) × ((cell ≡ k + 1) × Fails (net_of s) (stand (net_of s) u) s.cells k short)
-  five-of-mend cell short e = (means.short-means s u l cell short (mend-apart (mend_answer s u l) (NoRoom cell short) (mend-proper s u l) refl e)).2
+  five-of-mend cell short e = (means.short-means s u l cell short (mend-apart (mend_answer s u l) (Err (NoRoom cell short)) e)).2
 
   -- "then 13 with the number of changes if the list is too short": a list of four times that many is long enough
   pub thirteen-of-mend : (n : ℕ) → mend_given (mend_answer s u l) ≡ refused 13 (n ∷ [])
       → (length l < 4 * n) × ((m : List ℕ) → 4 * n ≤ length m → mend_given (mend_answer s u m) ≡ done_with (n ∷ []))
   thirteen-of-mend n e =
-      let w = means.list-means s u l n (mend-apart (mend_answer s u l) (ListShort n) (mend-proper s u l) refl e) in
+      let w = means.list-means s u l n (mend-apart (mend_answer s u l) (Err (ListShort n)) e) in
       let r = w.2.1 in (
         r.2,
-        λ m h. ap mend_given (means.means-done s u m w.0 w.1 w.2.0 r.0 (omega (arith, r.1)) ∙ ap Done (sym r.1)),
+        λ m h. ap mend_given (means.means-done s u m w.0 w.1 w.2.0 r.0 (omega (arith, r.1)) ∙ ap Ok (sym r.1)),
       )
 
   -- ---- the list

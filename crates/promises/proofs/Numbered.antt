@@ -6,16 +6,16 @@ use mathlib.Core.List.{List, []}
 use Prim.Native.Nat.{ℕ, ◌≤◌}
 use native.Mathlib.Omega.{arith}
 use lib.ListN.{length, drop, replicate, length-replicate}
+use Rattle.std.specs.Prelude.{Result, Ok, Err}
 use Rattle.theory.specs.Greedy.{reserved}
 use Rattle.site.specs.Record.{positions, size, fault_of}
 use Rattle.site.specs.Reach.{net_of}
 use Rattle.site.specs.declared.Site.{Site}
 use Rattle.site.specs.declared.Fault.{Fault}
-use Rattle.site.specs.declared.Fault.TheVariants.{Fine, Size, Rule, Load, Reach, Blocked}
 use Rattle.judges.specs.Judges.{counted}
 use Rattle.planner.specs.Plan.{plan_answer, plan_table}
 use Rattle.planner.specs.Given.{plan_given}
-use Rattle.planner.specs.declared.PlanAnswer.{PlanAnswer}
+use Rattle.planner.specs.declared.PlanError.{PlanError}
 use Rattle.planner.proofs.Meaning.{done-means}
 use Rattle.wordtable.proofs.Same.{plan-kept-long}
 use Rattle.renumbering.specs.Numbering.{Numbering, numbered, stuck, blank}
@@ -24,11 +24,11 @@ use Rattle.numbering.specs.Renumber.{numbering_of, renumber_of}
 use Rattle.numbering.specs.Carried.{carry_answer, carry_table}
 use Rattle.numbering.specs.Given.{renumber_given, carry_given}
 use Rattle.numbering.specs.declared.Renumbered.{Renumbered}
-use Rattle.numbering.specs.declared.RenumberAnswer.TheVariants as Renumber
-use Rattle.numbering.specs.declared.CarryAnswer.{CarryAnswer}
+use Rattle.numbering.specs.declared.RenumberError.TheVariants as Renumber
+use Rattle.numbering.specs.declared.CarryError.{CarryError}
 use Rattle.contracts.specs.NumberingSays.{Carry}
 use Rattle.contracts.specs.PlannerSays.{Plan}
-use Rattle.numbering.proofs.Given.{renumber-apart, renumber-proper}
+use Rattle.numbering.proofs.Given.{renumber-apart}
 use Rattle.numbering.proofs.Ways.{renumber-refused, renumber-none, renumber-done}
 use Rattle.numbering.proofs.Meaning.{none_exactly, renumber-site, carried-rest, plans-exactly, planned-back}
 use Rattle.demanded.specs.Numbers.{done, refused}
@@ -40,11 +40,11 @@ use Rattle.demanded.proofs.Demand2.{valid-is-definition-one}
 use Rattle.demanded.proofs.Own.{nested-site}
 
 module _ (s : Site) where
-  pub renumber-number : renumber_given (renumber_of s).answer ≡ done ↔ (renumber_of s).answer ≡ Renumber.Done
-  renumber-number = (renumber-apart (renumber_of s).answer Renumber.Done (renumber-proper s) refl, ap renumber_given)
+  pub renumber-number : renumber_given (renumber_of s).answer ≡ done ↔ (renumber_of s).answer ≡ Ok tt
+  renumber-number = (renumber-apart (renumber_of s).answer (Ok tt), ap renumber_given)
 
-  pub none_number : renumber_given (renumber_of s).answer ≡ refused 23 [] ↔ (renumber_of s).answer ≡ Renumber.NoNumbering
-  none_number = (renumber-apart (renumber_of s).answer Renumber.NoNumbering (renumber-proper s) refl, ap renumber_given)
+  pub none_number : renumber_given (renumber_of s).answer ≡ refused 23 [] ↔ (renumber_of s).answer ≡ Err Renumber.NoNumbering
+  none_number = (renumber-apart (renumber_of s).answer (Err Renumber.NoNumbering), ap renumber_given)
 
   pub twenty-three : Accepted s → renumber_given (renumber_of s).answer ≡ refused 23 [] ↔ NoneNumbers s
   twenty-three ok =
@@ -63,14 +63,10 @@ module _ (s : Site) where
   abbrev AsGiven : Type 0
   AsGiven = ((renumber_of s).site ≡ s) × ((renumber_of s).new ≡ blank 32) × ((renumber_of s).old ≡ blank 32)
 
-  given-at : (f : Fault) (x : Numbering) → fault_of s ≡ f → numbering_of s ≡ x → Refused (renumber_given (renumber_of s).answer).number → AsGiven
-  given-at Fine (numbered new old) e g z = absurd (z (ap (λ r. (renumber_given r.answer).number) (renumber-done s new old e g)))
-  given-at Fine stuck e g z = rw (renumber-none s e g) (refl, refl, refl)
-  given-at Size x e g z = rw (renumber-refused s Size e refl) (refl, refl, refl)
-  given-at Rule x e g z = rw (renumber-refused s Rule e refl) (refl, refl, refl)
-  given-at (Load k) x e g z = rw (renumber-refused s (Load k) e refl) (refl, refl, refl)
-  given-at (Reach k) x e g z = rw (renumber-refused s (Reach k) e refl) (refl, refl, refl)
-  given-at (Blocked k) x e g z = rw (renumber-refused s (Blocked k) e refl) (refl, refl, refl)
+  given-at : (f : Result Unit Fault) (x : Numbering) → fault_of s ≡ f → numbering_of s ≡ x → Refused (renumber_given (renumber_of s).answer).number → AsGiven
+  given-at (Ok u) (numbered new old) e g z = absurd (z (ap (λ r. (renumber_given r.answer).number) (renumber-done s new old e g)))
+  given-at (Ok u) stuck e g z = rw (renumber-none s e g) (refl, refl, refl)
+  given-at (Err f) x e g z = rw (renumber-refused s f e) (refl, refl, refl)
 
   pub site-as-given : Refused (renumber_given (renumber_of s).answer).number → AsGiven
   site-as-given = given-at (fault_of s) (numbering_of s) refl refl
@@ -108,8 +104,8 @@ module _ (s : Site) where
 
 -- what the calls answered and left is what the definitions say
 planned-with : (site : Site) (found : Renumbered) → found ≡ renumber_of site → renumber_given found.answer ≡ done
-    → (lent left : List ℕ) (planned : PlanAnswer) → LongEnough site lent → Plan found.site lent planned left
-    → (to to' : List ℕ) (carried : CarryAnswer) → LongEnough site to → Carry site left to carried to'
+    → (lent left : List ℕ) (planned : Result Unit PlanError) → LongEnough site lent → Plan found.site lent planned left
+    → (to to' : List ℕ) (carried : Result Unit CarryError) → LongEnough site to → Carry site left to carried to'
     → (plan_given planned ≡ done ↔ ((any : List ℕ) × DefinitionOne site any))
     × (plan_given planned ≡ done → (carry_given carried ≡ done) × (DefinitionOne site to') × (drop (size site) to' ≡ drop (size site) to))
 planned-with site found e h lent left planned long plans to to' carried fits carries =

@@ -14,6 +14,7 @@ use native.Mathlib.Omega.{arith}
 use borrow.Author.Tests.{eqb-true}
 use lib.Dec.{ltb, eqb}
 use lib.ListN.{get_or}
+use Rattle.std.specs.Prelude.{Result, Ok, Err}
 use Rattle.laws.specs.Choice.{pick}
 use Rattle.theory.specs.Net.{Valid}
 use Rattle.theory.specs.Greedy.{reserved}
@@ -21,19 +22,19 @@ use Rattle.site.specs.Record.{positions}
 use Rattle.site.specs.Reach.{net_of}
 use Rattle.site.specs.declared.Site.{Site}
 use Rattle.site.specs.declared.Fault.{Fault}
-use Rattle.site.specs.declared.Fault.TheVariants.{Fine, Size, Rule, Load, Reach, Blocked}
+use Rattle.site.specs.declared.Fault.TheVariants.{Size, Rule, Load, Reach, Blocked}
 use Rattle.checker.specs.Check.{check_answer}
 use Rattle.checker.specs.Given.{check_given}
-use Rattle.checker.specs.declared.CheckAnswer.{CheckAnswer}
-use Rattle.checker.specs.declared.CheckAnswer.TheVariants as check
+use Rattle.checker.specs.declared.CheckError.{CheckError}
+use Rattle.checker.specs.declared.CheckError.TheVariants as check
 use Rattle.planner.specs.Plan.{plan_answer, plan_table}
 use Rattle.planner.specs.Given.{plan_given}
-use Rattle.planner.specs.declared.PlanAnswer.{PlanAnswer}
-use Rattle.planner.specs.declared.PlanAnswer.TheVariants as plan
+use Rattle.planner.specs.declared.PlanError.{PlanError}
+use Rattle.planner.specs.declared.PlanError.TheVariants as plan
 use Rattle.mender.specs.Mend.{mend_answer, mend_table}
 use Rattle.mender.specs.Given.{mend_given}
-use Rattle.mender.specs.declared.MendAnswer.{MendAnswer}
-use Rattle.mender.specs.declared.MendAnswer.TheVariants as mend
+use Rattle.mender.specs.declared.MendError.{MendError}
+use Rattle.mender.specs.declared.MendError.TheVariants as mend
 use Rattle.speech.specs.Speech.{spoken}
 use Rattle.say_refusals.specs.Lines.{refusal_heads}
 use Rattle.say_refusals.specs.Said.{refused_line}
@@ -76,7 +77,6 @@ refused-r n (place.Flow k) = refl
 refused-r n (place.Position k) = refl
 
 fault-r : (f : Fault) → refusing (fault_said f) ≡ true
-fault-r Fine = refl
 fault-r Size = refused-r 1 place.Nowhere
 fault-r Rule = refused-r 24 place.Nowhere
 fault-r (Load k) = refused-r 2 (place.Cell k)
@@ -95,7 +95,7 @@ way-r true false a c slot channel = refl
 way-r false true a c slot channel = refl
 way-r false false a c slot channel = refl
 
-clash-r : (s : Site) (p a c : ℕ) → refusing (check_said s (check.Clash p a c)) ≡ true
+clash-r : (s : Site) (p a c : ℕ) → refusing (check_said s (Err (check.Clash p a c))) ≡ true
 unfolding clash_sentence
 clash-r s p a c =
     let slot = p / s.channels + 1 in
@@ -103,7 +103,7 @@ clash-r s p a c =
     chosen-r (ltb 0 s.channels && ltb p 65536) (way_sentence (reach_named s a c) (reach_named s c a) a c slot channel) (Refusal 6 place.Nowhere)
     (way-r (reach_named s a c) (reach_named s c a) a c slot channel) (refused-r 6 place.Nowhere)
 
-blocked-r : (s : Site) (p c : ℕ) → refusing (check_said s (check.Blocked p c)) ≡ true
+blocked-r : (s : Site) (p c : ℕ) → refusing (check_said s (Err (check.Blocked p c))) ≡ true
 unfolding blocked_sentence verdict_lines spoken
 blocked-r s p c =
     chosen-r (ltb 0 s.channels && ltb p 65536) (line blocked_row c (p / s.channels + 1) (p % s.channels + 1) 0) (Refusal 22 place.Nowhere)
@@ -111,21 +111,21 @@ blocked-r s p c =
 
 -- ---- from the words back to the answer
 
-valid-only : (s : Site) (a : CheckAnswer) → check_said s a ≡ valid_line → a ≡ check.Valid
+valid-only : (s : Site) (a : Result Unit CheckError) → check_said s a ≡ valid_line → a ≡ Ok tt
 unfolding verdict_lines spoken
-valid-only s check.Valid e = refl
-valid-only s check.TableShort e = absurd (apart _ _ e (refused-r 4 place.Nowhere) refl)
-valid-only s (check.Blocked p c) e = absurd (apart _ _ e (blocked-r s p c) refl)
-valid-only s (check.Clash p a c) e = absurd (apart _ _ e (clash-r s p a c) refl)
-valid-only s (check.Count i n) e = absurd (apart _ _ e refl refl)
-valid-only s (check.Refused f) e = absurd (apart _ _ e (fault-r f) refl)
+valid-only s (Ok u) e = refl
+valid-only s (Err check.TableShort) e = absurd (apart _ _ e (refused-r 4 place.Nowhere) refl)
+valid-only s (Err (check.Blocked p c)) e = absurd (apart _ _ e (blocked-r s p c) refl)
+valid-only s (Err (check.Clash p a c)) e = absurd (apart _ _ e (clash-r s p a c) refl)
+valid-only s (Err (check.Count i n)) e = absurd (apart _ _ e refl refl)
+valid-only s (Err (check.Record f)) e = absurd (apart _ _ e (fault-r f) refl)
 
-planned-only : (s : Site) (a : PlanAnswer) (i t f : ℕ) → plan_said s a ≡ planned_line i t f → a ≡ plan.Done
+planned-only : (s : Site) (a : Result Unit PlanError) (i t f : ℕ) → plan_said s a ≡ planned_line i t f → a ≡ Ok tt
 unfolding verdict_lines spoken
-planned-only s plan.Done i t f e = refl
-planned-only s plan.TableShort i t f e = absurd (apart _ _ e (refused-r 4 place.Nowhere) refl)
-planned-only s (plan.NoRoom c n) i t f e = absurd (apart _ _ e refl refl)
-planned-only s (plan.Refused g) i t f e = absurd (apart _ _ e (fault-r g) refl)
+planned-only s (Ok u) i t f e = refl
+planned-only s (Err plan.TableShort) i t f e = absurd (apart _ _ e (refused-r 4 place.Nowhere) refl)
+planned-only s (Err (plan.NoRoom c n)) i t f e = absurd (apart _ _ e refl refl)
+planned-only s (Err (plan.Record g)) i t f e = absurd (apart _ _ e (fault-r g) refl)
 
 -- of the words of a number of changes, those of none are apart by their first letter
 none-changed : (n : ℕ) (b : Bool) → eqb n 0 ≡ b
@@ -134,21 +134,21 @@ unfolding verdict_lines spoken
 none-changed n true p e = eqb-true n 0 p
 none-changed n false p e = let z : ◌≡◌ {A = ℕ} 109 118 = ap begins e in absurd (omega arith)
 
-unchanged-only : (a : MendAnswer) → mend_said a ≡ unchanged_line → a ≡ mend.Done 0
+unchanged-only : (a : Result ℕ MendError) → mend_said a ≡ unchanged_line → a ≡ Ok 0
 unfolding verdict_lines spoken changes_sentence
-unchanged-only (mend.Done n) e = ap mend.Done (none-changed n (eqb n 0) refl e)
-unchanged-only mend.TableShort e = absurd (apart _ _ e (refused-r 4 place.Nowhere) refl)
-unchanged-only (mend.NoRoom c n) e = absurd (apart _ _ e refl refl)
-unchanged-only (mend.ListShort n) e = absurd (apart _ _ e (refused-r 13 place.Nowhere) refl)
-unchanged-only (mend.Refused f) e = absurd (apart _ _ e (fault-r f) refl)
+unchanged-only (Ok n) e = ap Ok (none-changed n (eqb n 0) refl e)
+unchanged-only (Err mend.TableShort) e = absurd (apart _ _ e (refused-r 4 place.Nowhere) refl)
+unchanged-only (Err (mend.NoRoom c n)) e = absurd (apart _ _ e refl refl)
+unchanged-only (Err (mend.ListShort n)) e = absurd (apart _ _ e (refused-r 13 place.Nowhere) refl)
+unchanged-only (Err (mend.Record f)) e = absurd (apart _ _ e (fault-r f) refl)
 
-mended-only : (a : MendAnswer) (k : ℕ) → mend_said a ≡ mended_line k → (n : ℕ) × (a ≡ mend.Done n)
+mended-only : (a : Result ℕ MendError) (k : ℕ) → mend_said a ≡ mended_line k → (n : ℕ) × (a ≡ Ok n)
 unfolding verdict_lines spoken
-mended-only (mend.Done n) k e = (n, refl)
-mended-only mend.TableShort k e = absurd (apart _ _ e (refused-r 4 place.Nowhere) refl)
-mended-only (mend.NoRoom c n) k e = absurd (apart _ _ e refl refl)
-mended-only (mend.ListShort n) k e = absurd (apart _ _ e (refused-r 13 place.Nowhere) refl)
-mended-only (mend.Refused f) k e = absurd (apart _ _ e (fault-r f) refl)
+mended-only (Ok n) k e = (n, refl)
+mended-only (Err mend.TableShort) k e = absurd (apart _ _ e (refused-r 4 place.Nowhere) refl)
+mended-only (Err (mend.NoRoom c n)) k e = absurd (apart _ _ e refl refl)
+mended-only (Err (mend.ListShort n)) k e = absurd (apart _ _ e (refused-r 13 place.Nowhere) refl)
+mended-only (Err (mend.Record f)) k e = absurd (apart _ _ e (fault-r f) refl)
 
 -- ---- what is printed
 

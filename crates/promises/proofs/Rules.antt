@@ -11,6 +11,7 @@ use native.Mathlib.Nat.{le_refl, le_of_eq}
 use borrow.Author.Tests.{le-ltb, eqb-true}
 use lib.Dec.{eqb}
 use lib.ListN.{length, take, drop}
+use Rattle.std.specs.Prelude.{Ok, Err}
 use Rattle.laws.specs.Choice.{pick}
 use Rattle.laws.specs.Search.{first_of}
 use Rattle.laws.specs.Sum.{any}
@@ -19,13 +20,12 @@ use Rattle.reachrows.proofs.Rules.{rule-adds}
 use Rattle.site.specs.Record.{site_of, up_to, size_ok, rule_ok, row_bad, extra_load, bad_row, fault_of}
 use Rattle.site.specs.Reach.{reaches, reached_by_both, clash_in, clash_of, clash_answer, is_open, net_in, net_of}
 use Rattle.site.specs.Means.{Reaches, Third, Clashing, UpTo, FaultMeans}
-use Rattle.site.specs.Given.{fault_given, clash_given}
+use Rattle.site.specs.Given.{done_given, clash_given}
 use Rattle.site.specs.declared.Site.{Site}
 use Rattle.site.specs.declared.Fault.TheVariants as fault
-use Rattle.site.specs.declared.ClashAnswer.TheVariants.{Clash}
 use Rattle.site.proofs.Accepted.{fine-sound, sound-fine}
 use Rattle.site.proofs.Faults.{ruled-is}
-use Rattle.site.proofs.Given.{fault-apart, clash-apart}
+use Rattle.site.proofs.Given.{done-apart, clash-apart}
 use Rattle.site.proofs.Means.{fault-means, fault-only, clash-means, clash-only}
 use Rattle.judges.specs.Judges.{class_answer}
 use Rattle.judges.specs.Given.{class_given}
@@ -37,8 +37,7 @@ use Rattle.records.specs.Bytes.{Bytes, le16}
 use Rattle.records.specs.Layout.{body_at}
 use Rattle.records.specs.Given.{read_given, written_given}
 use Rattle.records.specs.Head.{cells_of_head, slots_of_head, channels_of_head, head_reasons, head_answer}
-use Rattle.records.specs.Reasons.{first_reason}
-use Rattle.records.specs.declared.ReadAnswer.TheVariants as read
+use Rattle.records.specs.Reasons.{refusal, first_reason}
 use Rattle.records.proofs.Given.{read-apart}
 use Rattle.records.proofs.Head.{head_read-law}
 use Rattle.records.proofs.Reasons.{first-append, both-done}
@@ -78,10 +77,10 @@ either-accepted s ok rule either =
 pub says-clash : (s : Site) (a b : ℕ) → SaysClash s a b ↔ (Accepted s × Clashing s a b)
 says-clash s a b = (
   λ e.
-      let is : clash_answer s a b ≡ Clash = clash-apart (clash_answer s a b) Clash e in
+      let is : clash_answer s a b ≡ Ok true = clash-apart (clash_answer s a b) (Ok true) e in
       let m = rw is at (clash-means s a b) in
       ((accepted-number s).1 m.0, m.1),
-  λ h. ap clash_given (clash-only s a b Clash ((accepted-number s).0 h.0, h.1)),
+  λ h. ap clash_given (clash-only s a b (Ok true) ((accepted-number s).0 h.0, h.1)),
 )
 
 module _ (s : Site) (a b : ℕ) where
@@ -164,10 +163,10 @@ clash-not-itself s a e = ((says-clash s a a).0 e).1.two refl
 
 -- ---- "24, rule not 1 or 2 in a record, .. after 1"
 
-pub twenty-four : (s : Site) → fault_given (fault_of s) ≡ refused 24 [] ↔ FaultMeans s fault.Rule
+pub twenty-four : (s : Site) → done_given (fault_of s) ≡ refused 24 [] ↔ FaultMeans s (Err fault.Rule)
 twenty-four s = (
-  λ e. let is : fault_of s ≡ fault.Rule = fault-apart (fault_of s) fault.Rule e in rw is at (fault-means s),
-  λ m. ap fault_given (fault-only s fault.Rule m),
+  λ e. let is : fault_of s ≡ Err fault.Rule = done-apart (fault_of s) (Err fault.Rule) e in rw is at (fault-means s),
+  λ m. ap done_given (fault-only s (Err fault.Rule) m),
 )
 
 -- ---- the files
@@ -189,7 +188,7 @@ first-bytes s = by (eqb s.rule 2) refl
     by false e = rw e
 
 -- every file that was accepted reads as before, under rule 1
-module _ (file : List ℕ) (e : first_reason (four_reasons file) ≡ read.Done) where
+module _ (file : List ℕ) (e : first_reason (four_reasons file) ≡ Ok tt) where
   plain : is_ruled file ≡ false
   unfolding head_answer
   plain =
@@ -198,7 +197,7 @@ module _ (file : List ℕ) (e : first_reason (four_reasons file) ≡ read.Done) 
       let h = both-done (head_answer file) (first_reason rest) (sym (first-append (head_reasons file) rest) ∙ e) in
       ap (λ (k : ℕ). eqb k 5) (head_read-law file h.0).opening.same
 
-  answered : site_answer file ≡ read.Done
+  answered : site_answer file ≡ Ok tt
   unfolding site_answer
   answered = ap first_reason (rule-reasons file plain) ∙ e
 
@@ -216,8 +215,8 @@ module _ (file : List ℕ) (e : first_reason (four_reasons file) ≡ read.Done) 
   plain-again bytes out fits = rw (← plain-read.1) (site-read-written file bytes plain-read.0 out fits)
 
 -- what was refused is refused as it was, but for a head of kind 5
-pub plain-refused : (file : List ℕ) (n at : ℕ) → is_ruled file ≡ false → first_reason (four_reasons file) ≡ read.Refused n at
-    → read_given (read_site file).answer ≡ read_given (read.Refused n at)
+pub plain-refused : (file : List ℕ) (n at : ℕ) → is_ruled file ≡ false → first_reason (four_reasons file) ≡ Err (refusal n at)
+    → read_given (read_site file).answer ≡ read_given (Err (refusal n at))
 unfolding site_answer
 plain-refused file n at p e = ap read_given (first-refused file ∙ ap first_reason (rule-reasons file p) ∙ e)
 
@@ -226,8 +225,8 @@ pub old-reader-nine : (file : List ℕ) → read_given (read_site file).answer �
     → read_given (first_reason (four_reasons file)) ≡ refused 9 (0 ∷ [])
 old-reader-nine file ok two = by (is_ruled file) refl
   where
-    is : site_answer file ≡ read.Done
-    is = sym (first-refused file) ∙ read-apart (read_site file).answer read.Done ok
+    is : site_answer file ≡ Ok tt
+    is = sym (first-refused file) ∙ read-apart (read_site file).answer (Ok tt) ok
 
     by : (t : Bool) → is_ruled file ≡ t → read_given (first_reason (four_reasons file)) ≡ refused 9 (0 ∷ [])
     by true q = ap read_given (old-reader file (omega (arith, (accepted file is).reach.four)) q)
@@ -287,7 +286,7 @@ as_many = record {
   no_new_clash = no-new;
 }
 
-fine : fault_of (P3ruled 3) ≡ fault.Fine
+fine : fault_of (P3ruled 3) ≡ Ok tt
 unfolding with_zeros first_of up_to size_ok rule_ok row_bad extra_load bad_row used_words used_to past_in fault_in
 fine = fault-in (P3ruled 3)
 

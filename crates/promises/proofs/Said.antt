@@ -1,34 +1,29 @@
 -- What the command's sentence of a wrong count says is true: the cell sends so often, and the load that is named is its own and another number.
 -- Assumes nothing.
-use Prim.Native.Nat.{ℕ, ◌+◌, ◌-◌, ◌≤◌, ◌<◌}
+use Prim.Native.Nat.{ℕ, ◌-◌, ◌<◌}
 use mathlib.Core.List.{List}
 use mathlib.Core.Path.{◌≡◌, refl, sym, ap, ◌∙◌}
 use native.Mathlib.Omega.{arith}
 use borrow.Author.Tests.{lt-ltb}
 use lib.ListN.{get_or}
-use Rattle.laws.specs.Choice.{pick}
+use Rattle.std.specs.Prelude.{Result, Ok, Err}
 use Rattle.laws.specs.Sum.{count}
 use Rattle.theory.specs.Greedy.{reserved}
-use Rattle.site.specs.Record.{positions, is_fine, fault_of}
+use Rattle.site.specs.Record.{positions, answer_with, fault_of}
 use Rattle.site.specs.Means.{UpTo}
 use Rattle.site.specs.declared.Site.{Site}
 use Rattle.site.specs.declared.Fault.{Fault}
-use Rattle.site.specs.declared.Fault.TheVariants.{Fine, Size, Rule, Load, Reach, Blocked}
 use Rattle.site.proofs.Faults.{fine-sized}
 use Rattle.checker.specs.Check.{check_answer}
-use Rattle.checker.specs.declared.CheckAnswer.{CheckAnswer}
-use Rattle.checker.specs.declared.CheckAnswer.TheVariants.{Count, Refused}
+use Rattle.checker.specs.declared.CheckError.{CheckError}
+use Rattle.checker.specs.declared.CheckError.TheVariants.{Count, Record}
 use Rattle.checker.proofs.Meaning.{count-means}
 use Rattle.verdicts.specs.Said.{load_named, count_line, check_said}
 
 -- a count is answered of a record without a fault
-accepted : (f : Fault) (o : CheckAnswer) (i n : ℕ) → pick (is_fine f) o (Refused f) ≡ Count i n → f ≡ Fine
-accepted Fine o i n e = refl
-accepted Size o i n e = let z : ◌≡◌ {A = ℕ} 0 1 = cc in absurd (omega arith)
-accepted Rule o i n e = let z : ◌≡◌ {A = ℕ} 0 24 = cc in absurd (omega arith)
-accepted (Load k) o i n e = let z : ◌≡◌ {A = ℕ} 0 1 = cc in absurd (omega arith)
-accepted (Reach k) o i n e = let z : ◌≡◌ {A = ℕ} 0 1 = cc in absurd (omega arith)
-accepted (Blocked k) o i n e = let z : ◌≡◌ {A = ℕ} 0 1 = cc in absurd (omega arith)
+accepted : (f : Result Unit Fault) (o : Result Unit CheckError) (i n : ℕ) → answer_with Record f o ≡ Err (Count i n) → f ≡ Ok tt
+accepted (Ok u) o i n e = refl
+accepted (Err f) o i n e = cc
 
 -- `cell i sends n times in a superframe, and its load is l`: a cell of the site, its own count and its own load, which differ
 pub record CountSaid (s : Site) (t : List ℕ) (i n l : ℕ) : Type 0 where
@@ -37,8 +32,8 @@ pub record CountSaid (s : Site) (t : List ℕ) (i n l : ℕ) : Type 0 where
   pub load : l ≡ get_or s.loads (i - 1) 0
   pub differ : n ≡ l → ⊥
 
-pub count-said : (s : Site) (t : List ℕ) (i n : ℕ) → check_answer s t ≡ Count i n
-    → (l : ℕ) × CountSaid s t i n l × (check_said s (Count i n) ≡ count_line i n l)
+pub count-said : (s : Site) (t : List ℕ) (i n : ℕ) → check_answer s t ≡ Err (Count i n)
+    → (l : ℕ) × CountSaid s t i n l × (check_said s (Err (Count i n)) ≡ count_line i n l)
 unfolding check_answer load_named
 count-said s t i n e =
     let m = count-means s t i n e in

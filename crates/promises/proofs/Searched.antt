@@ -4,9 +4,9 @@ use mathlib.Core.Path.{◌≡◌, refl, sym, ap, ◌∙◌}
 use mathlib.Core.Logic.{◌↔◌, ◌⊎◌, inl, inr, ⊎_elim}
 use mathlib.Core.List.{List, []}
 use Prim.Native.Nat.{ℕ, ◌≤◌, ◌<◌}
-use lib.Dec.{ltb}
 use lib.ListN.{length}
 use borrow.Author.Tests.{le-ltb}
+use Rattle.std.specs.Prelude.{Result, Ok, Err}
 use Rattle.laws.specs.Choice.{pick}
 use Rattle.laws.specs.Sum.{sum}
 use Rattle.theory.specs.Net.{room}
@@ -17,11 +17,11 @@ use Rattle.site.specs.Reach.{net_of}
 use Rattle.site.specs.declared.Site.{Site}
 use Rattle.search.specs.Search.{most_fragments, most_open, replied, search_answer, search_table}
 use Rattle.search.specs.Given.{search_given}
-use Rattle.search.specs.declared.SearchAnswer.{SearchAnswer}
-use Rattle.search.specs.declared.SearchAnswer.TheVariants.{Plan, Full, Limit, TooMany}
+use Rattle.search.specs.declared.SearchError.{SearchError}
+use Rattle.search.specs.declared.SearchError.TheVariants.{Full, Limit, TooMany}
 use Rattle.search.proofs.Right as right
 use Rattle.search.proofs.Meaning.{too-many-means}
-use Rattle.search.proofs.Given.{search-apart, search-proper}
+use Rattle.search.proofs.Given.{search-apart}
 use Rattle.demanded.specs.Numbers.{refused}
 use Rattle.demanded.specs.Demands.{Accepted, LongEnough, DefinitionOne}
 use Rattle.promises.specs.Searched.{plan_after, none_after, limit_at, tries_for, Searchable, NoTable, SearchWhereGreedyGivesUp}
@@ -29,21 +29,21 @@ use Rattle.demanded.proofs.Numbers.{accepted-number}
 use Rattle.demanded.proofs.Demand2.{valid-is-definition-one}
 
 module _ (s : Site) (limit : ℕ) (t : List ℕ) where
-  abbrev said : SearchAnswer
+  abbrev said : Result ℕ SearchError
   said = search_answer s limit t
 
   -- the answer with these numbers
-  of-plan : (n : ℕ) → search_given said ≡ plan_after n → said ≡ Plan n
-  of-plan n = search-apart said (Plan n) (search-proper s limit t) refl
+  of-plan : (n : ℕ) → search_given said ≡ plan_after n → said ≡ Ok n
+  of-plan n = search-apart said (Ok n)
 
-  of_none : (n : ℕ) → search_given said ≡ none_after n → said ≡ Full n
-  of_none n = search-apart said (Full n) (search-proper s limit t) refl
+  of_none : (n : ℕ) → search_given said ≡ none_after n → said ≡ Err (Full n)
+  of_none n = search-apart said (Err (Full n))
 
-  of-met : (n : ℕ) → search_given said ≡ limit_at n → said ≡ Limit n
-  of-met n = search-apart said (Limit n) (search-proper s limit t) refl
+  of-met : (n : ℕ) → search_given said ≡ limit_at n → said ≡ Err (Limit n)
+  of-met n = search-apart said (Err (Limit n))
 
-  of-too-many : search_given said ≡ refused 25 [] → said ≡ TooMany
-  of-too-many = search-apart said TooMany (search-proper s limit t) refl
+  of-too-many : search_given said ≡ refused 25 [] → said ≡ Err TooMany
+  of-too-many = search-apart said (Err TooMany)
 
   pub a-plan : (n : ℕ) → search_given said ≡ plan_after n → (DefinitionOne s (search_table s limit t)) × (tries_for s ≡ n)
   a-plan n e =

@@ -11,17 +11,18 @@ use lib.Dec.{leb}
 use lib.ListN.{length, take, drop, get_or}
 use lib.Seq.{take_at}
 use borrow.Author.Tests.{le-leb, lt-leb}
+use Rattle.std.specs.Prelude.{Result, Ok, Err}
 use Rattle.laws.specs.Sum.{bit}
 use Rattle.records.specs.Given.{written_given}
 use Rattle.records.specs.Write.{written, laid_over}
 use Rattle.site.specs.Record.{zero_site, fault_of}
 use Rattle.site.specs.Reach.{reaches}
 use Rattle.site.specs.Means.{UpTo}
-use Rattle.site.specs.Given.{Given, fault_given}
+use Rattle.site.specs.Given.{Given, fault_given, done_given}
 use Rattle.site.specs.declared.Site.{Site}
 use Rattle.site.specs.declared.Fault.{Fault}
-use Rattle.site.specs.declared.Fault.TheVariants.{Fine, Size, Rule, Load, Reach, Blocked}
-use Rattle.site.proofs.Given.{fault-apart}
+use Rattle.site.specs.declared.Fault.TheVariants.{Size, Rule, Reach, Blocked}
+use Rattle.site.proofs.Given.{done-apart}
 use Rattle.site.specs.Held.{Held}
 use Rattle.sheet.specs.Sheet.{sheet_bytes}
 use Rattle.sheet.specs.Read.{judged, read_sheet}
@@ -29,8 +30,8 @@ use Rattle.sheet.specs.Write.{sheet_written, sheet_out}
 use Rattle.sheet.specs.Means.{BlockedHeld, FirstBadOfSheet, SheetOf, sheet_fault, MarksItself, BlockedPast, mark_place}
 use Rattle.sheet.specs.Given.{sheet_given}
 use Rattle.sheet.specs.declared.SheetRead.{SheetRead}
-use Rattle.sheet.specs.declared.SheetAnswer.TheVariants as read
-use Rattle.sheet.proofs.Given.{sheet-apart, sheet-proper}
+use Rattle.sheet.specs.declared.SheetError.TheVariants.{BadLine}
+use Rattle.sheet.proofs.Given.{sheet-apart}
 use Rattle.sheet.proofs.Trip.{fine-fits, written_then_read}
 use Rattle.sheet.proofs.Answers.{bad-first, first-told, no-bad-line, sheet-read, refused-zeros, accepted-is, sheet-accepted}
 use Rattle.sheet.proofs.Answers.{fault-is, fault-one, fault-twenty-four, fault-three, fault-twenty, marks-reach}
@@ -47,17 +48,13 @@ unfolding sheet_written sheet_out written laid_over
 sheet-write-leaves s out = file-left (sheet_bytes s) out (fault_of s) (leb (length (sheet_bytes s)) (length out))
 
 module _ (s : Site) (out : List ℕ) where
-  fault-first : (f : Fault) → fault_of s ≡ f → (f ≡ Fine → ⊥) → written_given (sheet_written s out) ≡ fault_given f
+  fault-first : (f : Result Unit Fault) → fault_of s ≡ f → (f ≡ Ok tt → ⊥) → written_given (sheet_written s out) ≡ done_given f
   unfolding sheet_written
-  fault-first Fine q n = absurd (n refl)
-  fault-first Size q n = rw q
-  fault-first Rule q n = rw q
-  fault-first (Load k) q n = rw q
-  fault-first (Reach k) q n = rw q
-  fault-first (Blocked k) q n = rw q
+  fault-first (Ok u) q n = absurd (n refl)
+  fault-first (Err f) q n = rw q
 
   -- a record that is not accepted is refused with its fault, 1, 24, 2, 3 or 20
-  pub sheet-written-fault : (Accepted s → ⊥) → written_given (sheet_written s out) ≡ fault_given (fault_of s)
+  pub sheet-written-fault : (Accepted s → ⊥) → written_given (sheet_written s out) ≡ done_given (fault_of s)
   sheet-written-fault n = fault-first (fault_of s) refl (λ e. n ((accepted-number s).1 e))
 
   -- 13, "lent output too short for the file": "bytes needed"
@@ -70,7 +67,7 @@ module _ (s : Site) (out : List ℕ) where
   unfolding sheet_written written
   sheet-written-done ok h = rw ((accepted-number s).0 ok, le-leb (length (sheet_bytes s)) (length out) h)
 
-written-fine : (s : Site) (out : List ℕ) → (written_given (sheet_written s out)).number ≡ 0 → fault_of s ≡ Fine
+written-fine : (s : Site) (out : List ℕ) → (written_given (sheet_written s out)).number ≡ 0 → fault_of s ≡ Ok tt
 unfolding sheet_written written
 written-fine s out e = wrote-fine (fault_of s) (leb (length (sheet_bytes s)) (length out)) (length (sheet_bytes s)) e
 
@@ -85,14 +82,14 @@ sheet-written-read s held out n e =
     let m : length (sheet_bytes s) ∷ [] ≡ n ∷ [] = sym w.0 ∙ ap (λ (g : Given). g.values) e in
     let count : length (sheet_bytes s) ≡ n = cc in
     let file : take n (sheet_out s out) ≡ sheet_bytes s = rw w.1 (take_at (sheet_bytes s) (drop (length (sheet_bytes s)) out) n count) in
-    let is : read_sheet (take n (sheet_out s out)) s.slots s.channels s.blocked s.rule ≡ record { site = s; answer = read.Done } =
+    let is : read_sheet (take n (sheet_out s out)) s.slots s.channels s.blocked s.rule ≡ record { site = s; answer = Ok tt } =
     ap (λ (b : List ℕ). read_sheet b s.slots s.channels s.blocked s.rule) file
     ∙ written_then_read s (fine-fits s held (written-fine s out zero)) (written-fine s out zero) in
     (ap (λ (r : SheetRead). sheet_given r.answer) is, ap (λ (r : SheetRead). r.site) is)
 
 module _ (b : List ℕ) (slots channels : ℕ) (blocked : List ℕ) (rule : ℕ) (words : BlockedHeld blocked) where
-  was-done : sheet_given (read_sheet b slots channels blocked rule).answer ≡ done → (read_sheet b slots channels blocked rule).answer ≡ read.Done
-  was-done e = sheet-apart (read_sheet b slots channels blocked rule).answer read.Done (sheet-proper b slots channels blocked rule) refl e
+  was-done : sheet_given (read_sheet b slots channels blocked rule).answer ≡ done → (read_sheet b slots channels blocked rule).answer ≡ Ok tt
+  was-done e = sheet-apart (read_sheet b slots channels blocked rule).answer (Ok tt) e
 
   -- "an accepted sheet written again is the same bytes": `write_sheet` of what `read_sheet` read
   pub sheet-read-written : sheet_given (read_sheet b slots channels blocked rule).answer ≡ done → (out : List ℕ) → length b ≤ length out
@@ -123,7 +120,7 @@ module _ (b : List ℕ) (slots channels : ℕ) (blocked : List ℕ) (rule : ℕ)
   pub seventeen : (l : ℕ) → sheet_given (read_sheet b slots channels blocked rule).answer ≡ refused 17 (l ∷ []) ↔ FirstBadOfSheet b l
   seventeen l = (
     λ e.
-        let is = sheet-apart (read_sheet b slots channels blocked rule).answer (read.BadLine l) (sheet-proper b slots channels blocked rule) refl e in
+        let is = sheet-apart (read_sheet b slots channels blocked rule).answer (Err (BadLine l)) e in
         bad-first b slots channels blocked rule words l is,
     λ f. ap sheet_given (first-told b slots channels blocked rule words l f),
   )
@@ -132,26 +129,22 @@ module _ (b : List ℕ) (slots channels : ℕ) (blocked : List ℕ) (rule : ℕ)
   pub sheet-or-bad : ((l : ℕ) → FirstBadOfSheet b l → ⊥) → (s : Site) × SheetOf b slots channels blocked rule s
   sheet-or-bad none = no-bad-line b slots channels blocked rule words none
 
-  judged-number : (s : Site) (f : Fault) → fault_of s ≡ f → sheet_given (judged s).answer ≡ fault_given f
+  judged-number : (s : Site) (f : Result Unit Fault) → fault_of s ≡ f → sheet_given (judged s).answer ≡ done_given f
   unfolding judged
-  judged-number s Fine q = rw q
-  judged-number s Size q = rw q
-  judged-number s Rule q = rw q
-  judged-number s (Load k) q = rw q
-  judged-number s (Reach k) q = rw q
-  judged-number s (Blocked k) q = rw q
+  judged-number s (Ok u) q = rw q
+  judged-number s (Err f) q = rw q
 
   module _ (s : Site) (w : SheetOf b slots channels blocked rule s) where
     -- and reading the sheet of a record, fine or not, is judging the record
-    pub sheet-judges : sheet_given (read_sheet b slots channels blocked rule).answer ≡ fault_given (fault_of s)
+    pub sheet-judges : sheet_given (read_sheet b slots channels blocked rule).answer ≡ done_given (fault_of s)
     sheet-judges = ap (λ (r : SheetRead). sheet_given r.answer) (sheet-read b slots channels blocked rule words s w) ∙ judged-number s (fault_of s) refl
 
-    fault-told : (f : Fault) → sheet_given (read_sheet b slots channels blocked rule).answer ≡ fault_given f ↔ fault_of s ≡ f
-    fault-told f = (λ e. fault-apart (fault_of s) f (sym sheet-judges ∙ e), λ q. sheet-judges ∙ ap fault_given q)
+    fault-told : (f : Fault) → sheet_given (read_sheet b slots channels blocked rule).answer ≡ fault_given f ↔ fault_of s ≡ Err f
+    fault-told f = (λ e. done-apart (fault_of s) (Err f) (sym sheet-judges ∙ e), λ q. sheet-judges ∙ ap done_given q)
 
     -- "after it 1, then 3 for a mark on oneself": in one line
-    pub after-seventeen : sheet_given (read_sheet b slots channels blocked rule).answer ≡ fault_given (sheet_fault s)
-    after-seventeen = sheet-judges ∙ ap fault_given (fault-is s w.fits)
+    pub after-seventeen : sheet_given (read_sheet b slots channels blocked rule).answer ≡ done_given (sheet_fault s)
+    after-seventeen = sheet-judges ∙ ap done_given (fault-is s w.fits)
 
     -- 1 exactly where the slots or the channels given are out of range
     pub sheet-one : sheet_given (read_sheet b slots channels blocked rule).answer ≡ refused 1 [] ↔ ((UpTo 128 slots × UpTo 16 channels) → ⊥)

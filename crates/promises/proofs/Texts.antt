@@ -5,7 +5,7 @@ use lib.Dec.{leb}
 use lib.ListN.{length}
 use Rattle.site.specs.Record.{fault_of}
 use Rattle.site.specs.declared.Site.{Site}
-use Rattle.site.specs.declared.Fault.TheVariants.{Fine}
+use Rattle.std.specs.Prelude.{Ok}
 use Rattle.records.specs.Write.{written, laid_over}
 use Rattle.records.specs.Given.{written_given}
 use Rattle.whytext.specs.Text.{why_text, why_written, why_out}
@@ -15,7 +15,7 @@ use Rattle.promises.proofs.Demand1.{file-left}
 -- an answer in words, and the listing of a file: the one refusal is 13
 pub text-leaves : (text out : List ℕ) → WriterLeaves text out (written_given (written text out)) (laid_over text out)
 unfolding written laid_over
-text-leaves text out = file-left text out Fine (leb (length text) (length out))
+text-leaves text out = file-left text out (Ok tt) (leb (length text) (length out))
 
 -- what `why` prints: the record's faults, then 13
 pub why-leaves : (s : Site) (out : List ℕ) → WriterLeaves (why_text s) out (written_given (why_written s out)) (why_out s out)

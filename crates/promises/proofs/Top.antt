@@ -4,14 +4,15 @@ use mathlib.Core.Path.{◌≡◌, ap, ◌∙◌}
 use mathlib.Core.List.{List, [], ◌∷◌}
 use mathlib.Core.Logic.{◌↔◌}
 use Prim.Native.Nat.{ℕ}
-use Rattle.theory.specs.Net.{LoadTest}
+use Rattle.std.specs.Prelude.{Result}
 use Rattle.site.specs.declared.Site.{Site}
 use Rattle.judges.specs.Judges.{load_answer}
 use Rattle.judges.specs.Given.{load_given}
-use Rattle.judges.specs.declared.LoadAnswer.{LoadAnswer}
+use Rattle.judges.specs.declared.LoadVerdict.{LoadVerdict}
+use Rattle.site.specs.declared.Fault.{Fault}
 use Rattle.planner.specs.Plan.{plan_answer, plan_table}
 use Rattle.planner.specs.Given.{plan_given}
-use Rattle.planner.specs.declared.PlanAnswer.{PlanAnswer}
+use Rattle.planner.specs.declared.PlanError.{PlanError}
 use Rattle.planner.proofs.Meaning.{done-means}
 use Rattle.records.specs.Given.{read_given, written_given}
 use Rattle.sitefile.specs.Read.{read_site}
@@ -103,12 +104,12 @@ demand-three = record {
 pub planned-if-chained : (first second : Site)
     → Accepted second → Easier second first → ChainedSite second
     → (found : List ℕ) → DefinitionOne first found
-    → (lent left : List ℕ) (answer : PlanAnswer) → LongEnough second lent → Plan second lent answer left
+    → (lent left : List ℕ) (answer : Result Unit PlanError) → LongEnough second lent → Plan second lent answer left
     → (plan_given answer ≡ done) × (DefinitionOne second left)
 planned-if-chained first second ok easier ch = demand-three.planned_if_any_can first second ok easier (chained_is_nested second ch)
 
 pub chained-exactly : (site : Site) → ChainedSite site
-    → (verdict : LoadAnswer) → judges.LoadTest site verdict
-    → (lent left : List ℕ) (answer : PlanAnswer) → LongEnough site lent → Plan site lent answer left
+    → (verdict : Result LoadVerdict Fault) → judges.LoadTest site verdict
+    → (lent left : List ℕ) (answer : Result Unit PlanError) → LongEnough site lent → Plan site lent answer left
     → load_given verdict ≡ done ↔ plan_given answer ≡ done
 chained-exactly site ch = demand-three.nested_exactly site (chained_is_nested site ch)

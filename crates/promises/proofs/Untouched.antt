@@ -3,28 +3,30 @@ use mathlib.Core.Path.{◌≡◌, refl, ap, ◌∙◌}
 use mathlib.Core.Bool.{Bool, true, false}
 use mathlib.Core.List.{List}
 use Prim.Native.Nat.{ℕ}
+use Rattle.std.specs.Prelude.{Result, Ok, Err}
 use Rattle.site.specs.Record.{positions, size, fault_of}
 use Rattle.site.specs.declared.Site.{Site}
 use Rattle.site.specs.declared.Fault.{Fault}
-use Rattle.site.specs.declared.Fault.TheVariants.{Fine, Size, Rule, Load, Reach, Blocked}
 use Rattle.planner.specs.Plan.{plan_answer, plan_table}
 use Rattle.planner.specs.Given.{plan_given}
 use Rattle.wordtable.specs.Plan.{plan_words_answer, plan_words}
 use Rattle.wordtable.specs.Forms.{form_answer, to_words, to_bytes}
 use Rattle.wordtable.specs.Given.{form_given}
 use Rattle.renumbering.specs.Numbering.{Numbering, numbered, stuck}
-use Rattle.numbering.specs.Renumber.{numbering_of}
+use Rattle.numbering.specs.Renumber.{site_numbers, numbering_of}
 use Rattle.numbering.specs.Carried.{either_short, carry_answer, carry_table}
 use Rattle.numbering.specs.Given.{carry_given}
 use Rattle.search.specs.Search.{search_answer, search_table}
 use Rattle.search.specs.Given.{search_given}
-use Rattle.search.specs.declared.SearchAnswer.{SearchAnswer}
-use Rattle.search.specs.declared.SearchAnswer.TheVariants as search
+use Rattle.search.specs.declared.SearchError.{SearchError}
+use Rattle.search.specs.declared.SearchError.TheVariants as search
 use Rattle.search.proofs.Right.{with_tries, not_written}
 use Rattle.finder.specs.Find.{find_answer, find_table}
 use Rattle.finder.specs.Given.{find_given}
-use Rattle.finder.specs.declared.FindAnswer.{FindAnswer}
-use Rattle.finder.specs.declared.FindAnswer.TheVariants as find
+use Rattle.finder.specs.declared.Way.{Way}
+use Rattle.finder.specs.declared.FindError.{FindError}
+use Rattle.finder.specs.declared.Way.TheVariants.{Greedy, Renumbered, Searched}
+use Rattle.finder.specs.declared.FindError.TheVariants as find
 use Rattle.finder.proofs.Right as finder
 use Rattle.numbering.proofs.Ways.{carry-refused, carry-none, carry-short}
 use Rattle.told.specs.Told.{told}
@@ -58,44 +60,40 @@ plan-no-room : (s : Site) (table : List ℕ) → (plan_given (plan_answer s tabl
 plan-no-room s table e = (plan-leaves s table).if_no_room e
 
 module _ (s : Site) (from to : List ℕ) where
-  kept_at : (f : Fault) (x : Numbering) (short : Bool) → fault_of s ≡ f → numbering_of s ≡ x → either_short s from to ≡ short
+  kept_at : (f : Result Unit Fault) (x : Numbering) (short : Bool) → fault_of s ≡ f → numbering_of s ≡ x → either_short s from to ≡ short
       → Refused (carry_given (carry_answer s from to)).number → carry_table s from to ≡ to
-  unfolding carry_answer
-  kept_at Fine (numbered new old) true e g h z = (carry-short s from to new old e g h).1
-  kept_at Fine (numbered new old) false e g h z = absurd ((rw (e, g, h) at z) refl)
-  kept_at Fine stuck short e g h z = (carry-none s from to e g).1
-  kept_at Size x short e g h z = (carry-refused s from to Size e refl).1
-  kept_at Rule x short e g h z = (carry-refused s from to Rule e refl).1
-  kept_at (Load k) x short e g h z = (carry-refused s from to (Load k) e refl).1
-  kept_at (Reach k) x short e g h z = (carry-refused s from to (Reach k) e refl).1
-  kept_at (Blocked k) x short e g h z = (carry-refused s from to (Blocked k) e refl).1
+  unfolding carry_answer site_numbers
+  kept_at (Ok u) (numbered new old) true e g h z = (carry-short s from to new old e g h).1
+  kept_at (Ok u) (numbered new old) false e g h z = absurd ((rw (e, g, h) at z) refl)
+  kept_at (Ok u) stuck short e g h z = (carry-none s from to e g).1
+  kept_at (Err f) x short e g h z = (carry-refused s from to f e).1
 
   pub carry-untouched : Refused (carry_given (carry_answer s from to)).number → carry_table s from to ≡ to
   carry-untouched = kept_at (fault_of s) (numbering_of s) (either_short s from to) refl refl refl
 
 -- an answer with tries has the number 0
-no-tries : (a : SearchAnswer) → Refused (search_given a).number → with_tries a ≡ false
-no-tries (search.Plan n) z = absurd (z refl)
-no-tries (search.Full n) z = absurd (z refl)
-no-tries (search.Limit n) z = absurd (z refl)
-no-tries search.TooMany z = refl
-no-tries search.TableShort z = refl
-no-tries (search.Refused f) z = refl
+no-tries : (a : Result ℕ SearchError) → Refused (search_given a).number → with_tries a ≡ false
+no-tries (Ok n) z = absurd (z refl)
+no-tries (Err (search.Full n)) z = absurd (z refl)
+no-tries (Err (search.Limit n)) z = absurd (z refl)
+no-tries (Err search.TooMany) z = refl
+no-tries (Err search.TableShort) z = refl
+no-tries (Err (search.Record f)) z = refl
 
 pub search-untouched : (s : Site) (limit : ℕ) (t : List ℕ) → Refused (search_given (search_answer s limit t)).number → search_table s limit t ≡ t
 search-untouched s limit t z = not_written s t limit (no-tries (search_answer s limit t) z)
 
 -- a verdict has the number 0
-no-verdict : (a : FindAnswer) → Refused (find_given a).number → finder.is_verdict a ≡ false
-no-verdict find.Greedy z = absurd (z refl)
-no-verdict find.Renumbered z = absurd (z refl)
-no-verdict (find.Searched n) z = absurd (z refl)
-no-verdict (find.Full x) z = absurd (z refl)
-no-verdict find.FullInClass z = absurd (z refl)
-no-verdict (find.FullSearched n) z = absurd (z refl)
-no-verdict (find.NotKnown n) z = absurd (z refl)
-no-verdict find.TableShort z = refl
-no-verdict (find.Refused f) z = refl
+no-verdict : (a : Result Way FindError) → Refused (find_given a).number → finder.is_verdict a ≡ false
+no-verdict (Ok Greedy) z = absurd (z refl)
+no-verdict (Ok Renumbered) z = absurd (z refl)
+no-verdict (Ok (Searched n)) z = absurd (z refl)
+no-verdict (Err (find.Full x)) z = absurd (z refl)
+no-verdict (Err find.FullInClass) z = absurd (z refl)
+no-verdict (Err (find.FullSearched n)) z = absurd (z refl)
+no-verdict (Err (find.NotKnown n)) z = absurd (z refl)
+no-verdict (Err find.TableShort) z = refl
+no-verdict (Err (find.Record f)) z = refl
 
 pub find-untouched : (s : Site) (limit : ℕ) (t : List ℕ) → Refused (find_given (find_answer s limit t)).number → find_table s limit t ≡ t
 find-untouched s limit t z = finder.not_written s limit t (no-verdict (find_answer s limit t) z)

@@ -11,17 +11,17 @@ use lib.Dec.{ltb}
 use lib.ListN.{length, get_or, drop, replicate, length-replicate}
 use lib.Seq.{drop_at}
 use borrow.Author.Tests.{ltb-false, lt-ltb}
+use Rattle.std.specs.Prelude.{Result, Ok, Err}
 use Rattle.laws.specs.Choice.{pick}
 use Rattle.laws.specs.Part.{list_of}
 use Rattle.laws.specs.Sum.{bit}
 use Rattle.laws.proofs.Stores.{length-list}
 use Rattle.theory.specs.Greedy.{reserved, Outcome, planned, no_room, greedy}
-use Rattle.site.specs.Record.{positions, size, fault_of, is_fine}
+use Rattle.site.specs.Record.{positions, size, fault_of, is_fine, answer_with}
 use Rattle.site.specs.Reach.{net_of}
 use Rattle.site.specs.Given.{fault_given}
 use Rattle.site.specs.declared.Site.{Site}
 use Rattle.site.specs.declared.Fault.{Fault}
-use Rattle.site.specs.declared.Fault.TheVariants.{Fine, Size, Rule, Load, Reach, Blocked}
 use Rattle.words.specs.Words.{word_at, words_of, out_words}
 use Rattle.planner.specs.Plan.{plan_answer, plan_table}
 use Rattle.planner.specs.Given.{plan_given}
@@ -29,16 +29,15 @@ use Rattle.judges.specs.Judges.{class_answer}
 use Rattle.judges.specs.Given.{class_given}
 use Rattle.checker.specs.Check.{check_answer}
 use Rattle.checker.specs.Given.{check_given}
-use Rattle.checker.specs.declared.CheckAnswer.{CheckAnswer}
-use Rattle.checker.specs.declared.CheckAnswer.TheVariants as check
+use Rattle.checker.specs.declared.CheckError.{CheckError}
+use Rattle.checker.specs.declared.CheckError.TheVariants as check
 use Rattle.checker.proofs.Given.{check-apart}
 use Rattle.wordforms.specs.Words.{sends_at, bytes_of}
 use Rattle.wordtable.specs.Plan.{plan_words_answer, plan_words}
 use Rattle.wordtable.specs.Check.{check_words_answer}
 use Rattle.wordtable.specs.Forms.{lent_short, form_answer, to_words, to_bytes}
 use Rattle.wordtable.specs.Given.{form_given}
-use Rattle.wordtable.specs.declared.FormAnswer.TheVariants as form
-use Rattle.wordtable.proofs.Given.{check-words-proper}
+use Rattle.wordtable.specs.declared.FormError.TheVariants as form
 use Rattle.wordforms.proofs.Rows.{bytes-long}
 use Rattle.wordtable.proofs.Ways.{table-short, words-short}
 use Rattle.wordtable.proofs.Same.{bytes-at, check-bytes, check-table, plan-answer-same, plan-words-are, plan-kept-long}
@@ -114,17 +113,12 @@ above-silent s one other e same = (ap check_given (check-above s one other e sam
 -- ---- refusals
 
 -- a record that is not accepted is refused with its fault, 1, 24, 2, 3 or 20, by all four, whatever is lent, and nothing is written
-pub words-fault : (s : Site) (words table : List ℕ) (f : Fault) → fault_of s ≡ f → (f ≡ Fine → ⊥)
+pub words-fault : (s : Site) (words table : List ℕ) (f : Fault) → fault_of s ≡ Err f
     → (plan_given (plan_words_answer s words) ≡ fault_given f) × (check_given (check_words_answer s words) ≡ fault_given f)
     × (form_given (form_answer s table words) ≡ fault_given f)
     × (plan_words s words ≡ words) × (to_words s table words ≡ words) × (to_bytes s words table ≡ table)
 unfolding plan_words_answer check_words_answer form_answer plan_words to_words to_bytes
-words-fault s words table Fine e at-fault = absurd (at-fault refl)
-words-fault s words table Size e at-fault = (rw e, rw e, rw e, rw e, rw e, rw e)
-words-fault s words table Rule e at-fault = (rw e, rw e, rw e, rw e, rw e, rw e)
-words-fault s words table (Load k) e at-fault = (rw e, rw e, rw e, rw e, rw e, rw e)
-words-fault s words table (Reach k) e at-fault = (rw e, rw e, rw e, rw e, rw e, rw e)
-words-fault s words table (Blocked k) e at-fault = (rw e, rw e, rw e, rw e, rw e, rw e)
+words-fault s words table f e = (rw e, rw e, rw e, rw e, rw e, rw e)
 
 -- "Refusal 4 is given when fewer than N words are lent", by all four, and nothing is written
 pub words-four : (s : Site) (words table : List ℕ) → Accepted s → length words < positions s
@@ -153,15 +147,11 @@ out-long : (cells n : ℕ) (o : Outcome) → length (out_words cells n o) ≡ n
 out-long cells n (planned t) = length-list (word_at cells (reserved n t)) n
 out-long cells n (no_room c m) = length-replicate n 0
 
-past : (f : Fault) (short : Bool) (front lent : List ℕ) (n : ℕ) → length front ≡ n
+past : (f : Result Unit Fault) (short : Bool) (front lent : List ℕ) (n : ℕ) → length front ≡ n
     → drop n (pick (is_fine f) (pick short lent (front ++ drop n lent)) lent) ≡ drop n lent
-past Fine true front lent n e = refl
-past Fine false front lent n e = drop_at front (drop n lent) n e
-past Size short front lent n e = refl
-past Rule short front lent n e = refl
-past (Load k) short front lent n e = refl
-past (Reach k) short front lent n e = refl
-past (Blocked k) short front lent n e = refl
+past (Ok u) true front lent n e = refl
+past (Ok u) false front lent n e = drop_at front (drop n lent) n e
+past (Err f) short front lent n e = refl
 
 -- "words past N are never written", and bytes past IN neither: for every record, and whatever is lent
 pub past-untouched : (s : Site) (words table : List ℕ)
@@ -187,16 +177,12 @@ plan-words-leaves s words =
     plan-left (positions s) words (out_words s.cells (positions s)) (λ _ _. refl) (fault_of s) (ltb (length words) (positions s)) (greedy (net_of s))
     (λ u _. out-long s.cells (positions s) (planned u))
 
-form-left : (n : ℕ) (f : Fault) (short : Bool) (front lent : List ℕ) → length front ≡ n
-    → ReaderLeaves n lent (form_given (pick (is_fine f) (pick short form.TableShort form.Done) (form.Refused f))).number
+form-left : (n : ℕ) (f : Result Unit Fault) (short : Bool) (front lent : List ℕ) → length front ≡ n
+    → ReaderLeaves n lent (form_given (answer_with form.Record f (pick short (Err form.TableShort) (Ok tt)))).number
     (pick (is_fine f) (pick short lent (front ++ drop n lent)) lent)
-form-left n Fine true front lent e = record { if_done = λ _. refl; if_refused = λ _. refl }
-form-left n Fine false front lent e = record { if_done = λ _. drop_at front (drop n lent) n e; if_refused = λ z. absurd (z refl) }
-form-left n Size short front lent e = record { if_done = λ _. refl; if_refused = λ _. refl }
-form-left n Rule short front lent e = record { if_done = λ _. refl; if_refused = λ _. refl }
-form-left n (Load k) short front lent e = record { if_done = λ _. refl; if_refused = λ _. refl }
-form-left n (Reach k) short front lent e = record { if_done = λ _. refl; if_refused = λ _. refl }
-form-left n (Blocked k) short front lent e = record { if_done = λ _. refl; if_refused = λ _. refl }
+form-left n (Ok u) true front lent e = record { if_done = λ _. refl; if_refused = λ _. refl }
+form-left n (Ok u) false front lent e = record { if_done = λ _. drop_at front (drop n lent) n e; if_refused = λ z. absurd (z refl) }
+form-left n (Err f) short front lent e = record { if_done = λ _. refl; if_refused = λ _. refl }
 
 -- the changes of form: no refusal writes
 pub forms-leave : (s : Site) (words table : List ℕ)
@@ -213,20 +199,17 @@ forms-leave s words table = (
 -- ---- demand 3
 
 -- words that are valid were enough
-was-enough : (f : Fault) (short : Bool) (o : CheckAnswer) → pick (is_fine f) (pick short check.TableShort o) (check.Refused f) ≡ check.Valid → short ≡ false
-was-enough Fine true o e = let z : ◌≡◌ {A = ℕ} 0 1 = cc in absurd (omega arith)
-was-enough Fine false o e = refl
-was-enough Size short o e = let z : ◌≡◌ {A = ℕ} 0 1 = cc in absurd (omega arith)
-was-enough Rule short o e = let z : ◌≡◌ {A = ℕ} 0 24 = cc in absurd (omega arith)
-was-enough (Load k) short o e = let z : ◌≡◌ {A = ℕ} 0 1 = cc in absurd (omega arith)
-was-enough (Reach k) short o e = let z : ◌≡◌ {A = ℕ} 0 1 = cc in absurd (omega arith)
-was-enough (Blocked k) short o e = let z : ◌≡◌ {A = ℕ} 0 1 = cc in absurd (omega arith)
+was-enough : (f : Result Unit Fault) (short : Bool) (o : Result Unit CheckError) → answer_with check.Record f (pick short (Err check.TableShort) o) ≡ Ok tt
+    → short ≡ false
+was-enough (Ok u) true o e = cc
+was-enough (Ok u) false o e = refl
+was-enough (Err f) short o e = cc
 
 pub valid-enough : (s : Site) (words : List ℕ) → check_given (check_words_answer s words) ≡ done → WordsEnough s words
 unfolding check_words_answer
 valid-enough s words ok =
     ltb-false (length words) (positions s) (was-enough (fault_of s) (ltb (length words) (positions s)) _
-    (check-apart (check_words_answer s words) check.Valid (check-words-proper s words) refl ok))
+    (check-apart (check_words_answer s words) (Ok tt) ok))
 
 -- a table of bytes that is long enough
 pub room_for : (s : Site) → LongEnough s (replicate (size s) 0)

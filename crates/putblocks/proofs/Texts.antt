@@ -69,38 +69,38 @@ more-append b (i ∷ l) m p q e =
 
 -- ---- the loops' steps
 
-module _ (b : Bool) (side : Side) (channels x f n c : ℕ) (is_c : c ≡ run_start channels x f) where
-  pub runs_none : channels ≤ c → more_text b (runs_from (suc n) side channels x f) ≡ []
+module _ (b : Bool) (side : Side) (channels x f n left c : ℕ) (more : left ≡ suc n) (is_c : c ≡ run_start channels x f) where
+  pub runs_none : channels ≤ c → more_text b (runs_from left side channels x f) ≡ []
   unfolding runs_from more_text
-  runs_none h = rw (← is_c, le-ltb c channels h)
+  runs_none h = rw (more, ← is_c, le-ltb c channels h)
 
   pub runs-next : c < channels → (e : ℕ) → e ≡ run_end channels x f
-      → more_text b (runs_from (suc n) side channels x f)
+      → more_text b (runs_from left side channels x f)
       ≡ (comma_if b ++ item_text (record { slots = side; channels = side_for channels (c + 1) e })) ++ more_text true (runs_from n side channels x e)
   unfolding runs_from more_text
-  runs-next h e is-e = rw (← is_c, lt-ltb c channels h, ← is-e)
+  runs-next h e is-e = rw (more, ← is_c, lt-ltb c channels h, ← is-e)
 
-module _ (b : Bool) (words : List ℕ) (slots channels n t : ℕ) where
-  pub slots-none : slots ≤ t → more_text b (slots_from (suc n) words slots channels t) ≡ []
+module _ (b : Bool) (words : List ℕ) (slots channels n left t : ℕ) (more : left ≡ suc n) where
+  pub slots-none : slots ≤ t → more_text b (slots_from left words slots channels t) ≡ []
   unfolding slots_from more_text
-  slots-none h = rw (le-ltb t slots h)
+  slots-none h = rw (more, le-ltb t slots h)
 
   pub slots_next : t < slots → (u x p q : ℕ) → u ≡ slots_end words slots channels t → x ≡ slot_word words channels t
       → let runs = runs_from channels (side_for slots (t + 1) u) channels x 0 in
-      q ≡ p + length (more_text b runs) → more_text b (slots_from (suc n) words slots channels t)
+      q ≡ p + length (more_text b runs) → more_text b (slots_from left words slots channels t)
       ≡ more_text b runs ++ more_text (b || ltb p q) (slots_from n words slots channels u)
   unfolding slots_from
   slots_next h u x p q is-u is_x e =
-      rw (lt-ltb t slots h, ← is-u, ← is_x) (more-append b (runs_from channels (side_for slots (t + 1) u) channels x 0)
+      rw (more, lt-ltb t slots h, ← is-u, ← is_x) (more-append b (runs_from channels (side_for slots (t + 1) u) channels x 0)
       (slots_from n words slots channels u) p q e)
 
-  pub no-slots : more_text b (slots_from 0 words slots channels t) ≡ []
-  unfolding slots_from more_text
-  no-slots = refl
+pub no-slots : (b : Bool) (words : List ℕ) (slots channels left t : ℕ) → left ≡ 0 → more_text b (slots_from left words slots channels t) ≡ []
+unfolding slots_from more_text
+no-slots b words slots channels left t e = rw e
 
-pub no-runs : (b : Bool) (side : Side) (channels x f : ℕ) → more_text b (runs_from 0 side channels x f) ≡ []
+pub no-runs : (b : Bool) (side : Side) (channels x f left : ℕ) → left ≡ 0 → more_text b (runs_from left side channels x f) ≡ []
 unfolding runs_from more_text
-no-runs b side channels x f = refl
+no-runs b side channels x f left e = rw e
 
 -- the searches that the writer makes
 pub start_is : (channels x f c : ℕ) → c ≡ first (bit_at x) f channels → c ≡ run_start channels x f

@@ -10,6 +10,7 @@ ghost use Rattle.blocklist.specs.Format.{side_text, item_text};
 ghost use Rattle.putblocks.specs.Canon.{slot_word, side_for, runs_from, slots_end, blocked_text};
 ghost use Rattle.putblocks.specs.Loop.{comma_if, more_text, item_for};
 
+use phrases::put_byte;
 use positions::{bit_weight, is_blocked};
 use text::put_number;
 
@@ -20,16 +21,6 @@ const COMMA: u8 = 44;
 const DASH: u8 = 45;
 
 const DOT: u8 = 46;
-
-// One byte.
-fn put_byte(out: &mut [u8], at: usize, b: u8) -> usize
-    requires { at + 1 ≤ length out.old }
-    ensures stored { out.new ≡ sets out.old at (b ∷ []) }
-    ensures next { result ≡ at + 1 }
-{
-    out[at] = b;
-    at + 1
-}
 
 // Whether from to `to` are all of 1 to most.
 fn is_whole(from: usize, to: usize, most: usize) -> bool
@@ -108,14 +99,12 @@ fn first_bit(x: u64, want: bool, f: usize, e: usize) -> usize
     requires { e ≤ 64 }
     ensures { result ≡ first (λ g. pick want (bit_at x g) (not (bit_at x g))) f e }
 {
-    let mut g = f;
-    while g < e {
+    for g in f..e {
         if is_bit(x, want, g) {
             return g;
         }
-        g += 1;
     }
-    g
+    f.max(e)
 }
 
 // The items of a run of slots, a to b, for the channels of x.
@@ -136,8 +125,7 @@ fn put_runs(
     let mut p = at;
     let mut more = begun;
     let mut f: usize = 0;
-    let mut left = channels;
-    while 0 < left {
+    for _ in 0..channels {
         let c = first_bit(x, true, f, channels);
         if channels <= c {
             return p;
@@ -146,7 +134,6 @@ fn put_runs(
         p = put_item(out, p, more, a, b, slots, c + 1, e, channels);
         more = true;
         f = e;
-        left -= 1;
     }
     p
 }
@@ -170,14 +157,12 @@ fn slots_end(set: &[u64; 32], slots: usize, channels: usize, t: usize) -> usize
     ensures { result ≡ slots_end set.now slots channels t }
 {
     let x = slot_word(set, channels, t);
-    let mut u = t + 1;
-    while u < slots {
+    for u in t + 1..slots {
         if slot_word(set, channels, u) != x {
             return u;
         }
-        u += 1;
     }
-    u
+    slots
 }
 
 // Whether something was written up to now.
@@ -205,8 +190,7 @@ pub fn put_blocked(
     let mut p = at;
     let mut begun = false;
     let mut t: usize = 0;
-    let mut left = slots;
-    while 0 < left {
+    for _ in 0..slots {
         if slots <= t {
             return p;
         }
@@ -216,7 +200,6 @@ pub fn put_blocked(
         begun = begun_by(begun, p, q);
         p = q;
         t = u;
-        left -= 1;
     }
     p
 }

@@ -14,12 +14,10 @@ fn put_marks(out: &mut [u8], at: usize, n: usize, row: u32) -> usize
     ensures next { result ≡ at + length (marks (bits_of row) 0 n) }
 {
     let mut p = at;
-    let mut b: usize = 0;
-    while b < n {
+    for b in 0..n {
         out[p] = 44;
         out[p + 1] = 48 + ((row >> b) % 2) as u8;
         p += 2;
-        b += 1;
     }
     p
 }
@@ -46,11 +44,9 @@ fn put_columns(out: &mut [u8], at: usize, n: usize) -> usize
     ensures next { result ≡ at + length (columns 0 n) }
 {
     let mut p = at;
-    let mut k: usize = 0;
-    while k < n {
+    for k in 0..n {
         out[p] = 44;
         p = put_few(out, p + 1, k + 1);
-        k += 1;
     }
     p
 }

@@ -5,43 +5,24 @@ ghost use Rattle.std.specs.Prelude.{◌≡◌, ◌||◌, [], ◌∷◌, ◌+◌,
 ghost use Rattle.phrases.specs.Put.{Put};
 ghost use Rattle.quoting.specs.Names.{breaks_field, has_break, twice, doubled, in_quotes, quoted_name};
 
+use phrases::put_byte;
 use text::put_text;
 
 const QUOTE: u8 = 34;
 
-// Puts one byte.
-fn put_byte(out: &mut [u8], at: usize, byte: u8) -> usize
-    requires { at + 1 ≤ length out.old }
-    ensures { Put out.old at (byte ∷ []) 1 out.new result }
-{
-    out[at] = byte;
-    at + 1
-}
-
 // Whether a byte is a comma, a quote, or of a line's end.
+#[tactic(auto, unfolding(crate::specs::Names::breaks_field))]
 fn is_break(byte: u8) -> bool
     ensures { result ≡ breaks_field byte }
 {
-    if byte == 44 {
-        return true;
-    }
-    if byte == QUOTE {
-        return true;
-    }
-    if byte == 13 {
-        return true;
-    }
-    byte == 10
+    matches!(byte, b',' | QUOTE | b'\r' | b'\n')
 }
 
 // One or the other.
 fn either(a: bool, b: bool) -> bool
     ensures { result ≡ (a || b) }
 {
-    if a {
-        return true;
-    }
-    b
+    a || b
 }
 
 // Whether a name has such a byte.
@@ -49,10 +30,8 @@ fn has_break(name: &[u8]) -> bool
     ensures { result ≡ has_break name.now }
 {
     let mut any = false;
-    let mut i = 0;
-    while i < name.len() {
-        any = either(any, is_break(name[i]));
-        i += 1;
+    for &byte in name {
+        any = either(any, is_break(byte));
     }
     any
 }
@@ -75,10 +54,8 @@ fn put_doubled(out: &mut [u8], at: usize, name: &[u8]) -> usize
     ensures { Put out.old at (doubled name.now) (2 * length name.now) out.new result }
 {
     let mut next = at;
-    let mut i = 0;
-    while i < name.len() {
-        next = put_twice(out, next, name[i]);
-        i += 1;
+    for &byte in name {
+        next = put_twice(out, next, byte);
     }
     next
 }

@@ -4,7 +4,6 @@ use Prim.Native.Nat.{ℕ, zero, suc, ◌+◌, ◌-◌, ◌*◌, ◌/◌, ◌%◌
 use mathlib.Core.Path.{◌≡◌, refl, sym, ap, ap₂, ◌∙◌}
 use mathlib.Core.List.{List, [], ◌∷◌, ◌++◌}
 use native.Mathlib.Nat.{add-zero, zero-min, min-zero, zero-div, div-eq_of_lt, two-pow-succ}
-use native.Mathlib.Decide.{dec_lt}
 use native.Mathlib.Omega.{arith}
 use lib.ListN.{length}
 use lib.Seq.{sets}
@@ -14,7 +13,7 @@ use borrow.Author.Tests.{eq-eqb, ne_eqb}
 use Rattle.laws.proofs.Stores.{sets-append}
 use Rattle.reachpairs.specs.Pairs.{pair_of, pairs_from}
 use Rattle.reachpairs.specs.Loop.{row_from}
-use Rattle.reachpairs.proofs.RowLaws.{pair_set, pair-clear, left-half, row-end, rows_end}
+use Rattle.reachpairs.proofs.RowLaws.{pair_set, pair-clear, left-half, row-end}
 
 -- ---- the number without its lowest bit, from bit b on
 
@@ -161,15 +160,8 @@ module _ (x a : ℕ) (h : x < 2 ^ 32) (some : x ≡ 0 → ⊥) where
       sym (ap (sets out k) (row-lowest x a h some)
       ∙ sets-append out k ((a + 1) ∷ (count_trailing_zeros 32 x + 1) ∷ []) (row_from (bit_and x (x - 1)) (32 * a) 32))
 
--- bytes are left, so a row is
+-- no bytes are left, so no pairs are
 module _ (rows : List ℕ) (a k end : ℕ) (e : k + length (pairs_from rows (32 * a) (1024 - 32 * a)) ≡ end) where
-  pub row-left : k < end → a < 32
-  row-left l = go (dec_lt a 32)
-    where
-      go : Dec (a < 32) → a < 32
-      go (yes g) = g
-      go (no g) = absurd (omega (arith, ap length (rows_end rows a (omega arith))))
-
   pub rows-done : end ≤ k → pairs_from rows (32 * a) (1024 - 32 * a) ≡ []
   rows-done l = nil (pairs_from rows (32 * a) (1024 - 32 * a)) (omega arith)
     where

@@ -20,7 +20,8 @@ use Rattle.site.specs.Record.{up_to}
 use Rattle.site.proofs.Faults.{UpTo, up-to, up-to-is}
 use Rattle.reachpairs.specs.Pairs.{pair_ok, place, mark, all_zero}
 use Rattle.reachpairs.specs.Loop.{PairsRead, no_rows}
-use Rattle.records.specs.declared.ReadAnswer.TheVariants.{Done, Refused}
+use Rattle.std.specs.Prelude.{Ok, Err}
+use Rattle.records.specs.Reasons.{refusal}
 use Rattle.records.proofs.Laws.{drop-two}
 use Rattle.laws.proofs.Choice.{both}
 
@@ -64,21 +65,21 @@ high-mark next q rows len h l high p hp lp = go (ℕ_discrete (p / 32) (q / 32))
 
 -- the loop's way: to read the pairs that are left onto the rows so far, where next is the least place that still rises
 unfoldable pub read_pairs : ℕ → ℕ → ℕ → List ℕ → List ℕ → PairsRead
-read_pairs cells at next rows [] = record { reach = rows; answer = Done }
-read_pairs cells at next rows (f ∷ []) = record { reach = rows; answer = Done }
+read_pairs cells at next rows [] = record { reach = rows; answer = Ok tt }
+read_pairs cells at next rows (f ∷ []) = record { reach = rows; answer = Ok tt }
 read_pairs cells at next rows (f ∷ t ∷ r) =
     pick (pair_ok cells f t)
-    (pick (leb next (place f t)) (read_pairs cells at (place f t + 1) (mark rows (place f t)) r) (no_rows (Refused 11 at)))
-    (no_rows (Refused 3 at))
+    (pick (leb next (place f t)) (read_pairs cells at (place f t + 1) (mark rows (place f t)) r) (no_rows (Err (refusal 11 at))))
+    (no_rows (Err (refusal 3 at)))
 
 -- a turn of the pairs' loop, its refusals and its end
 module _ (cells at next i : ℕ) (rows body : List ℕ) where
   pub pairs-done :
-      length body ≤ 2 * i + 1 → read_pairs cells at next rows (drop (2 * i) body) ≡ record { reach = rows; answer = Done }
+      length body ≤ 2 * i + 1 → read_pairs cells at next rows (drop (2 * i) body) ≡ record { reach = rows; answer = Ok tt }
   unfolding read_pairs
   pairs-done h = go (drop (2 * i) body) (simp length-drop (omega arith))
     where
-      go : (l : List ℕ) → length l ≤ 1 → read_pairs cells at next rows l ≡ record { reach = rows; answer = Done }
+      go : (l : List ℕ) → length l ≤ 1 → read_pairs cells at next rows l ≡ record { reach = rows; answer = Ok tt }
       go [] h = refl
       go (a ∷ []) h = refl
       go (a ∷ b ∷ r) h = absurd (omega arith)
@@ -90,12 +91,12 @@ module _ (cells at next i : ℕ) (rows body : List ℕ) where
     abbrev T : ℕ
     T = get_or body (2 * i + 1) 0
 
-    pub pairs-named : pair_ok cells F T ≡ false → no_rows (Refused 3 at) ≡ read_pairs cells at next rows (drop (2 * i) body)
+    pub pairs-named : pair_ok cells F T ≡ false → no_rows (Err (refusal 3 at)) ≡ read_pairs cells at next rows (drop (2 * i) body)
     unfolding read_pairs
     pairs-named h = rw (drop-two body (2 * i)) (simp h)
 
     module _ (ok : pair_ok cells F T ≡ true) where
-      pub pairs-rise : place F T < next → no_rows (Refused 11 at) ≡ read_pairs cells at next rows (drop (2 * i) body)
+      pub pairs-rise : place F T < next → no_rows (Err (refusal 11 at)) ≡ read_pairs cells at next rows (drop (2 * i) body)
       unfolding read_pairs
       pairs-rise h = rw (drop-two body (2 * i)) (simp (ok, lt-leb next (place F T) h))
 

@@ -11,7 +11,8 @@ use borrow.Author.Tests.{lt-ltb, le-ltb, lt-leb, le-leb, eq-eqb, ne_eqb, ltb-tru
 use Rattle.laws.specs.Choice.{pick}
 use Rattle.laws.proofs.Choice.{cases, order}
 use Rattle.records.specs.Reasons.{first_reason}
-use Rattle.records.specs.declared.ReadAnswer.TheVariants.{Refused}
+use Rattle.std.specs.Prelude.{Err}
+use Rattle.records.specs.Reasons.{refusal}
 use Rattle.reachpairs.specs.Pairs.{pair_ok, place, mark, mark_all, all_zero}
 use Rattle.reachpairs.specs.Reasons.{rises, pair_reasons}
 use Rattle.reachpairs.specs.Loop.{no_rows, pairs_read_of, pairs_read}
@@ -49,9 +50,10 @@ pairs-from cells at most (f ∷ t ∷ r) next from to rows e l =
         read_pairs cells at (place f t + 1) (mark rows (place f t)) r
         ≡ pairs_read_of (mark_all (mark rows (place f t)) r) (first_reason (pair_reasons cells at f t r))) →
         (p : Bool) → pair_ok cells f t ≡ p →
-        pick p (pick (leb next (place f t)) (read_pairs cells at (place f t + 1) (mark rows (place f t)) r) (no_rows (Refused 11 at))) (no_rows (Refused 3 at))
+        pick p (pick (leb next (place f t)) (read_pairs cells at (place f t + 1) (mark rows (place f t)) r) (no_rows (Err (refusal 11 at))))
+        (no_rows (Err (refusal 3 at)))
         ≡ pairs_read_of (mark_all (mark rows (place f t)) r)
-        (pick (not p) (Refused 3 at) (pick (not (rises from to f t)) (Refused 11 at) (first_reason (pair_reasons cells at f t r))))
+        (pick (not p) (Err (refusal 3 at)) (pick (not (rises from to f t)) (Err (refusal 11 at)) (first_reason (pair_reasons cells at f t r))))
     go ih false g = refl
     go ih true g =
         let k : PairOk cells f t = pair_ok-law cells f t g in
@@ -63,8 +65,8 @@ pairs-from cells at most (f ∷ t ∷ r) next from to rows e l =
             (b : Bool) →
             read_pairs cells at (place f t + 1) (mark rows (place f t)) r
             ≡ pairs_read_of (mark_all (mark rows (place f t)) r) (first_reason (pair_reasons cells at f t r)) →
-            pick b (read_pairs cells at (place f t + 1) (mark rows (place f t)) r) (no_rows (Refused 11 at))
-            ≡ pairs_read_of (mark_all (mark rows (place f t)) r) (pick (not b) (Refused 11 at) (first_reason (pair_reasons cells at f t r)))
+            pick b (read_pairs cells at (place f t + 1) (mark rows (place f t)) r) (no_rows (Err (refusal 11 at)))
+            ≡ pairs_read_of (mark_all (mark rows (place f t)) r) (pick (not b) (Err (refusal 11 at)) (first_reason (pair_reasons cells at f t r)))
         risen true h = h
         risen false h = refl
 

@@ -17,11 +17,12 @@ use Rattle.reachpairs.specs.Loop.{PairsRead, no_rows}
 use Rattle.reachpairs.proofs.PairLaws.{High, high-none, high-mark, pair_ok-law, PairOk, read_pairs}
 use Rattle.reachpairs.proofs.RowLaws.{pair_set, pair-clear}
 use Rattle.reachpairs.proofs.Rows.{digit_in, Rows, rows_ext, mark-same, mark-other, mark-rows, high_zero}
-use Rattle.records.specs.declared.ReadAnswer.{ReadAnswer}
-use Rattle.records.specs.declared.ReadAnswer.TheVariants.{Done, Refused}
+use Rattle.records.specs.declared.Refusal.{Refusal}
+use Rattle.std.specs.Prelude.{Result, Ok, Err}
+use Rattle.records.specs.Reasons.{refusal}
 
 abbrev pub rows_read : List ℕ → PairsRead
-rows_read rows = record { reach = rows; answer = Done }
+rows_read rows = record { reach = rows; answer = Ok tt }
 
 -- the bytes of a place
 set-bytes : (rows : List ℕ) (q : ℕ) → digit_in rows q ≡ 1 → pair_of (get_or rows (q / 32) 0) q ≡ (q / 32 + 1) ∷ (q % 32 + 1) ∷ []
@@ -181,7 +182,8 @@ module _ (cells at : ℕ) (most : cells ≤ 32) (rows : List ℕ) where
           ((next' : ℕ) (part' : List ℕ) → next' ≤ 1024 → High next' part' → Rows part' → read_pairs cells at next' part' r ≡ rows_read rows
           → Trip cells next' part' rows r) →
           (a b : Bool) → pair_ok cells f t ≡ a → leb next (place f t) ≡ b →
-          pick a (pick b (read_pairs cells at (place f t + 1) (mark part (place f t)) r) (no_rows (Refused 11 at))) (no_rows (Refused 3 at)) ≡ rows_read rows →
+          pick a (pick b (read_pairs cells at (place f t + 1) (mark part (place f t)) r) (no_rows (Err (refusal 11 at)))) (no_rows (Err (refusal 3 at)))
+          ≡ rows_read rows →
           Trip cells next part rows (f ∷ t ∷ r)
       go ih true true p m e' =
           let h : next ≤ place f t = leb-true next (place f t) m in
@@ -192,11 +194,11 @@ module _ (cells at : ℕ) (most : cells ≤ 32) (rows : List ℕ) where
           (mark-rows part (place f t) whole.size below whole)
           e')
       go ih true false p m e' =
-          let y : ◌≡◌ {A = ReadAnswer} (Refused 11 at) Done = ap (λ (x : PairsRead). x.answer) e' in
+          let y : ◌≡◌ {A = Result Unit Refusal} (Err (refusal 11 at)) (Ok tt) = ap (λ (x : PairsRead). x.answer) e' in
           let z : ◌≡◌ {A = ℕ} 0 1 = cc in
           absurd (omega arith)
       go ih false b p m e' =
-          let y : ◌≡◌ {A = ReadAnswer} (Refused 3 at) Done = ap (λ (x : PairsRead). x.answer) e' in
+          let y : ◌≡◌ {A = Result Unit Refusal} (Err (refusal 3 at)) (Ok tt) = ap (λ (x : PairsRead). x.answer) e' in
           let z : ◌≡◌ {A = ℕ} 0 1 = cc in
           absurd (omega arith)
 

@@ -3,11 +3,11 @@
 
 ghost use Rattle.std.specs.Prelude.{◌≡◌, [], ◌∷◌, ◌+◌, ◌*◌, ◌≤◌, ◌<◌, length};
 ghost use Rattle.std.proofs.lemmas.List.Edits.{sets};
-ghost use Rattle.laws.specs.Bits.{set_bit};
 ghost use Rattle.reachpairs.specs.Pairs.{pair_ok, place, all_zero, pair_bytes};
 ghost use Rattle.reachpairs.specs.Loop.{pairs_read, reach_read, row_from};
 
-use records::{Length, Opened, ReadAnswer, open, opened_answer, put_two};
+use reachrows::with_bit;
+use records::{Length, Refusal, open, put_two, refuse};
 use site::within;
 
 // Whether a pair names two different cells of the site.
@@ -32,14 +32,6 @@ fn place_of(f: u8, t: u8) -> usize
     (f as usize - 1) * 32 + (t as usize - 1)
 }
 
-// A row with bit b set.
-fn raised(row: u32, b: usize) -> u32
-    requires { b < 32 }
-    ensures { result ≡ set_bit row b }
-{
-    row | (1 << b)
-}
-
 // No rows: they are what stands beside a refusal.
 fn no_rows(reach: &mut [u32; 32])
     requires { length reach.old ≡ 32 }
@@ -51,46 +43,41 @@ fn no_rows(reach: &mut [u32; 32])
 }
 
 // The reach rows of a kind 3 body, laid into rows of zeros: each pair 3, then 11, at the record's offset.
-fn pairs_of(body: &[u8], cells: u16, at: usize, reach: &mut [u32; 32]) -> ReadAnswer
+fn pairs_of(body: &[u8], cells: u16, at: usize, reach: &mut [u32; 32]) -> Result<(), Refusal>
     requires { (cells ≤ 32) × (reach.old ≡ all_zero) }
     ensures answer { result ≡ (pairs_read cells at body.now).answer }
     ensures rows { reach.new ≡ (pairs_read cells at body.now).reach }
 {
     let mut next: usize = 0;
-    let n = body.len() / 2;
-    let mut i = 0;
-    while i < n {
+    for i in 0..body.len() / 2 {
         let f = body[2 * i];
         let t = body[2 * i + 1];
         let ok = pair_ok(cells, f, t);
         if !ok {
             no_rows(reach);
-            return ReadAnswer::Refused(3, at);
+            return Err(refuse(3, at));
         }
         let q = place_of(f, t);
         if q < next {
             no_rows(reach);
-            return ReadAnswer::Refused(11, at);
+            return Err(refuse(11, at));
         }
         let a = q / 32;
-        let row = raised(reach[a], q % 32);
+        let row = with_bit(reach[a], q % 32);
         reach[a] = row;
         next = q + 1;
-        i += 1;
     }
-    ReadAnswer::Done
+    Ok(())
 }
 
 // Kind 3, due at `at`: its rows, laid into rows of zeros; or none beside the refusal.
-pub fn read_reach(s: &[u8], at: usize, cells: u16, reach: &mut [u32; 32]) -> ReadAnswer
+#[tactic(auto, using(crate::proofs::ReadLaws::reach_refused, crate::proofs::ReadLaws::pairs_within, crate::proofs::ReadLaws::reach_opened))]
+pub fn read_reach(s: &[u8], at: usize, cells: u16, reach: &mut [u32; 32]) -> Result<(), Refusal>
     requires { (cells ≤ 32) × (reach.old ≡ all_zero) }
     ensures answer { result ≡ (reach_read s.now at cells).answer }
     ensures rows { reach.new ≡ (reach_read s.now at cells).reach }
 {
-    let o = open(s, at, 3, Length::Pairs);
-    let Opened::Body(start, len) = o else {
-        return opened_answer(o);
-    };
+    let (start, len) = open(s, at, 3, Length::Pairs)?;
     let end = start + len;
     pairs_of(&s[start..end], cells, at, reach)
 }
@@ -107,10 +94,8 @@ pub fn pairs_len(reach: [u32; 32]) -> usize
     ensures { result ≡ length (pair_bytes reach) }
 {
     let mut n: usize = 0;
-    let mut a: usize = 0;
-    while a < 32 {
-        n += row_len(reach[a], a);
-        a += 1;
+    for (a, &row) in reach.iter().enumerate() {
+        n += row_len(row, a);
     }
     n
 }
@@ -133,6 +118,7 @@ fn put_row(out: &mut [u8], at: usize, row: u32, a: usize) -> usize
 {
     let mut k = at;
     let mut left = row;
+    // From member to member of a word: no index is counted.
     while left != 0 {
         k = put_pair(out, k, a, u32::trailing_zeros(left));
         left = left & (left - 1);
@@ -146,9 +132,10 @@ pub fn put_pairs(out: &mut [u8], at: usize, reach: &[u32; 32], end: usize)
     ensures { out.new ≡ sets out.old at (pair_bytes reach.now) }
 {
     let mut k = at;
-    let mut a: usize = 0;
-    while k < end {
-        k = put_row(out, k, reach[a], a);
-        a += 1;
+    for (a, &row) in reach.iter().enumerate() {
+        if k == end {
+            return;
+        }
+        k = put_row(out, k, row, a);
     }
 }

@@ -37,6 +37,7 @@ fn loads_past(loads: &[u16; 32], cells: usize) -> u16
 }
 
 // The lowest index from cells on with a load set; 32 where there is none.
+#[tactic(auto, using(laws::proofs::Search::found, laws::proofs::Search::missed, laws::proofs::Search::ended))]
 pub fn extra_load(loads: &[u16; 32], cells: usize) -> usize
     requires { cells ≤ 32 }
     ensures { result ≡ first (λ k. ltb 0 (get_or loads.now k 0)) cells 32 }
@@ -44,14 +45,12 @@ pub fn extra_load(loads: &[u16; 32], cells: usize) -> usize
     if loads_past(loads, cells) == 0 {
         return 32;
     }
-    let mut k = cells;
-    while k < 32 {
+    for k in cells..32 {
         if 0 < loads[k] {
             return k;
         }
-        k += 1;
     }
-    k
+    32
 }
 
 // What is at fault in the reach row x of the cell at index k, on a site with n cells: 0 only where nothing is.
@@ -83,6 +82,7 @@ fn faults_in(reach: &[u32; 32], cells: usize) -> u32
 }
 
 // The lowest index of a row at fault; 32 where there is none.
+#[tactic(auto, using(laws::proofs::Search::found, laws::proofs::Search::missed, laws::proofs::Search::ended))]
 pub fn bad_row(reach: &[u32; 32], cells: usize) -> usize
     requires { cells ≤ 32 }
     ensures { result ≡ first (λ k. row_bad cells (get_or reach.now k 0) k) 0 32 }
@@ -90,14 +90,12 @@ pub fn bad_row(reach: &[u32; 32], cells: usize) -> usize
     if faults_in(reach, cells) == 0 {
         return 32;
     }
-    let mut k = 0;
-    while k < 32 {
-        if row_bad(cells, reach[k], k) {
+    for (k, &row) in reach.iter().enumerate() {
+        if row_bad(cells, row, k) {
             return k;
         }
-        k += 1;
     }
-    k
+    32
 }
 
 // The word of the rows, of so many, that have bit a.
@@ -319,7 +317,7 @@ fn joined(word: u32, with: bool, b: usize) -> u32
 }
 
 // A row with bit b set.
-fn with_bit(x: u32, b: usize) -> u32
+pub fn with_bit(x: u32, b: usize) -> u32
     requires { b < 32 }
     ensures { result ≡ set_bit x b }
 {

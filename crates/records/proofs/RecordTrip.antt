@@ -13,7 +13,7 @@ use Rattle.records.specs.Reasons.{length_ok, first_reason, record_reasons}
 use Rattle.records.specs.Head.{head_record, cells_of_head, slots_of_head, channels_of_head, after_head}
 use Rattle.records.specs.declared.Length.{Length}
 use Rattle.records.specs.declared.Length.TheVariants.{Exact}
-use Rattle.records.specs.declared.ReadAnswer.TheVariants.{Done}
+use Rattle.std.specs.Prelude.{Ok}
 use Rattle.records.proofs.Laws.{Opening, open-record, length-least}
 use Rattle.records.proofs.Head.{HeadGood}
 use Rattle.records.proofs.Bytes.{numbers_at, numbers-at, le16-drop, le16-drop-two}
@@ -48,7 +48,7 @@ module _ (s : List ℕ) (at kind : ℕ) (body rest : List ℕ) (here : drop at s
       let e : length (record_of kind body ++ rest) ≡ 4 + length body + length rest = simp length-append (omega arith) in
       sym (length-drop at s) ∙ ap length here ∙ e
 
-  pub record-back : (rule : Length) → length_ok rule (2 + length body) ≡ true → first_reason (record_reasons s at kind rule) ≡ Done
+  pub record-back : (rule : Length) → length_ok rule (2 + length body) ≡ true → first_reason (record_reasons s at kind rule) ≡ Ok tt
   record-back rule fits =
       open-record s at kind rule (omega (arith, long)) kind-back (ap (length_ok rule) length_back ∙ fits) (omega (arith, long, length_back))
 

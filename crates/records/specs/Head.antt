@@ -1,11 +1,11 @@
 -- The head, with which every house file begins: kind 1, "cells, slots, channels, two bytes each", of length 8.
-use Rattle.std.specs.Prelude.{ℕ, List, [], ◌∷◌, ◌++◌, not, length}
+use Rattle.std.specs.Prelude.{ℕ, List, [], ◌∷◌, ◌++◌, not, length, Result}
 use Rattle.site.specs.Record.{entries, size_ok}
 use Rattle.records.specs.Bytes.{le16, two_bytes_each}
 use Rattle.records.specs.Layout.{record_of, record_end}
 use Rattle.records.specs.Reasons.{Reason, reason, first_reason, record_reasons}
 use Rattle.records.specs.declared.Length.TheVariants.{Exact}
-use Rattle.records.specs.declared.ReadAnswer.{ReadAnswer}
+use Rattle.records.specs.declared.Refusal.{Refusal}
 
 abbrev pub head_record : ℕ → ℕ → ℕ → List ℕ
 head_record cells slots channels = record_of 1 (two_bytes_each (cells ∷ slots ∷ channels ∷ []))
@@ -36,5 +36,5 @@ abbrev pub head_reasons : List ℕ → List Reason
 head_reasons s =
     record_reasons s 0 1 (Exact 8) ++ (reason (not (size_ok (cells_of_head s) (slots_of_head s) (channels_of_head s))) 1 0 ∷ [])
 
-unfoldable pub head_answer : List ℕ → ReadAnswer
+unfoldable pub head_answer : List ℕ → Result Unit Refusal
 head_answer s = first_reason (head_reasons s)

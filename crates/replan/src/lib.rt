@@ -13,7 +13,7 @@ ghost use Rattle.planrows.specs.Row.{opens, Masks, Sending, EitherWay};
 ghost use Rattle.rowapart.specs.Code.{mask_size};
 
 use loads::load_of;
-use planner::PlanAnswer;
+use planner::PlanError;
 use rowapart::{make_row, mask_size};
 
 // The greedy rows from cell `first` on, by index, where the rows before it are planned. Of the table only the row that is laid is lent to be written, so that
@@ -31,7 +31,7 @@ fn rows_from(
     loads: &[u16; 32],
     clash: &[u32; 32],
     mask: &[u8],
-) -> PlanAnswer
+) -> Result<(), PlanError>
     requires first_le_cells { (first ≤ cells) × (cells ≤ 32) × (channels ≤ 16) × (slots * channels ≤ 2048) × (cells * (slots * channels) ≤ length table.old) }
     requires row_len { (length row.old ≡ slots * channels) × (length starts.old ≡ 32) × (length ends.old ≡ 32) }
     requires planned_to { PlannedTo (net_by cells (slots * channels) loads.now clash.now (opens mask.now)) first table.old
@@ -52,7 +52,7 @@ fn rows_from(
             let size = cells * n;
             rows::clear(&mut table[..size]);
             let cell = i + 1;
-            return PlanAnswer::NoRoom(cell, short);
+            return Err(PlanError::NoRoom(cell, short));
         }
         let from = i * n;
         let to = from + n;
@@ -60,7 +60,7 @@ fn rows_from(
         starts[i] = made.from as u16;
         ends[i] = made.to as u16;
     }
-    PlanAnswer::Done
+    Ok(())
 }
 
 // The same in lent room: bytes for a row, and for a mask where a position is blocked. Where the reserved positions of a row before `first` start and end is not
@@ -76,7 +76,7 @@ fn plan_in(
     loads: &[u16; 32],
     clash: &[u32; 32],
     blocked: &[u64; 32],
-) -> PlanAnswer
+) -> Result<(), PlanError>
     requires first_le_cells { (first ≤ cells) × (cells ≤ 32) × (channels ≤ 16) × (slots * channels ≤ 2048) × (cells * (slots * channels) ≤ length table.old) }
     requires mask_len { (length mask.old ≡ mask_size blocked.now (slots * channels)) × (length row.old ≡ slots * channels) }
     requires planned_to { PlannedTo (net_by cells (slots * channels) loads.now clash.now (is_open blocked.now)) first table.old × EitherWay clash.now }
@@ -115,7 +115,7 @@ fn plan_small_from(
     loads: &[u16; 32],
     clash: &[u32; 32],
     blocked: &[u64; 32],
-) -> PlanAnswer
+) -> Result<(), PlanError>
     requires first_le_cells { (first ≤ cells) × (cells ≤ 32) × (channels ≤ 16) × (slots * channels ≤ 128) × (cells * (slots * channels) ≤ length table.old) }
     requires planned_to { PlannedTo (net_by cells (slots * channels) loads.now clash.now (is_open blocked.now)) first table.old × EitherWay clash.now }
     ensures answer { result ≡ answer_of (greedy (net_by cells (slots * channels) loads.now clash.now
@@ -151,7 +151,7 @@ pub fn plan_from(
     loads: &[u16; 32],
     clash: &[u32; 32],
     blocked: &[u64; 32],
-) -> PlanAnswer
+) -> Result<(), PlanError>
     requires first_le_cells { (first ≤ cells) × (cells ≤ 32) × (channels ≤ 16) × (slots * channels ≤ 2048) × (cells * (slots * channels) ≤ length table.old) }
     requires planned_to { PlannedTo (net_by cells (slots * channels) loads.now clash.now (is_open blocked.now)) first table.old × EitherWay clash.now }
     ensures answer { result ≡ answer_of (greedy (net_by cells (slots * channels) loads.now clash.now

@@ -17,24 +17,21 @@ const SECOND_RESULT: &str = "/dev/fd/5";
 const SHEET_RESULT: &str = "/dev/fd/7";
 
 // As much of a buffer as there is.
-fn within(end: usize, buffer: &[u8]) -> usize
+pub fn within_buffer(end: usize, buffer: &[u8]) -> usize
     ensures { result ≤ length buffer.now }
 {
-    if buffer.len() < end {
-        return buffer.len();
-    }
-    end
+    end.min(buffer.len())
 }
 
 // Writes the first bytes of a buffer to one of the standard streams; whether all of them were written.
 fn put(to: &impl Print, buffer: &[u8], end: usize) -> bool {
-    let end = within(end, buffer);
+    let end = within_buffer(end, buffer);
     to.write_all(&buffer[..end]).is_ok()
 }
 
 // The same to another descriptor, by its name, after what was written there before.
 fn put_to(rt: &HostRuntime, name: &str, buffer: &[u8], end: usize) -> bool {
-    let end = within(end, buffer);
+    let end = within_buffer(end, buffer);
     match OpenOptions::new().append(true).open(rt, name) {
         Ok(mut file) => file.write_all(&buffer[..end]).is_ok(),
         Err(_) => false,
@@ -119,6 +116,7 @@ pub fn take(from: &mut impl Read, buffer: &mut [u8]) -> Taken
     ensures { result.size ≤ length buffer.new }
 {
     let mut size = 0;
+    // Each read says how many bytes it gave.
     while size < buffer.len() {
         match from.read(&mut buffer[size..]) {
             Ok(0) => return Taken { size, ended: true },

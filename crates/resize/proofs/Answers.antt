@@ -13,21 +13,28 @@ use Rattle.laws.proofs.Choice.{both, both_is, refute}
 use Rattle.laws.proofs.Search.{first-least, first_passes, first-before, first-is, first-none}
 use Rattle.positions.specs.Blocked.{most_positions, blocked_at, first_past}
 use Rattle.site.specs.Record.{positions, size_ok, rule_ok, fault_of}
-use Rattle.site.specs.Edit.{or_else, answered}
+use Rattle.site.specs.Edit.{answered}
 use Rattle.site.specs.Means.{Sizes, EditMeans}
 use Rattle.site.specs.declared.Site.{Site}
-use Rattle.site.specs.declared.Fault.TheVariants.{Fine, Size, Rule, Blocked}
+use Rattle.site.specs.declared.Fault.{Fault}
+use Rattle.site.specs.declared.Fault.TheVariants.{Size, Rule, Blocked}
+use Rattle.std.specs.Prelude.{Result, Ok, Err}
+use Rattle.std.specs.Result.{result_and}
 use Rattle.site.proofs.Faults.{sizes, sizes-is, ruled, ruled-is, few-positions, fine-sized}
-use Rattle.site.proofs.Means.{no-fine}
 use Rattle.resize.specs.Sizes.{pair_in, gone_at, first_gone, sizes_fault, sized_of}
 use Rattle.resize.specs.Others.{rule_edit_fault, set_rule_of, blocked_edit_fault, set_blocked_of}
 use Rattle.resize.proofs.Pairs.{pair_is, is-pair}
 
+-- a record's own fault comes before what follows
+own-fault : (f g : Result Unit Fault) → (f ≡ Ok tt → ⊥) → result_and f g ≡ f
+own-fault (Ok u) g n = absurd (n refl)
+own-fault (Err f) g n = refl
+
 -- the record's fault; then 24, exactly where the rule is not 1 or 2
 pub rule-answer : (s : Site) (rule : ℕ) → EditMeans s ((rule ≡ 1) ⊎ (rule ≡ 2)) Rule (set_rule_of s rule).answer
-unfolding set_rule_of answered rule_edit_fault or_else
+unfolding set_rule_of answered rule_edit_fault
 rule-answer s rule = record {
-  faulty = λ n. rw (no-fine (fault_of s) n);
+  faulty = λ n. own-fault (fault_of s) _ n;
   done = λ e h. simp (e, ruled-is rule h);
   refused = λ e n. simp (e, refute (rule_ok rule) (λ q. n (ruled rule q)));
 }
@@ -37,7 +44,7 @@ abbrev pub LowestOf : (ℕ → Type 0) → ℕ → Type 0
 LowestOf P k = P k × ((j : ℕ) → j < k → P j → ⊥)
 
 -- a choice of a fault with a position, from what came out
-was-past : (t : Bool) (g k : ℕ) → pick t (Blocked g) Fine ≡ Blocked k → (t ≡ true) × (g ≡ k)
+was-past : (t : Bool) (g k : ℕ) → pick {A = Result Unit Fault} t (Err (Blocked g)) (Ok tt) ≡ Err (Blocked k) → (t ≡ true) × (g ≡ k)
 was-past true g k e = (refl, cc)
 was-past false g k e = let z : ◌≡◌ {A = ℕ} 0 1 = cc in absurd (omega arith)
 
@@ -47,20 +54,20 @@ module _ (s : Site) (set : List ℕ) where
   PastSite k = (positions s ≤ k) × (k < 2048) × (blocked_at set k ≡ true)
 
   -- the record's own fault, where it has one
-  pub blocked-fault : (fault_of s ≡ Fine → ⊥) → (set_blocked_of s set).answer ≡ fault_of s
-  unfolding set_blocked_of answered blocked_edit_fault or_else
-  blocked-fault n = rw (no-fine (fault_of s) n)
+  pub blocked-fault : (fault_of s ≡ Ok tt → ⊥) → (set_blocked_of s set).answer ≡ fault_of s
+  unfolding set_blocked_of answered blocked_edit_fault
+  blocked-fault n = own-fault (fault_of s) _ n
 
-  module _ (fine : fault_of s ≡ Fine) where
-    asked : (set_blocked_of s set).answer ≡ pick (ltb (first_past set (positions s)) most_positions) (Blocked (first_past set (positions s))) Fine
-    unfolding set_blocked_of answered blocked_edit_fault or_else
+  module _ (fine : fault_of s ≡ Ok tt) where
+    asked : (set_blocked_of s set).answer ≡ pick (ltb (first_past set (positions s)) most_positions) (Err (Blocked (first_past set (positions s)))) (Ok tt)
+    unfolding set_blocked_of answered blocked_edit_fault
     asked = rw fine
 
     few : positions s ≤ 2048
     few = few-positions (fine-sized s fine)
 
     -- then 20, "blocked bit at or past FT (the lowest)": exactly with that position
-    pub blocked-twenty : (k : ℕ) → ((set_blocked_of s set).answer ≡ Blocked k) ↔ LowestOf PastSite k
+    pub blocked-twenty : (k : ℕ) → ((set_blocked_of s set).answer ≡ Err (Blocked k)) ↔ LowestOf PastSite k
     blocked-twenty k = (
       λ e.
           let past = first_past set (positions s) in
@@ -78,7 +85,7 @@ module _ (s : Site) (set : List ℕ) where
     )
 
     -- and done where it has none
-    pub blocked-done : ((k : ℕ) → PastSite k → ⊥) → (set_blocked_of s set).answer ≡ Fine
+    pub blocked-done : ((k : ℕ) → PastSite k → ⊥) → (set_blocked_of s set).answer ≡ Ok tt
     blocked-done none =
         let is : first_past set (positions s) ≡ 2048 =
         first-none (blocked_at set) (positions s) 2048 few (λ j l m. refute (blocked_at set j) (λ q. none j (l, m, q))) in
@@ -86,12 +93,14 @@ module _ (s : Site) (set : List ℕ) where
 
 -- ---- the sizes
 
-was-size : (ok past : Bool) (g : ℕ) → pick ok (pick past (Blocked g) Fine) Size ≡ Size → ok ≡ false
+was-size : (ok past : Bool) (g : ℕ) → pick {A = Result Unit Fault} ok (pick past (Err (Blocked g)) (Ok tt)) (Err Size) ≡ Err Size → ok ≡ false
 was-size true true g e = let z : ◌≡◌ {A = ℕ} 0 1 = cc in absurd (omega arith)
 was-size true false g e = let z : ◌≡◌ {A = ℕ} 0 1 = cc in absurd (omega arith)
 was-size false past g e = refl
 
-was-gone : (ok past : Bool) (g k : ℕ) → pick ok (pick past (Blocked g) Fine) Size ≡ Blocked k → (ok ≡ true) × (past ≡ true) × (g ≡ k)
+was-gone : (ok past : Bool) (g k : ℕ)
+    → pick {A = Result Unit Fault} ok (pick past (Err (Blocked g)) (Ok tt)) (Err Size) ≡ Err (Blocked k)
+    → (ok ≡ true) × (past ≡ true) × (g ≡ k)
 was-gone true true g k e = (refl, refl, cc)
 was-gone true false g k e = let z : ◌≡◌ {A = ℕ} 0 1 = cc in absurd (omega arith)
 was-gone false past g k e = let z : ◌≡◌ {A = ℕ} 0 1 = cc in absurd (omega arith)
@@ -115,20 +124,20 @@ module _ (s : Site) (slots channels : ℕ) where
       both_is (blocked_at s.blocked k) _ h.1 (ap not out)
 
   -- the record's own fault, where it has one
-  pub sizes-fault : (fault_of s ≡ Fine → ⊥) → (sized_of s slots channels).answer ≡ fault_of s
-  unfolding sized_of answered sizes_fault or_else
-  sizes-fault n = rw (no-fine (fault_of s) n)
+  pub sizes-fault : (fault_of s ≡ Ok tt → ⊥) → (sized_of s slots channels).answer ≡ fault_of s
+  unfolding sized_of answered sizes_fault
+  sizes-fault n = own-fault (fault_of s) _ n
 
-  module _ (fine : fault_of s ≡ Fine) where
+  module _ (fine : fault_of s ≡ Ok tt) where
     abbrev gone : ℕ
     gone = first_gone s.blocked s.channels slots channels
 
-    told : (sized_of s slots channels).answer ≡ pick (size_ok s.cells slots channels) (pick (ltb gone most_positions) (Blocked gone) Fine) Size
-    unfolding sized_of answered sizes_fault or_else
+    told : (sized_of s slots channels).answer ≡ pick (size_ok s.cells slots channels) (pick (ltb gone most_positions) (Err (Blocked gone)) (Ok tt)) (Err Size)
+    unfolding sized_of answered sizes_fault
     told = rw fine
 
     -- then 1, exactly where a size is out of range
-    pub sizes-one : ((sized_of s slots channels).answer ≡ Size) ↔ (Sizes s.cells slots channels → ⊥)
+    pub sizes-one : ((sized_of s slots channels).answer ≡ Err Size) ↔ (Sizes s.cells slots channels → ⊥)
     sizes-one = (
       λ e z.
           true≢false (sym (sizes-is s.cells slots channels z)
@@ -137,7 +146,7 @@ module _ (s : Site) (slots channels : ℕ) where
     )
 
     -- then 20, "with the lowest such position as the site has it before the edit": exactly with that position
-    pub sizes-twenty : (k : ℕ) → ((sized_of s slots channels).answer ≡ Blocked k) ↔ (Sizes s.cells slots channels × LowestOf GoneFrom k)
+    pub sizes-twenty : (k : ℕ) → ((sized_of s slots channels).answer ≡ Err (Blocked k)) ↔ (Sizes s.cells slots channels × LowestOf GoneFrom k)
     unfolding first_gone
     sizes-twenty k = (
       λ e.
@@ -160,7 +169,7 @@ module _ (s : Site) (slots channels : ℕ) where
     )
 
     -- and done where none would be
-    pub sizes-done : Sizes s.cells slots channels → ((k : ℕ) → GoneFrom k → ⊥) → (sized_of s slots channels).answer ≡ Fine
+    pub sizes-done : Sizes s.cells slots channels → ((k : ℕ) → GoneFrom k → ⊥) → (sized_of s slots channels).answer ≡ Ok tt
     unfolding first_gone
     sizes-done z none =
         let test = gone_at s.blocked s.channels slots channels in

@@ -17,13 +17,14 @@ use Rattle.laws.proofs.Search.{first-before, first-none}
 use Rattle.positions.specs.Blocked.{most_positions, blocked_at, first_past, set_of}
 use Rattle.positions.proofs.Sets.{in-set, set-eq, set_back}
 use Rattle.site.specs.Record.{site_of, positions, size_ok, rule_ok, is_fine, fault_of}
-use Rattle.site.specs.Edit.{or_else, answered}
+use Rattle.site.specs.Edit.{answered}
 use Rattle.site.specs.Held.{Held}
 use Rattle.site.specs.Means.{Sized}
 use Rattle.site.specs.declared.Site.{Site}
 use Rattle.site.specs.declared.Fault.{Fault}
-use Rattle.site.specs.declared.Fault.TheVariants.{Fine, Size, Rule, Blocked}
-use Rattle.site.proofs.Faults.{or-else-fine, took-first, sizes, few-positions, fine-sized}
+use Rattle.site.specs.declared.Fault.TheVariants.{Size, Rule, Blocked}
+use Rattle.std.specs.Prelude.{Result, Ok, Err, is_ok}
+use Rattle.site.proofs.Faults.{ok_is, and-fine, took-first, sizes, few-positions, fine-sized}
 use Rattle.site.proofs.Accepted.{Sound, fine-sound, sound-fine}
 use Rattle.site.proofs.Edits.{done-new, refused-old}
 use Rattle.resize.specs.Sizes.{pair_in, pair_blocked, moved_at, gone_at, first_gone, sizes_fault, with_sizes, sized_of, set_slots_of, set_channels_of}
@@ -32,27 +33,39 @@ use Rattle.resize.proofs.Pairs.{pair_is, is-pair, no_slot, pair-few, slot_of, ch
 
 -- ---- other slots and channels
 
--- a choice that came out Fine, though its first way is not, took its second
-took-second : (t : Bool) (f g : Fault) → is_fine f ≡ false → pick t f g ≡ Fine → t ≡ false
-took-second true f g n e = absurd (true≢false (sym (ap is_fine e) ∙ n))
-took-second false f g n e = refl
+-- a choice that came out with no fault, though its first way has one, took its second
+took-second : (t : Bool) (f : Fault) (g : Result Unit Fault) → pick t (Err f) g ≡ Ok tt → t ≡ false
+took-second true f g e = absurd (true≢false (sym (ap is_fine e)))
+took-second false f g e = refl
 
 -- what an edit of the sizes that is done tells
 pub record SizesEdit (s : Site) (slots channels : ℕ) : Type 0 where
-  pub was-fine : fault_of s ≡ Fine
+  pub was-fine : fault_of s ≡ Ok tt
   pub fits : size_ok s.cells slots channels ≡ true
   pub none-gone : 2048 ≤ first_gone s.blocked s.channels slots channels
 
-pub sizes-edit-fine : (s : Site) (slots channels : ℕ) → sizes_fault s slots channels ≡ Fine → SizesEdit s slots channels
+pub sizes-edit-fine : (s : Site) (slots channels : ℕ) → sizes_fault s slots channels ≡ Ok tt → SizesEdit s slots channels
 unfolding sizes_fault
 sizes-edit-fine s slots channels e =
     let gone = first_gone s.blocked s.channels slots channels in
-    let h = or-else-fine _ _ e in
-    let fits : size_ok s.cells slots channels ≡ true = took-first (size_ok s.cells slots channels) _ Size refl h.1 in
-    let second = rw fits at h.1 in
-    record { was-fine = h.0; fits = fits; none-gone = ltb-false _ _ (took-second (ltb gone most_positions) (Blocked gone) Fine refl second) }
+    let h = and-fine _ _ e in
+    let fits : size_ok s.cells slots channels ≡ true = took-first (size_ok s.cells slots channels) _ Size h.1 in
+    let none : Result Unit Fault = pick (ltb gone most_positions) (Err (Blocked gone)) (Ok tt) in
+    let second : none ≡ Ok tt = ap (λ t. pick t none (Err Size)) (sym fits) ∙ h.1 in
+    record { was-fine = h.0; fits = fits; none-gone = ltb-false _ _ (took-second (ltb gone most_positions) (Blocked gone) (Ok tt) second) }
 
-module _ (s : Site) (slots channels : ℕ) (done : sizes_fault s slots channels ≡ Fine) where
+-- what the code asks
+pub some_channels : (s : Site) → fault_of s ≡ Ok tt → 0 < s.channels
+some_channels s e = (fine-sized s e).channels_some
+
+pub sizes_asked : (s : Site) (slots channels : ℕ) → is_ok (sizes_fault s slots channels) ≡ true
+    → (s.slots ≤ 128) × (s.channels ≤ 16) × (0 < channels)
+sizes_asked s slots channels e =
+    let d = sizes-edit-fine s slots channels (ok_is _ e) in
+    let old = fine-sized s d.was-fine in
+    (old.slots_most, old.channels_most, (sizes _ _ _ d.fits).channels_some)
+
+module _ (s : Site) (slots channels : ℕ) (done : sizes_fault s slots channels ≡ Ok tt) where
   edit : SizesEdit s slots channels
   edit = sizes-edit-fine s slots channels done
 
@@ -93,42 +106,42 @@ module _ (s : Site) (slots channels : ℕ) (done : sizes_fault s slots channels 
       }
 
   -- an edit that is done gives an accepted site of an accepted site
-  pub sized-fine : fault_of (sized_of s slots channels).site ≡ Fine
+  pub sized-fine : fault_of (sized_of s slots channels).site ≡ Ok tt
   unfolding sized_of answered
   sized-fine = rw (done-new (sizes_fault s slots channels) (with_sizes s slots channels) s done) (sound-fine (with_sizes s slots channels) sized-sound)
 
-pub slots-fine : (s : Site) (slots : ℕ) → (set_slots_of s slots).answer ≡ Fine → fault_of (set_slots_of s slots).site ≡ Fine
+pub slots-fine : (s : Site) (slots : ℕ) → (set_slots_of s slots).answer ≡ Ok tt → fault_of (set_slots_of s slots).site ≡ Ok tt
 unfolding sized_of answered
 slots-fine s slots done = sized-fine s slots s.channels done
 
-pub channels-fine : (s : Site) (channels : ℕ) → (set_channels_of s channels).answer ≡ Fine → fault_of (set_channels_of s channels).site ≡ Fine
+pub channels-fine : (s : Site) (channels : ℕ) → (set_channels_of s channels).answer ≡ Ok tt → fault_of (set_channels_of s channels).site ≡ Ok tt
 unfolding sized_of answered
 channels-fine s channels done = sized-fine s s.slots channels done
 
 -- ---- the rule, and what is blocked
 
-pub rule-fine : (s : Site) (rule : ℕ) → (set_rule_of s rule).answer ≡ Fine → fault_of (set_rule_of s rule).site ≡ Fine
+pub rule-fine : (s : Site) (rule : ℕ) → (set_rule_of s rule).answer ≡ Ok tt → fault_of (set_rule_of s rule).site ≡ Ok tt
 unfolding set_rule_of answered rule_edit_fault
 rule-fine s rule done =
-    let h = or-else-fine _ _ done in
+    let h = and-fine _ _ done in
     let was = fine-sound s h.0 in
     rw (done-new (rule_edit_fault s rule) (with_rule s rule) s done)
     (sound-fine (with_rule s rule)
     (record {
       sizes = was.sizes;
-      rule-ok = took-first (rule_ok rule) Fine Rule refl h.1;
+      rule-ok = took-first (rule_ok rule) (Ok tt) Rule h.1;
       loads = was.loads;
       rows = was.rows;
       none_past = was.none_past;
     }))
 
-pub blocked-fine : (s : Site) (set : List ℕ) → (set_blocked_of s set).answer ≡ Fine → fault_of (set_blocked_of s set).site ≡ Fine
+pub blocked-fine : (s : Site) (set : List ℕ) → (set_blocked_of s set).answer ≡ Ok tt → fault_of (set_blocked_of s set).site ≡ Ok tt
 unfolding set_blocked_of answered blocked_edit_fault
 blocked-fine s set done =
-    let h = or-else-fine _ _ done in
+    let h = and-fine _ _ done in
     let was = fine-sound s h.0 in
     let past = first_past set (positions s) in
-    let none : 2048 ≤ past = ltb-false _ _ (took-second (ltb past most_positions) (Blocked past) Fine refl h.1) in
+    let none : 2048 ≤ past = ltb-false _ _ (took-second (ltb past most_positions) (Blocked past) (Ok tt) h.1) in
     rw (done-new (blocked_edit_fault s set) (with_blocked s set) s done)
     (sound-fine (with_blocked s set)
     (record {
@@ -142,7 +155,7 @@ blocked-fine s set done =
 -- ---- "the site with that one thing changed; a refused edit hands back the site it was given"
 
 -- the new rule, and all else as it was
-pub rule-means : (s : Site) (rule : ℕ) → (set_rule_of s rule).answer ≡ Fine
+pub rule-means : (s : Site) (rule : ℕ) → (set_rule_of s rule).answer ≡ Ok tt
     → (set_rule_of s rule).site ≡ site_of s.cells s.slots s.channels s.loads s.reach s.blocked rule
 unfolding set_rule_of answered
 rule-means s rule done = done-new (rule_edit_fault s rule) (with_rule s rule) s done
@@ -153,7 +166,7 @@ unfolding set_rule_of answered
 rule-refused s rule e = refused-old (rule_edit_fault s rule) (with_rule s rule) s e
 
 -- what is blocked is the new set, in the place of what was, and all else as it was
-pub blocked-means : (s : Site) (set : List ℕ) → (set_blocked_of s set).answer ≡ Fine
+pub blocked-means : (s : Site) (set : List ℕ) → (set_blocked_of s set).answer ≡ Ok tt
     → (set_blocked_of s set).site ≡ site_of s.cells s.slots s.channels s.loads s.reach set s.rule
 unfolding set_blocked_of answered
 blocked-means s set done = done-new (blocked_edit_fault s set) (with_blocked s set) s done
@@ -186,7 +199,7 @@ SizesChanged s t slots channels =
 
 module _ (s : Site) (slots channels : ℕ) where
   -- these slots and channels, the same slots and channels blocked, and all else as it was
-  pub sizes-means : (sized_of s slots channels).answer ≡ Fine → SizesChanged s (sized_of s slots channels).site slots channels
+  pub sizes-means : (sized_of s slots channels).answer ≡ Ok tt → SizesChanged s (sized_of s slots channels).site slots channels
   unfolding sized_of answered
   sizes-means done =
       rw (done-new (sizes_fault s slots channels) (with_sizes s slots channels) s done) (
@@ -204,10 +217,10 @@ module _ (s : Site) (slots channels : ℕ) where
   sizes-refused e = refused-old (sizes_fault s slots channels) (with_sizes s slots channels) s e
 
 -- other slots, or other channels: the other of the two as it was
-pub slots-means : (s : Site) (slots : ℕ) → (set_slots_of s slots).answer ≡ Fine → SizesChanged s (set_slots_of s slots).site slots s.channels
+pub slots-means : (s : Site) (slots : ℕ) → (set_slots_of s slots).answer ≡ Ok tt → SizesChanged s (set_slots_of s slots).site slots s.channels
 slots-means s slots = sizes-means s slots s.channels
 
-pub channels-means : (s : Site) (channels : ℕ) → (set_channels_of s channels).answer ≡ Fine
+pub channels-means : (s : Site) (channels : ℕ) → (set_channels_of s channels).answer ≡ Ok tt
     → SizesChanged s (set_channels_of s channels).site s.slots channels
 channels-means s channels = sizes-means s s.slots channels
 
@@ -220,7 +233,7 @@ channels-refused s channels = sizes-refused s s.slots channels
 
 -- ---- what is set to what it is
 
-module _ (s : Site) (fine : fault_of s ≡ Fine) where
+module _ (s : Site) (fine : fault_of s ≡ Ok tt) where
   z : Sized s
   z = fine-sized s fine
 
@@ -250,20 +263,20 @@ module _ (s : Site) (fine : fault_of s ≡ Fine) where
       go k l (yes m) = rw (position-pair s.slots s.channels k z.channels_some m) (no-not (blocked_at s.blocked k))
       go k l (no m) = rw ((fine-sound s fine).none_past k (omega arith) l) refl
 
-  pub same-sizes : Held s → sized_of s s.slots s.channels ≡ record { site = s; answer = Fine }
-  unfolding sized_of answered sizes_fault or_else
+  pub same-sizes : Held s → sized_of s s.slots s.channels ≡ record { site = s; answer = Ok tt }
+  unfolding sized_of answered sizes_fault
   same-sizes held =
       let back : set_of (moved_at s.blocked s.slots s.channels s.channels) ≡ s.blocked =
       set-eq (moved_at s.blocked s.slots s.channels s.channels) (blocked_at s.blocked) position-kept
       ∙ set_back s.blocked held.blocked held.blocked_bits in
       simp (fine, (fine-sound s fine).sizes, none-gone-same, back)
 
-  pub same_rule : set_rule_of s s.rule ≡ record { site = s; answer = Fine }
-  unfolding set_rule_of answered rule_edit_fault or_else
+  pub same_rule : set_rule_of s s.rule ≡ record { site = s; answer = Ok tt }
+  unfolding set_rule_of answered rule_edit_fault
   same_rule = simp (fine, (fine-sound s fine).rule-ok)
 
-  pub same_blocked : set_blocked_of s s.blocked ≡ record { site = s; answer = Fine }
-  unfolding set_blocked_of answered blocked_edit_fault or_else
+  pub same_blocked : set_blocked_of s s.blocked ≡ record { site = s; answer = Ok tt }
+  unfolding set_blocked_of answered blocked_edit_fault
   same_blocked =
       let none : first_past s.blocked (positions s) ≡ 2048 =
       first-none (blocked_at s.blocked) (positions s) 2048 (few-positions z) (fine-sound s fine).none_past in

@@ -1,15 +1,16 @@
 -- The site with other slots or channels. "`slots T`, `channels F`, .. each with document 01's refusals." What is blocked stays the same slots and channels.
 -- Slots, channels and positions are counted from 0 here.
-use Rattle.std.specs.Prelude.{ℕ, ◌+◌, ◌*◌, ◌/◌, ◌%◌, Bool, not, ◌&&◌, List, ltb}
+use Rattle.std.specs.Prelude.{ℕ, ◌+◌, ◌*◌, ◌/◌, ◌%◌, Bool, not, ◌&&◌, List, ltb, Result, Ok, Err}
+use Rattle.std.specs.Result.{result_and}
 use Rattle.laws.specs.Choice.{pick}
 use Rattle.laws.specs.Search.{first}
 use Rattle.positions.specs.Blocked.{most_positions, blocked_at, set_of}
 use Rattle.site.specs.Record.{site_of, size_ok, fault_of}
-use Rattle.site.specs.Edit.{or_else, answered}
+use Rattle.site.specs.Edit.{answered}
 use Rattle.site.specs.declared.Site.{Site}
 use Rattle.site.specs.declared.Edited.{Edited}
 use Rattle.site.specs.declared.Fault.{Fault}
-use Rattle.site.specs.declared.Fault.TheVariants.{Fine, Size, Blocked}
+use Rattle.site.specs.declared.Fault.TheVariants.{Size, Blocked}
 
 -- a slot and a channel of a site with so many slots and channels
 unfoldable pub pair_in : ℕ → ℕ → ℕ → ℕ → Bool
@@ -32,9 +33,9 @@ unfoldable pub first_gone : List ℕ → ℕ → ℕ → ℕ → ℕ
 first_gone set from slots channels = first (gone_at set from slots channels) 0 most_positions
 
 -- the record's faults, then 1, then 20 "with the lowest such position as the site has it before the edit"
-unfoldable pub sizes_fault : Site → ℕ → ℕ → Fault
+unfoldable pub sizes_fault : Site → ℕ → ℕ → Result Unit Fault
 sizes_fault s slots channels = let gone = first_gone s.blocked s.channels slots channels in
-    or_else (fault_of s) (pick (size_ok s.cells slots channels) (pick (ltb gone most_positions) (Blocked gone) Fine) Size)
+    result_and (fault_of s) (pick (size_ok s.cells slots channels) (pick (ltb gone most_positions) (Err (Blocked gone)) (Ok tt)) (Err Size))
 
 -- the site with these slots and channels, and the same slots and channels blocked
 abbrev pub with_sizes : Site → ℕ → ℕ → Site

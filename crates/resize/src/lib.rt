@@ -69,31 +69,27 @@ fn gone_at(set: &[u64; 32], from: usize, slots: usize, channels: usize, k: usize
 }
 
 // The lowest blocked position that would be gone; 2,048 where there is none.
+#[tactic(auto, using(laws::proofs::Search::found, laws::proofs::Search::missed, laws::proofs::Search::ended), unfolding(crate::specs::Sizes::first_gone))]
 fn first_gone(set: &[u64; 32], from: usize, slots: usize, channels: usize) -> usize
     requires { 0 < from }
     ensures { result ≡ first_gone set.now from slots channels }
 {
-    let mut k: usize = 0;
-    while k < MOST {
+    for k in 0..MOST {
         if gone_at(set, from, slots, channels, k) {
             return k;
         }
-        k += 1;
     }
-    k
+    MOST
 }
 
 // Why other sizes are refused: the record's fault, a size out of range, or a blocked position that would be gone.
-#[tactic(auto, unfolding(crate::specs::Sizes::sizes_fault, site::specs::Edit::or_else))]
-fn sizes_fault(site: Site, slots: u16, channels: u16) -> Fault
+#[tactic(auto, using(crate::proofs::Laws::some_channels), unfolding(crate::specs::Sizes::sizes_fault))]
+fn sizes_fault(site: Site, slots: u16, channels: u16) -> Result<(), Fault>
     ensures { result ≡ sizes_fault site slots channels }
 {
-    let f = site.fault_in();
-    let Fault::Fine = f else {
-        return f;
-    };
+    site.accepted()?;
     if !size_ok(site.cells, slots, channels) {
-        return Fault::Size;
+        return Err(Fault::Size);
     }
     let blocked = site.blocked;
     let gone = first_gone(
@@ -103,32 +99,30 @@ fn sizes_fault(site: Site, slots: u16, channels: u16) -> Fault
         channels as usize,
     );
     if gone < MOST {
-        return Fault::Blocked(gone);
+        return Err(Fault::Blocked(gone));
     }
-    Fault::Fine
+    Ok(())
 }
 
 // The site with other slots and channels.
+#[tactic(auto, using(crate::proofs::Laws::sizes_asked), unfolding(crate::specs::Sizes::sized_of, site::specs::Edit::answered))]
 fn sized(mut site: Site, slots: u16, channels: u16) -> Edited
     ensures { result ≡ sized_of site slots channels }
 {
-    let f = sizes_fault(site, slots, channels);
-    let Fault::Fine = f else {
-        return Edited { site, answer: f };
-    };
-    let blocked = site.blocked;
-    let mut moved = [0u64; 32];
-    move_set(
-        &mut moved,
-        &blocked,
-        site.slots as usize,
-        site.channels as usize,
-        channels as usize,
-    );
-    site.slots = slots;
-    site.channels = channels;
-    site.blocked = moved;
-    Edited { site, answer: f }
+    let answer = sizes_fault(site, slots, channels);
+    if answer.is_ok() {
+        let blocked = site.blocked;
+        move_set(
+            &mut site.blocked,
+            &blocked,
+            site.slots as usize,
+            site.channels as usize,
+            channels as usize,
+        );
+        site.slots = slots;
+        site.channels = channels;
+    }
+    Edited { site, answer }
 }
 
 // Sets the slots of a site.
@@ -146,54 +140,50 @@ pub fn set_channels(site: Site, channels: u16) -> Edited
 }
 
 // Why a rule is refused: the record's fault, or it is none.
-fn rule_edit_fault(site: Site, rule: u16) -> Fault
+#[tactic(auto, unfolding(crate::specs::Others::rule_edit_fault))]
+fn rule_edit_fault(site: Site, rule: u16) -> Result<(), Fault>
     ensures { result ≡ rule_edit_fault site rule }
 {
-    let f = site.fault_in();
-    let Fault::Fine = f else {
-        return f;
-    };
-    if rule_ok(rule) {
-        return Fault::Fine;
+    site.accepted()?;
+    if !rule_ok(rule) {
+        return Err(Fault::Rule);
     }
-    Fault::Rule
+    Ok(())
 }
 
 // Sets the rule of a site.
+#[tactic(auto, unfolding(crate::specs::Others::set_rule_of, site::specs::Edit::answered))]
 pub fn set_rule(mut site: Site, rule: u16) -> Edited
     ensures { result ≡ set_rule_of site rule }
 {
-    let f = rule_edit_fault(site, rule);
-    let Fault::Fine = f else {
-        return Edited { site, answer: f };
-    };
-    site.rule = rule;
-    Edited { site, answer: f }
+    let answer = rule_edit_fault(site, rule);
+    if answer.is_ok() {
+        site.rule = rule;
+    }
+    Edited { site, answer }
 }
 
 // Why a set of blocked positions is refused: the record's fault, or the site does not have one of them.
-fn blocked_edit_fault(site: Site, blocked: [u64; 32]) -> Fault
+#[tactic(auto, unfolding(crate::specs::Others::blocked_edit_fault))]
+fn blocked_edit_fault(site: Site, blocked: [u64; 32]) -> Result<(), Fault>
     ensures { result ≡ blocked_edit_fault site blocked }
 {
-    let f = site.fault_in();
-    let Fault::Fine = f else {
-        return f;
-    };
+    site.accepted()?;
     let past = first_past(&blocked, site.slots as usize * site.channels as usize);
     if past < MOST {
-        return Fault::Blocked(past);
+        return Err(Fault::Blocked(past));
     }
-    Fault::Fine
+    Ok(())
 }
 
 // Sets what is blocked, in the place of what was.
+#[tactic(auto, unfolding(crate::specs::Others::set_blocked_of, site::specs::Edit::answered))]
 pub fn set_blocked(mut site: Site, blocked: [u64; 32]) -> Edited
     ensures { result ≡ set_blocked_of site blocked }
 {
-    let f = blocked_edit_fault(site, blocked);
-    let Fault::Fine = f else {
-        return Edited { site, answer: f };
-    };
-    site.blocked = blocked;
-    Edited { site, answer: f }
+    let answer = blocked_edit_fault(site, blocked);
+    if answer.is_ok() {
+        site.blocked = blocked;
+    }
+    Edited { site, answer }
 }

@@ -24,19 +24,19 @@ use Rattle.theory.proofs.ClassLaws.{class-holds}
 use Rattle.roomy.specs.Room.{raised, counted_with, room_left}
 use Rattle.roomy.proofs.Raised.{none_left}
 use Rattle.roomy.proofs.Right as roomy
-use Rattle.site.specs.Record.{load_at, positions, is_fine}
+use Rattle.site.specs.Record.{load_at, positions}
 use Rattle.site.specs.Edit.{load_edit_fault}
 use Rattle.site.specs.Reach.{net_of, clash_of, is_open}
 use Rattle.site.specs.declared.Site.{Site}
 use Rattle.site.specs.declared.Fault.{Fault}
-use Rattle.site.specs.declared.Fault.TheVariants.{Fine}
+use Rattle.std.specs.Prelude.{Ok, Err}
 use Rattle.site.proofs.Edits.{stored}
 use Rattle.site.proofs.Faults.{load-edit-fine}
-use Rattle.site.proofs.PassedOn.{passed_on}
+use Rattle.judges.proofs.Meaning.{told, refused}
 use Rattle.rooms.specs.Room.{room_by, room_in, room_answer, with_more, more_of}
-use Rattle.rooms.specs.declared.RoomAnswer.TheVariants.{Exactly, Refused}
+use Rattle.rooms.specs.declared.Room.TheVariants.{Exactly}
 
-module _ (s : Site) (cell : ℕ) (long : length s.loads ≡ 32) (fine : load_edit_fault s cell ≡ Fine) where
+module _ (s : Site) (cell : ℕ) (long : length s.loads ≡ 32) (fine : load_edit_fault s cell ≡ Ok tt) where
   abbrev k : ℕ
   k = cell - 1
 
@@ -57,12 +57,12 @@ module _ (s : Site) (cell : ℕ) (long : length s.loads ≡ 32) (fine : load_edi
           own true h = ap (λ (x : ℕ). load_at s x + m) (sym (h refl))
           own false h = refl
 
-  answer-is : room_answer s cell ≡ room_in (net_of s) k
+  answer-is : room_answer s cell ≡ Ok (room_in (net_of s) k)
   unfolding room_answer
   answer-is = rw fine
 
   -- what a verdict on the class was made into
-  more-is : (v : ClassVerdict) (m : ℕ) → more_of (room_by v m) ≡ m
+  more-is : (v : ClassVerdict) (m : ℕ) → more_of (Ok (room_by v m)) ≡ m
   more-is in_class m = refl
   more-is (outside a b i) m = refl
 
@@ -80,28 +80,28 @@ module _ (s : Site) (cell : ℕ) (long : length s.loads ≡ 32) (fine : load_edi
   is-exactly in_class n m e = refl
   is-exactly (outside a b i) n m e = let z : ◌≡◌ {A = ℕ} 0 1 = cc in absurd (omega arith)
 
-  class-is : (m : ℕ) → room_answer s cell ≡ Exactly m → Class (net_of s) (counted_with (net_of s) k)
-  unfolding room_in
+  class-is : (m : ℕ) → room_answer s cell ≡ Ok (Exactly m) → Class (net_of s) (counted_with (net_of s) k)
+  unfolding room_answer room_in
   class-is m e =
       (class-holds (net_of s) (counted_with (net_of s) k)).0
-      (is-exactly (class_verdict (net_of s) (counted_with (net_of s) k)) (room_left (net_of s) k) m (sym answer-is ∙ e))
+      (is-exactly (class_verdict (net_of s) (counted_with (net_of s) k)) (room_left (net_of s) k) m (told (load_edit_fault s cell) _ _ e).1)
 
-  pub room-exact : (m : ℕ) → room_answer s cell ≡ Exactly m → (l : ℕ) → m < l → (res : Reserved) → Valid (net_of (with_more s cell l)) res → ⊥
+  pub room-exact : (m : ℕ) → room_answer s cell ≡ Ok (Exactly m) → (l : ℕ) → m < l → (res : Reserved) → Valid (net_of (with_more s cell l)) res → ⊥
   room-exact m e l more res v =
       let left : m ≡ room_left (net_of s) k = sym (ap more_of e) ∙ more_left in
       let v' : Valid (raised (net_of s) k l) res = rw (net-raised l) at v in
       roomy.room-exact (net_of s) k inside l (class-is m e) (omega (arith, left, more)) res v'
 
   -- with the cell counted in the class the answer is exact
-  pub with-class : Class (net_of s) (counted_with (net_of s) k) → room_answer s cell ≡ Exactly (more_of (room_answer s cell))
+  pub with-class : Class (net_of s) (counted_with (net_of s) k) → room_answer s cell ≡ Ok (Exactly (more_of (room_answer s cell)))
   unfolding room_in
   with-class c =
-      let e : room_answer s cell ≡ Exactly (room_left (net_of s) k) =
-      answer-is ∙ ap (λ (v : ClassVerdict). room_by v (room_left (net_of s) k)) ((class-holds (net_of s) (counted_with (net_of s) k)).1 c) in
-      e ∙ ap Exactly (sym more_left)
+      let e : room_answer s cell ≡ Ok (Exactly (room_left (net_of s) k)) =
+      answer-is ∙ ap (λ (v : ClassVerdict). Ok (room_by v (room_left (net_of s) k))) ((class-holds (net_of s) (counted_with (net_of s) k)).1 c) in
+      e ∙ ap (λ m. Ok (Exactly m)) (sym more_left)
 
   -- "exact in the class"
-  pub exact-in-class : 0 < load_at s k → Class (net_of s) (loaded (net_of s)) → room_answer s cell ≡ Exactly (more_of (room_answer s cell))
+  pub exact-in-class : 0 < load_at s k → Class (net_of s) (loaded (net_of s)) → room_answer s cell ≡ Ok (Exactly (more_of (room_answer s cell)))
   exact-in-class some c = with-class (roomy.loaded-class (net_of s) k some c)
 
   pub room-less : ((res : Reserved) → Valid (net_of s) res → ⊥) → (m : ℕ) (res : Reserved) → Valid (net_of (with_more s cell m)) res → ⊥
@@ -114,10 +114,6 @@ module _ (s : Site) (cell : ℕ) (long : length s.loads ≡ 32) (fine : load_edi
   same-with res v = rw (net-raised 0) (roomy.none-raised (net_of s) k res v)
 
 -- it refuses only with the record's faults and with 2 for the cell that is asked for
-no-refusal : (v : ClassVerdict) (m : ℕ) (f : Fault) → room_by v m ≡ Refused f → ⊥
-no-refusal in_class m f e = let z : ◌≡◌ {A = ℕ} 0 1 = cc in omega arith
-no-refusal (outside a b i) m f e = let z : ◌≡◌ {A = ℕ} 0 1 = cc in omega arith
-
-pub room-refused : (s : Site) (cell : ℕ) (f : Fault) → room_answer s cell ≡ Refused f ↔ ((f ≡ load_edit_fault s cell) × (is_fine f ≡ false))
-unfolding room_answer room_in
-room-refused s cell = passed_on Refused (λ f g e. cc) (load_edit_fault s cell) _ (no-refusal (class_verdict (net_of s) (counted_with (net_of s) (cell - 1))) _)
+pub room-refused : (s : Site) (cell : ℕ) (f : Fault) → room_answer s cell ≡ Err f ↔ (load_edit_fault s cell ≡ Err f)
+unfolding room_answer
+room-refused s cell = refused (load_edit_fault s cell) _

@@ -1,4 +1,5 @@
 -- What the searches over the clash rows and the words of cells find is what the definitions name: below I the words say who is touched and who counts.
+--     cell_within                  a cell that is within the site is from 1 to its cells
 --     word-touched, word_counts    the bits of the two words
 --     left_is                      what is left
 --     is-exact, is-least           the answer, from the cell that shows the site outside the class
@@ -28,14 +29,17 @@ use Rattle.chainwords.proofs.Rows.{first-split-is}
 use Rattle.demands.specs.Words.{demand_counted}
 use Rattle.judges.proofs.Laws.{demand-is}
 use Rattle.roomy.specs.Room.{touched, counted_with, room_left}
-use Rattle.site.specs.Record.{fault_of}
+use Rattle.site.specs.Record.{up_to, fault_of}
 use Rattle.site.specs.Reach.{clash_of, net_of}
 use Rattle.site.specs.declared.Site.{Site}
-use Rattle.site.specs.declared.Fault.TheVariants.{Fine}
-use Rattle.site.proofs.Faults.{fine-sized}
+use Rattle.std.specs.Prelude.{Ok}
+use Rattle.site.proofs.Faults.{fine-sized, up-to}
 use Rattle.site.proofs.Reach.{clash-sym}
 use Rattle.rooms.specs.Room.{room_in, touched_word}
-use Rattle.rooms.specs.declared.RoomAnswer.TheVariants.{Exactly, AtLeast}
+use Rattle.rooms.specs.declared.Room.TheVariants.{Exactly, AtLeast}
+
+pub cell_within : (s : Site) (cell : ℕ) → up_to s.cells cell ≡ true → (1 ≤ cell) × (cell ≤ s.cells)
+cell_within s cell e = up-to s.cells cell e
 
 -- of the cells of two words those above k, and k
 touched-bit : (who row k j : ℕ) → j < 32 → bit_at (touched_word who row k) j ≡ (eqb j k || ((bit_at who j && bit_at row j) && not (ltb j k)))
@@ -64,7 +68,7 @@ above a b k j =
     none true false = refl
     none false b = refl
 
-module _ (s : Site) (fine : fault_of s ≡ Fine) (rows : List ℕ) (relation : bit_in rows ≡ clash_of s)
+module _ (s : Site) (fine : fault_of s ≡ Ok tt) (rows : List ℕ) (relation : bit_in rows ≡ clash_of s)
     (who : ℕ) (word : who ≡ word_of (loaded (net_of s)) 32) (k : ℕ) where
   word-loaded : (j : ℕ) → j < s.cells → bit_at who j ≡ loaded (net_of s) j
   word-loaded j l = ap (λ (w : ℕ). bit_at w j) word ∙ word-bit (loaded (net_of s)) 32 j (omega (arith, (fine-sized s fine).cells_most))

@@ -15,15 +15,8 @@ ghost use Rattle.rows.specs.Stretch.{SameBut, SendsIn, filled_by};
 ghost use Rattle.planrows.specs.Row.{marks_in, marks_on, row_short, opens, Masks, Sending, EitherWay, by_word, RowsMarked, RowsBefore};
 ghost use Rattle.rowapart.specs.Code.{cover_by, mask_size};
 
-use planrows::{group_of, near_of};
-use rows::Filled;
-
-// A byte of a row, where an earlier clashing row holds `earlier`.
-fn mark(earlier: u8, byte: u8) -> u8
-    ensures { result ≡ pick (sends earlier) 2 byte }
-{
-    if earlier == 1 { 2 } else { byte }
-}
+use planrows::{group_of, near_of, place_of};
+use rows::{Filled, cover, mark};
 
 // Forbids, in a row of `n` bytes, each position that row `j` of the table reserves: all of these lie from `start` to `end`.
 // A byte is stored at each position of that stretch, marked or as it was, so that the loop has no branch.
@@ -33,18 +26,9 @@ fn forbid_by(row: &mut [u8], table: &[u8], n: usize, j: usize, start: usize, end
     ensures { row.new ≡ forbid (part (j * n) n table.now) row.old }
 {
     let from = j * n;
-    let mut p = start;
-    while p < end {
+    for p in start..end {
         row[p] = mark(table[from + p], row[p]);
-        p += 1;
     }
-}
-
-// A byte of a row, where it takes the marks of an earlier row over, which holds `earlier` there.
-fn cover(earlier: u8, byte: u8) -> u8
-    ensures { result ≡ pick (eqb earlier 0) byte 2 }
-{
-    if earlier == 0 { byte } else { 2 }
 }
 
 // Forbids, in a row of `n` bytes, each position at which row `j` of the table is not idle: all that it reserves, and all that is forbidden there.
@@ -114,14 +98,6 @@ fn lay_open(row: &mut [u8], table: &[u8], n: usize, i: usize, clash: &[u32; 32])
     words::apart(near, taken)
 }
 
-// The position at index `j`: where the stretch of row `j` begins, or where it ends.
-fn place_of(places: &[u16; 32], j: usize) -> u16
-    requires { j < 32 }
-    ensures { result ≡ get_or places.now j 0 }
-{
-    places[j]
-}
-
 // Forbids in the row of cell `i` all that the rows of these cells reserve.
 fn mark_by(
     row: &mut [u8],
@@ -137,6 +113,7 @@ fn mark_by(
     ensures { row.new ≡ marks_on n (by_word cells) table.now i row.old i }
 {
     let mut left = cells;
+    // From member to member of a word: no index is counted.
     while left != 0 {
         let j = u32::trailing_zeros(left) as usize;
         let start = place_of(starts, j) as usize;
@@ -259,14 +236,6 @@ pub fn make_row(
     make_barred_row(
         row, table, slots, channels, i, load, clash, mask, starts, ends,
     )
-}
-
-// The load of the cell at index `i`.
-pub fn load_of(loads: &[u16; 32], i: usize) -> u16
-    requires { i < 32 }
-    ensures { result ≡ get_or loads.now i 0 }
-{
-    loads[i]
 }
 
 // How many bytes the mask of a row of `n` positions has: none where no position is blocked.

@@ -15,6 +15,7 @@ fn one(byte: u8) -> u8
 }
 
 // How many bytes of a stretch are reservations. The count is as narrow as the bytes, so that many are counted at once.
+// It only looks like `rows::count_idle`, which counts the other byte: one function for both would take the byte, and each caller restate the count.
 fn count_stretch(stretch: &[u8]) -> usize
     requires { length stretch.now ≤ 128 }
     ensures { result ≡ held (length stretch.now) stretch.now }
@@ -32,14 +33,15 @@ fn count_row(row: &[u8]) -> usize
     ensures { result ≡ held (length row.now) row.now }
 {
     let n = row.len();
+    let whole = n / 128;
     let mut count: usize = 0;
-    let mut from: usize = 0;
-    while 128 <= n - from {
+    for k in 0..whole {
+        let from = 128 * k;
         let to = from + 128;
         count += count_stretch(&row[from..to]);
-        from += 128;
     }
-    count + count_stretch(&row[from..n])
+    let rest = 128 * whole;
+    count + count_stretch(&row[rest..n])
 }
 
 // How often cell i is reserved. Its row is counted where it stands, in the table.
@@ -57,14 +59,12 @@ pub fn lowest_wrong(table: &[u8], n: usize, loads: [u16; 32], cells: usize) -> u
     requires { (cells ≤ 32) × (n ≤ 2048) × (cells * n ≤ length table.now) }
     ensures { result ≡ lowest_wrong (load_net cells n loads) (reserved n table.now) }
 {
-    let mut i = 0;
-    while i < cells {
+    for i in 0..cells {
         let load = loads[i] as usize;
         let count = cell_count(table, n, i);
         if count != load {
             return i;
         }
-        i += 1;
     }
-    i
+    cells
 }

@@ -1,7 +1,7 @@
 -- A position of a row that is filled: its byte is raised by 1 where it is idle and by 0 where it is not, and so is what is taken from the load. What the row
--- will be, and what will be left over, does not change (`fill-turn`, `unmet-turn`). A stretch in which every idle position is reserved goes the same way,
--- a byte at a time (`done_more`) or as a whole (`stretch-fills`, `stretch-leaves`). Where all of the load is left after a part of the row, and where none is,
--- the row stays as it was up to there (`still-front`) and from there on (`front-past`). Assumes nothing.
+-- will be, and what will be left over, does not change (`fill-turn`, `unmet-turn`): that is what a filler keeps (`Going`). A stretch in which every idle
+-- position is reserved goes the same way, a byte at a time (`done_more`) or as a whole (`stretch-fills`, `stretch-leaves`). Where all of the load is left after
+-- a part of the row, and where none is, the row stays as it was up to there (`still-front`) and from there on (`front-past`). Assumes nothing.
 use mathlib.Core.Path.{◌≡◌, refl, sym, ap, ap₂, ◌∙◌}
 use mathlib.Core.Bool.{Bool, true, false, ◌&&◌}
 use mathlib.Core.List.{List, [], ◌∷◌, ◌++◌, append_assoc}
@@ -17,25 +17,13 @@ use Rattle.laws.specs.Choice.{pick}
 use Rattle.laws.specs.Part.{part, put}
 use Rattle.laws.specs.Sum.{bit, count}
 use Rattle.laws.proofs.Part.{length_part}
-use Rattle.laws.proofs.Sums.{bit-most}
 use Rattle.theory.specs.Net.{unblocked}
 use Rattle.theory.specs.Greedy.{fill, unmet}
 use Rattle.theory.proofs.Row.{fill-length, unmet-count}
-use Rattle.theory.proofs.Stretch.{front, after, all-at, fill-append, unmet-append, fill-sure}
-use Rattle.theory.proofs.Loops.{filling, fill-zero, fill-take, fill-skip, unmet-take, unmet-skip}
+use Rattle.theory.proofs.Stretch.{front, after, front_rest, after-rest, all-at, fill-append, unmet-append, fill-sure}
+use Rattle.theory.proofs.Loops.{filling, fill-zero, fill-take, fill-skip, fill_stop, fill_end-law, unmet-take, unmet-skip, unmet-stop, unmet-end}
 
--- the byte b and what it takes
-module _ (b : ℕ) {k : ℕ} (is : k ≡ bit (eqb b 0)) where
-  pub takes-little : k ≤ 1
-  takes-little = omega (arith, bit-most (eqb b 0))
-
-  raised_below : (t : Bool) → eqb b 0 ≡ t → b < 256 → b + bit t < 256
-  raised_below true e h = omega (arith, eqb-true b 0 e)
-  raised_below false e h = omega arith
-
-  pub raised-fits : b < 256 → b + k < 256
-  raised-fits h = omega (arith, raised_below (eqb b 0) refl h)
-
+-- position p of a row, and what it takes
 module _ (p l : ℕ) (r : List ℕ) (h : p < length r) (g : 0 < l) where
   fill-case : (t : Bool) → eqb (get_or r p 0) 0 ≡ t → filling unblocked p l r ≡ filling unblocked (p + 1) (l - bit t) (set r p (get_or r p 0 + bit t))
   fill-case true e = let one : get_or r p 0 + 1 ≡ 1 = omega (arith, eqb-true (get_or r p 0) 0 e) in rw one (fill-take unblocked p l r h g e)
@@ -51,11 +39,41 @@ module _ (p l : ℕ) (r : List ℕ) (h : p < length r) (g : 0 < l) where
       rw (add-zero, set-get_or, all) (unmet-skip unblocked p l r h e)
 
   module _ {k : ℕ} (is : k ≡ bit (eqb (get_or r p 0) 0)) where
-    pub fill-turn : filling unblocked p l r ≡ filling unblocked (p + 1) (l - k) (set r p (get_or r p 0 + k))
+    fill-turn : filling unblocked p l r ≡ filling unblocked (p + 1) (l - k) (set r p (get_or r p 0 + k))
     fill-turn = rw is (fill-case (eqb (get_or r p 0) 0) refl)
 
-    pub unmet-turn : unmet unblocked p l (drop p r) ≡ unmet unblocked (p + 1) (l - k) (drop (p + 1) (set r p (get_or r p 0 + k)))
+    unmet-turn : unmet unblocked p l (drop p r) ≡ unmet unblocked (p + 1) (l - k) (drop (p + 1) (set r p (get_or r p 0 + k)))
     unmet-turn = rw is (unmet-case (eqb (get_or r p 0) 0) refl)
+
+-- ---- the row that is filled
+
+-- a row that was `was`, with a load to place: the positions below p are done, and l fragments are left
+pub record Going (load : ℕ) (was : List ℕ) (p l : ℕ) (r : List ℕ) : Type 0 where
+  pub filled : filling unblocked p l r ≡ fill unblocked 0 load was
+  pub left : unmet unblocked p l (drop p r) ≡ unmet unblocked 0 load was
+
+-- its first m positions are filled
+pub going-front : (load m : ℕ) (was : List ℕ) {l : ℕ} {r : List ℕ} → m ≤ length was → r ≡ front unblocked m load was → l ≡ after unblocked m load was
+    → Going load was m l r
+going-front load m was h e f = record {
+  filled = ap₂ (filling unblocked m) f e ∙ front_rest unblocked load was m h;
+  left = ap₂ (λ (k : ℕ) (x : List ℕ). unmet unblocked m k (drop m x)) f e ∙ after-rest unblocked load was m h;
+}
+
+module _ {load p l : ℕ} {was r : List ℕ} (g : Going load was p l r) where
+  pub going-on : {q k : ℕ} {s : List ℕ} → filling unblocked q k s ≡ filling unblocked p l r
+      → unmet unblocked q k (drop q s) ≡ unmet unblocked p l (drop p r) → Going load was q k s
+  going-on e f = record { filled = e ∙ g.filled; left = f ∙ g.left }
+
+  pub going-turn : p < length r → 0 < l → {k : ℕ} → k ≡ bit (eqb (get_or r p 0) 0) → Going load was (p + 1) (l - k) (set r p (get_or r p 0 + k))
+  going-turn h some is = record { filled = sym (fill-turn p l r h some is) ∙ g.filled; left = sym (unmet-turn p l r h some is) ∙ g.left }
+
+  pub going-stop : l ≡ 0 → (r ≡ fill unblocked 0 load was) × (l ≡ unmet unblocked 0 load was)
+  going-stop e =
+      (sym (fill_stop unblocked p r) ∙ (rw e at g.filled), e ∙ sym (unmet-stop unblocked p (drop p r)) ∙ (rw e at g.left))
+
+  pub going-end : p ≡ length r → (r ≡ fill unblocked 0 load was) × (l ≡ unmet unblocked 0 load was)
+  going-end e = (sym (fill_end-law unblocked l r) ∙ (rw e at g.filled), sym (unmet-end unblocked l r) ∙ (rw e at g.left))
 
 -- ---- a stretch in which every idle position is reserved
 

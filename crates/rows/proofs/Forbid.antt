@@ -14,7 +14,7 @@ use lib.Seq.{take_all, set-get_or}
 use Rattle.laws.specs.Choice.{pick}
 use Rattle.laws.proofs.Choice.{refute}
 use Rattle.laws.specs.Part.{part, put}
-use Rattle.laws.proofs.Part.{length_part, get_d_part, put-part, length-put, part-put-before, set-put, get_d-put}
+use Rattle.laws.proofs.Part.{length_part, get_d_part, put-part, part-put-before, set-put, get_d-put}
 use Rattle.laws.proofs.Grid.{row_before}
 use Rattle.theory.specs.Greedy.{sends, reserved, forbid}
 use Rattle.theory.proofs.Row.{forbid-length}
@@ -54,9 +54,6 @@ module _ (n j i : ℕ) (t : List ℕ) (before : j < i) (fits : i * n + n ≤ len
 
   earlier-long : length (part (j * n) n t) ≡ n
   earlier-long = length_part (j * n) n t (omega (arith, row_before n before))
-
-  pub half-long : (p : ℕ) → length (half n j i p t) ≡ length t
-  half-long p = length-put (i * n) n _ t (row-long p) fits
 
   half-run : (a b : ℕ) → a ≤ b → b ≤ n → ((p : ℕ) → a ≤ p → p < b → reserved n t j p ≡ false) → half n j i a t ≡ half n j i b t
   half-run a b h g none =

@@ -1,25 +1,27 @@
--- A row that is filled by pieces: where the reserved positions begin (`start-more`), at which piece it ends (`stop-zero`, `stop-short`, `go_on`), and that none
--- of the load is left after a piece that has more idle positions than fragments are left (`met-after`). Assumes nothing.
+-- A row that is filled by pieces: what the filler keeps (`Pieces`), where the reserved positions begin (`start-more`), at which piece it ends (`stop-zero`,
+-- `stop-short`, `go_on`), and that none of the load is left after a piece that has more idle positions than fragments are left (`met-after`). Assumes nothing.
 use mathlib.Core.Path.{◌≡◌, refl, sym, ap, ap₂, ◌∙◌}
-use mathlib.Core.Bool.{Bool, true, false, ◌||◌, not, or-true, true≢false}
+use mathlib.Core.Bool.{Bool, true, false, ◌&&◌, ◌||◌, not, or-true, true≢false}
 use mathlib.Core.List.{List}
 use mathlib.Core.Logic.{⊎_elim}
 use Prim.Native.Nat.{ℕ, suc, ◌+◌, ◌-◌, ◌*◌, ◌/◌, ◌≤◌, ◌<◌, zero-le, min}
 use native.Mathlib.Nat.{eq-or-lt_of_le, suc-mul, zero-mul, mul_assoc, mul_comm, mul-le-mul_right}
+use native.Mathlib.Numerals.{add-one}
 use native.Mathlib.Omega.{arith}
 use lib.Dec.{eqb, ltb}
-use lib.ListN.{length, get_or}
+use lib.ListN.{length, get_or, take}
 use borrow.Author.Tests.{eq-eqb, ne_eqb, eqb-true, eqb-false, lt-ltb, le-ltb, ltb-true, ltb-false}
 use Rattle.laws.specs.Choice.{pick}
-use Rattle.laws.specs.Part.{part}
+use Rattle.laws.specs.Part.{part, put}
 use Rattle.laws.specs.Search.{first}
-use Rattle.laws.proofs.Search.{first-end, first-most, first_passes, first-before, first-none, first-is}
+use Rattle.laws.specs.Sum.{count}
+use Rattle.laws.proofs.Search.{first-miss, first-end, first-most, first_passes, first-before, first-none, first-is}
 use Rattle.theory.specs.Net.{unblocked}
 use Rattle.theory.proofs.Row.{unmet-count}
-use Rattle.theory.proofs.Stretch.{after, after_more}
+use Rattle.theory.proofs.Stretch.{front, after, front-none, after_none, front-part, after_more, stretch-filled, stretch-left}
 use Rattle.theory.specs.Greedy.{fill}
 use Rattle.rows.specs.Stretch.{left_after, idle_at, stops_at, whole_pieces, fill_start, fill_end}
-use Rattle.rows.proofs.Fill.{met-past}
+use Rattle.rows.proofs.Fill.{begins-at, unmet-most, met-past}
 
 -- eight slots are a piece
 pub piece-at : (k c : ℕ) → 8 * k * c ≡ k * (8 * c)
@@ -87,6 +89,78 @@ module _ (size load : ℕ) (r : List ℕ) where
       = sym (unmet-count unblocked (k * size) (left_after size load r k) x unblocked (λ p. refl))
       ∙ after_more unblocked load r (k * size) (omega arith) size (omega arith) in
       ap (λ (m : ℕ). after unblocked m load r) end ∙ sym step ∙ omega arith
+
+-- ---- what the filler keeps
+
+-- the first k pieces of the row `was` are filled as a whole, and none before them stopped: the row then, what is left of the load, and the position before
+-- which all of it is left
+pub record Pieces (slots size load : ℕ) (was : List ℕ) (k left from : ℕ) (row : List ℕ) : Type 0 where
+  pub row_is : row ≡ front unblocked (k * size) load was
+  pub left_is : left ≡ left_after size load was k
+  pub early : from ≤ k * size
+  pub none_before : after unblocked from load was ≡ load
+  pub whole : whole_pieces slots size load was ≡ first (stops_at size load was) k (slots / 8)
+  pub start : from ≡ fill_start size load was k
+  pub all_left : left ≡ load → first (begun size load was) 0 k ≡ k
+
+pub pieces-first : (slots size load : ℕ) (was : List ℕ) → Pieces slots size load was 0 load 0 was
+pieces-first slots size load was = record {
+  row_is = rw zero-mul (front-none unblocked load was);
+  left_is = rw zero-mul (after_none unblocked load was);
+  early = omega arith;
+  none_before = sym (after_none unblocked load was);
+  whole = refl;
+  start = start_none size load was;
+  all_left = λ _. none-begun size load was;
+}
+
+-- piece k of so many is in the row
+pub piece_in : (slots channels : ℕ) {k : ℕ} → k < slots / 8 → k * (8 * channels) + 8 * channels ≤ slots * channels
+piece_in slots channels {k} h =
+    let e : 8 * (k + 1) ≤ slots = omega arith in
+    omega (arith, mul-le-mul_right channels e)
+
+-- piece k, which is x, with c idle positions
+module _ (slots size load : ℕ) (was : List ℕ) (k : ℕ) {left from : ℕ} {row : List ℕ} (g : Pieces slots size load was k left from row)
+    (more : k * size + size ≤ length was) where
+  short : k * size ≤ length was
+  short = omega arith
+
+  module _ {x : List ℕ} {c : ℕ} where
+    idle-counted : x ≡ part (k * size) size row → c ≡ count (λ q. unblocked q && eqb (get_or x q 0) 0) (length x) → c ≡ idle_at size was k
+    idle-counted lent counted =
+        counted
+        ∙ ap (λ (z : List ℕ). count (λ q. unblocked q && eqb (get_or z q 0) 0) (length z))
+        (lent ∙ ap (part (k * size) size) g.row_is ∙ front-part unblocked load was (k * size) short size more)
+
+    pub pieces-short : x ≡ part (k * size) size row → c ≡ count (λ q. unblocked q && eqb (get_or x q 0) 0) (length x) → left < c
+        → stops_at size load was k ≡ true
+    pieces-short lent counted h = stop-short size load was k g.left_is (idle-counted lent counted) h
+
+    pub pieces-turn : {y : List ℕ} {b : ℕ} → k < slots / 8 → x ≡ part (k * size) size row
+        → c ≡ count (λ q. unblocked q && eqb (get_or x q 0) 0) (length x) → c ≤ left → (left ≡ 0 → ⊥) → y ≡ fill unblocked 0 (length x) x
+        → b ≡ pick (eqb (left - c) load) (k * size + size) from → Pieces slots size load was (k + 1) (left - c) b (put (k * size) size y row)
+    pieces-turn {y} {b} inside lent counted over some filled b_is =
+        let end : k * size + size ≡ suc k * size = sym (suc-mul k size) in
+        let less : left - c ≡ after unblocked (k * size + size) load was
+        = stretch-left unblocked load was (k * size) short size more unblocked (λ p. refl) g.row_is g.left_is lent counted in
+        let row' : put (k * size) size y row ≡ front unblocked (k * size + size) load was
+        = stretch-filled unblocked load was (k * size) short size more unblocked (λ p. refl) g.row_is g.left_is lent counted over filled in
+        let most : left ≤ load = omega (arith, g.left_is, unmet-most unblocked 0 load (take (k * size) was)) in
+        let begin = begins-at unblocked load was (left - c) (k * size + size) from _ refl b_is less (omega (arith, g.early)) g.none_before in
+        let next = start-more size load was k left (left - c) from (less ∙ ap (λ (m : ℕ). after unblocked m load was) end) (omega arith) most g.start g.all_left
+        _ refl (b_is ∙ ap (λ (m : ℕ). pick (eqb (left - c) load) m from) end) in
+        let goes = first-miss (stops_at size load was) k (slots / 8) inside (go_on size load was k g.left_is (idle-counted lent counted) some over) in
+        rw add-one
+        (record {
+          row_is = row' ∙ ap (λ (m : ℕ). front unblocked m load was) end;
+          left_is = less ∙ ap (λ (m : ℕ). after unblocked m load was) end;
+          early = omega (arith, begin.0, end);
+          none_before = begin.1;
+          whole = g.whole ∙ goes ∙ ap (λ (m : ℕ). first (stops_at size load was) m (slots / 8)) (add-one k);
+          start = next.0;
+          all_left = next.1;
+        })
 
 -- ---- where the filling of a row ends
 

@@ -78,6 +78,7 @@ fn begins(left: usize, load: usize, at: usize, from: usize) -> usize
 
 // Fills the first slots of a row, eight at a time, as long as there is a fragment for each idle position of these eight. No position of them is looked at
 // by itself.
+#[tactic(auto, using(crate::proofs::Pieces::piece_in))]
 fn fill_front(row: &mut [u8], slots: usize, channels: usize, load: usize) -> Front
     requires { (channels ≤ 16) × (length row.old ≡ slots * channels) }
     ensures within { result.slots ≤ slots }
@@ -89,28 +90,31 @@ fn fill_front(row: &mut [u8], slots: usize, channels: usize, load: usize) -> Fro
     ensures start { result.from ≡ fill_start (8 * channels) load row.old (whole_pieces slots (8 * channels) load row.old) }
 {
     let size = 8 * channels;
+    let pieces = slots / 8;
     let mut left = load;
     let mut from: usize = 0;
-    let mut at: usize = 0;
-    let mut slot: usize = 0;
-    while 8 <= slots - slot {
+    for piece in 0..pieces {
+        let front = Front {
+            slots: 8 * piece,
+            left,
+            from,
+        };
         if left == 0 {
-            break;
+            return front;
         }
+        let at = piece * size;
         let to = at + size;
         let count = take_idle(&mut row[at..to], left);
         if left < count {
-            break;
+            return front;
         }
         left -= count;
-        at = to;
-        slot += 8;
-        from = begins(left, load, at, from);
+        from = begins(left, load, to, from);
     }
     Front {
-        slots: slot,
-        left: left,
-        from: from,
+        slots: 8 * pieces,
+        left,
+        from,
     }
 }
 
@@ -184,11 +188,10 @@ pub fn fill_row(row: &mut [u8], slots: usize, channels: usize, load: usize) -> F
     let to = ends(front.left, front.slots, slots, channels);
     let half = fill_half(row, slots, channels, front.slots, front.left);
     let mut left = half.left;
-    let mut slot = half.slots;
-    let mut at = slot * channels;
-    'slots: while slot < slots {
-        let mut channel: usize = 0;
-        while channel < channels {
+    // The place is counted: computed from slot and channel, it took 6 to 8 in a hundred longer.
+    let mut at = half.slots * channels;
+    'slots: for _slot in half.slots..slots {
+        for _channel in 0..channels {
             if left == 0 {
                 break 'slots;
             }
@@ -197,9 +200,7 @@ pub fn fill_row(row: &mut [u8], slots: usize, channels: usize, load: usize) -> F
             row[at] = byte + taken;
             left -= taken as usize;
             at += 1;
-            channel += 1;
         }
-        slot += 1;
     }
     Filled {
         left: left,
@@ -209,7 +210,7 @@ pub fn fill_row(row: &mut [u8], slots: usize, channels: usize, load: usize) -> F
 }
 
 // A byte of a row, where an earlier clashing row holds `earlier`.
-fn mark(earlier: u8, byte: u8) -> u8
+pub fn mark(earlier: u8, byte: u8) -> u8
     ensures { result ≡ pick (sends earlier) 2 byte }
 {
     if earlier == 1 { 2 } else { byte }
@@ -225,15 +226,13 @@ pub fn forbid_row(table: &mut [u8], n: usize, j: usize, i: usize, start: usize, 
 {
     let from = j * n;
     let to = i * n;
-    let mut p = start;
-    while p < end {
+    for p in start..end {
         table[to + p] = mark(table[from + p], table[to + p]);
-        p += 1;
     }
 }
 
 // A byte of a row, where it takes the marks of an earlier row over, which holds `earlier` there.
-fn cover(earlier: u8, byte: u8) -> u8
+pub fn cover(earlier: u8, byte: u8) -> u8
     ensures { result ≡ pick (eqb earlier 0) byte 2 }
 {
     if earlier == 0 { byte } else { 2 }

@@ -10,11 +10,12 @@ use lib.Dec.{lit≤}
 use lib.ListN.{length, length-append, set, get_or}
 use lib.Seq.{sets, set-set}
 use borrow.Author.Tests.{lt-ltb, le-ltb}
+use Rattle.std.specs.Prelude.{Result}
 use Rattle.laws.proofs.Stores.{sets-append}
 use Rattle.speech.specs.Speech.{spoken}
 use Rattle.phrases.specs.Put.{Put}
 use Rattle.phrases.specs.Phrases.{phrase}
-use Rattle.mender.specs.declared.MendAnswer.{MendAnswer}
+use Rattle.mender.specs.declared.MendError.{MendError}
 use Rattle.say_audit.specs.Lines.{audit_lines}
 use Rattle.say_audit.specs.Said.{shown_byte, shown_to, bare_from, bare, last_byte, mend_phrase, remark_phrase, after_said}
 
@@ -77,7 +78,7 @@ unfolding audit_lines spoken
 remark-some true = lit≤ tt
 remark-some false = lit≤ tt
 
-pub after-some : (mended : MendAnswer) (unseen : Bool) → 0 < length (after_said mended unseen)
+pub after-some : (mended : Result ℕ MendError) (unseen : Bool) → 0 < length (after_said mended unseen)
 after-some mended unseen =
     omega (arith, length-append (phrase audit_lines (mend_phrase mended)) (phrase audit_lines (remark_phrase unseen)), remark-some unseen)
 

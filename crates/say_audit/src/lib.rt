@@ -5,26 +5,21 @@ ghost use Rattle.std.specs.Prelude.{◌≡◌, [], ◌∷◌, ◌+◌, ◌≤◌
 ghost use Rattle.phrases.specs.Put.{Put};
 ghost use Rattle.phrases.specs.Phrases.{phrase};
 ghost use Rattle.say_audit.specs.Lines.{audit_lines};
-ghost use Rattle.say_audit.specs.Said.{shown_byte, shown_name, form_row, form_phrase, takes_of_phrase, audited_said, line_end, mend_phrase, remark_phrase};
+ghost use Rattle.say_audit.specs.Said.{shown_byte, shown_name, takes_of_phrase, audited_said, line_end, mend_phrase, remark_phrase};
 ghost use Rattle.say_audit.specs.Said.{last_byte, valid_said, after_said, wrong_said, checked_said, site_refused, plan_refused, other_size_said};
 ghost use Rattle.say_audit.specs.Said.{unread_said, unread_plan};
 
-use auditing::{Extent, Form};
-use checker::CheckAnswer;
-use finder::FindAnswer;
-use mender::MendAnswer;
-use phrases::{Phrase, put_phrase};
-use records::ReadAnswer;
+use auditing::{Extent, Form, form_phrase};
+use checker::CheckError;
+use finder::{FindError, Way};
+use mender::MendError;
+use phrases::{Phrase, put_byte, put_phrase};
+use records::Refusal;
 use site::Site;
 use verdicts::File;
 
-const CHAINED: usize = 0;
-
-const NESTED: usize = 1;
-
-const RENUMBERED: usize = 2;
-
-const NEITHER: usize = 3;
+// The first of the rows of the four forms.
+const FORMS: usize = 0;
 
 const TAKES: usize = 4;
 
@@ -91,51 +86,16 @@ fn shown(byte: u8) -> u8
     byte
 }
 
-// Puts one byte.
-fn put_byte(out: &mut [u8], at: usize, byte: u8) -> usize
-    requires { at + 1 ≤ length out.old }
-    ensures { Put out.old at (byte ∷ []) 1 out.new result }
-{
-    out[at] = byte;
-    at + 1
-}
-
 // The name of a file, as it is shown.
 pub fn put_shown(out: &mut [u8], at: usize, name: &[u8]) -> usize
     requires { at + length name.now ≤ length out.old }
     ensures { Put out.old at (shown_name name.now) (length name.now) out.new result }
 {
     let mut next = at;
-    let mut i = 0;
-    while i < name.len() {
-        next = put_byte(out, next, shown(name[i]));
-        i += 1;
+    for &byte in name {
+        next = put_byte(out, next, shown(byte));
     }
     next
-}
-
-// The row of a form.
-fn form_row(form: Form) -> usize
-    ensures { result ≡ form_row form }
-{
-    match form {
-        Form::Chained => CHAINED,
-        Form::Nested => NESTED,
-        Form::Renumbered => RENUMBERED,
-        Form::Neither => NEITHER,
-    }
-}
-
-// The sizes, the rule and the form.
-fn form_phrase(site: Site, form: Form) -> Phrase
-    ensures { result ≡ form_phrase site form }
-{
-    let cells = site.cells as usize;
-    let slots = site.slots as usize;
-    let channels = site.channels as usize;
-    let rule = site.rule as usize;
-    let row = form_row(form);
-    Phrase::Row(row, cells, slots, channels, rule)
 }
 
 // How many channel-slots a site takes, of so many open ones.
@@ -154,19 +114,19 @@ pub fn put_audited(
     at: usize,
     site: Site,
     form: Form,
-    found: FindAnswer,
+    found: Result<Way, FindError>,
     takes: Extent,
     room: usize,
 ) -> usize
     requires { at + 3900 ≤ length out.old }
     ensures { Put out.old at (audited_said site form found takes room) 3900 out.new result }
 {
-    let next = put(out, at, form_phrase(site, form));
+    let next = put(out, at, form_phrase(FORMS, site, form));
     let next = say_find::put_last(out, next, found);
     put(out, next, takes_line(takes, room))
 }
 
-// The end of a line that says nothing of a plan.
+// The end of a line that says nothing of a plan. It, `put_unread` and `put_unread_plan` name the row that each means: a function of a row is no plainer.
 pub fn put_line_end(out: &mut [u8], at: usize) -> usize
     requires { at + 700 ≤ length out.old }
     ensures { Put out.old at line_end 700 out.new result }
@@ -175,15 +135,13 @@ pub fn put_line_end(out: &mut [u8], at: usize) -> usize
 }
 
 // How many changes mend the plan, or why none do.
-fn mend_phrase(reply: MendAnswer) -> Phrase
+fn mend_phrase(reply: Result<usize, MendError>) -> Phrase
     ensures { result ≡ mend_phrase reply }
 {
     match reply {
-        MendAnswer::Done(number) => Phrase::Row(MENDED, number, 0, 0, 0),
-        MendAnswer::TableShort => Phrase::Row(NOT_MENDED, 0, 0, 0, 0),
-        MendAnswer::NoRoom(cell, _) => Phrase::Row(NO_ROOM, cell, 0, 0, 0),
-        MendAnswer::ListShort(_) => Phrase::Row(NOT_MENDED, 0, 0, 0, 0),
-        MendAnswer::Refused(_) => Phrase::Row(NOT_MENDED, 0, 0, 0, 0),
+        Ok(number) => Phrase::Row(MENDED, number, 0, 0, 0),
+        Err(MendError::NoRoom(cell, _)) => Phrase::Row(NO_ROOM, cell, 0, 0, 0),
+        Err(_) => Phrase::Row(NOT_MENDED, 0, 0, 0, 0),
     }
 }
 
@@ -209,7 +167,7 @@ fn last_byte(at: usize, end: usize) -> usize
 }
 
 // A plan that is valid: the line ends there.
-fn put_valid(out: &mut [u8], at: usize, site: Site, verdict: CheckAnswer) -> usize
+fn put_valid(out: &mut [u8], at: usize, site: Site, verdict: Result<(), CheckError>) -> usize
     requires { at + 2700 ≤ length out.old }
     ensures { Put out.old at (valid_said site verdict) 2700 out.new result }
 {
@@ -218,7 +176,7 @@ fn put_valid(out: &mut [u8], at: usize, site: Site, verdict: CheckAnswer) -> usi
 }
 
 // What follows the first thing wrong with a plan: its changes, and the remark.
-fn put_after(out: &mut [u8], at: usize, mended: MendAnswer, unseen: bool) -> usize
+fn put_after(out: &mut [u8], at: usize, mended: Result<usize, MendError>, unseen: bool) -> usize
     requires { at + 1400 ≤ length out.old }
     ensures { Put out.old at (after_said mended unseen) 1400 out.new result }
 {
@@ -231,8 +189,8 @@ fn put_wrong(
     out: &mut [u8],
     at: usize,
     site: Site,
-    verdict: CheckAnswer,
-    mended: MendAnswer,
+    verdict: Result<(), CheckError>,
+    mended: Result<usize, MendError>,
     unseen: bool,
 ) -> usize
     requires { at + 4100 ≤ length out.old }
@@ -249,8 +207,8 @@ pub fn put_checked(
     out: &mut [u8],
     at: usize,
     site: Site,
-    verdict: CheckAnswer,
-    mended: MendAnswer,
+    verdict: Result<(), CheckError>,
+    mended: Result<usize, MendError>,
     unseen: bool,
 ) -> usize
     requires { at + 4100 ≤ length out.old }
@@ -262,8 +220,8 @@ pub fn put_checked(
     put_wrong(out, at, site, verdict, mended, unseen)
 }
 
-// A site file that is refused.
-pub fn put_site_refused(out: &mut [u8], at: usize, reply: ReadAnswer) -> usize
+// A site file that is refused. `put_plan_refused` stays beside it: one function of the file would need a table of the row before each file's refusal.
+pub fn put_site_refused(out: &mut [u8], at: usize, reply: Result<(), Refusal>) -> usize
     requires { at + 2700 ≤ length out.old }
     ensures { Put out.old at (site_refused reply) 2700 out.new result }
 {
@@ -272,7 +230,7 @@ pub fn put_site_refused(out: &mut [u8], at: usize, reply: ReadAnswer) -> usize
 }
 
 // A plan file that is refused.
-pub fn put_plan_refused(out: &mut [u8], at: usize, reply: ReadAnswer) -> usize
+pub fn put_plan_refused(out: &mut [u8], at: usize, reply: Result<(), Refusal>) -> usize
     requires { at + 2700 ≤ length out.old }
     ensures { Put out.old at (plan_refused reply) 2700 out.new result }
 {

@@ -102,12 +102,10 @@ fn channels_at(
     let channels = site.channels as usize;
     let row = clash[i];
     let mut word: u32 = 0;
-    let mut f = 0;
-    while f < channels {
+    for f in 0..channels {
         let place = place_at(site, table, clash, slot * channels + f);
         let held = held_as(kind, row, i, place);
         word = word | weight_if(held, 1 << f);
-        f += 1;
     }
     word
 }

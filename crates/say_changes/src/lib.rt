@@ -61,12 +61,10 @@ pub fn put_changes(
         (400 * channels) out.new result }
 {
     let mut next = at;
-    let mut f = 0;
-    while f < channels {
+    for f in 0..channels {
         let is = new[from + f];
         let was = old[from + f];
         next = put(out, next, channel_phrase(is, was, cell, slot, f + 1));
-        f += 1;
     }
     next
 }

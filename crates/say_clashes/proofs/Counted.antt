@@ -8,16 +8,15 @@ use mathlib.Core.Path.{◌≡◌, refl, sym, ap, ◌∙◌}
 use native.Mathlib.Omega.{arith}
 use borrow.Author.Tests.{ltb-true, lt-ltb, le-ltb}
 use lib.Dec.{ltb}
-use Rattle.laws.specs.Choice.{pick}
 use Rattle.laws.specs.Sum.{bit, sum, count}
-use Rattle.laws.proofs.Choice.{refute, alike, went-first}
+use Rattle.laws.proofs.Choice.{refute, alike}
 use Rattle.laws.proofs.Sums.{sum-eq, sum-swap, sum-stop}
 use Rattle.site.specs.Record.{up_to, fault_of}
 use Rattle.site.specs.Reach.{clash_within, clash_named, clash_answer}
 use Rattle.site.specs.Means.{Clashing}
 use Rattle.site.specs.declared.Site.{Site}
-use Rattle.site.specs.declared.Fault.TheVariants.{Fine}
-use Rattle.site.specs.declared.ClashAnswer.TheVariants.{Clash, Clear}
+use Rattle.site.specs.declared.Fault.{Fault}
+use Rattle.std.specs.Prelude.{Result, Ok}
 use Rattle.site.proofs.Faults.{up-to, up-to-is}
 use Rattle.site.proofs.Means.{is-clashing, clash-only}
 use Rattle.clashcount.specs.Count.{clash_count}
@@ -27,9 +26,6 @@ use Rattle.say_clashes.specs.Said.{spoke, clash_phrase, clash_line_of}
 use Rattle.say_clashes.specs.Means.{ClashTold}
 use Rattle.say_clashes.proofs.Truth.{clash-told}
 
-clear-not : Clear ≡ Clash → ⊥
-clear-not e = let z : ◌≡◌ {A = ℕ} 0 1 = cc in omega arith
-
 -- a number of a cell, and its index
 numbered : (n x : ℕ) → up_to n (x + 1) ≡ ltb x n
 numbered n x =
@@ -37,12 +33,12 @@ numbered n x =
     (λ e. let u = up-to n (x + 1) e in lt-ltb x n (omega (arith, u.1)))
     (λ e. let l : x < n = ltb-true x n e in up-to-is n (x + 1) (omega arith, omega arith))
 
-module _ (s : Site) (fine : fault_of s ≡ Fine) where
+module _ (s : Site) (fine : fault_of s ≡ Ok tt) where
   is-named : (a b : ℕ) → Clashing s a b → clash_named s a b ≡ true
   unfolding clash_answer
   is-named a b c =
-      let e : pick (clash_named s a b) Clash Clear ≡ Clash = rw fine at (clash-only s a b Clash (fine, c)) in
-      went-first (clash_named s a b) Clash Clear clear-not e
+      let e : ◌≡◌ {A = Result Bool Fault} (Ok (clash_named s a b)) (Ok true) = rw fine at (clash-only s a b (Ok true) (fine, c)) in
+      cc
 
   by_index : (a b : ℕ) → clash_named s (a + 1) (b + 1) ≡ clash_within s a b
   by_index a b =

@@ -5,7 +5,7 @@
 use Prim.Native.Nat.{ℕ, ◌+◌, ◌-◌, ◌≤◌, ◌<◌}
 use mathlib.Core.Bool.{Bool, true, false}
 use mathlib.Core.Logic.{◌⊎◌, inl, inr}
-use mathlib.Core.Path.{◌≡◌, refl, sym, ap, ◌∙◌}
+use mathlib.Core.Path.{◌≡◌, refl}
 use native.Mathlib.Omega.{arith}
 use borrow.Author.Tests.{ltb-true, ltb-false, lt-ltb, eqb-true, eqb-false, eq-eqb}
 use lib.Dec.{ltb, eqb}
@@ -14,14 +14,13 @@ use Rattle.site.specs.Record.{fault_of}
 use Rattle.site.specs.Reach.{reaches}
 use Rattle.site.specs.Means.{UpTo, Reaches, Third, Clashing}
 use Rattle.site.specs.declared.Site.{Site}
-use Rattle.site.specs.declared.Fault.TheVariants.{Fine}
+use Rattle.std.specs.Prelude.{Ok}
 use Rattle.site.proofs.Accepted.{fine-reach}
-use Rattle.phrases.specs.declared.Phrase.TheVariants.{Silent, Row}
+use Rattle.phrases.specs.declared.Phrase.TheVariants.{Row}
 use Rattle.say_rule.specs.Said.{third_of}
 use Rattle.say_rule.proofs.Truth.{third-is, third-some-below}
-use Rattle.say_clashes.specs.Said.{third_under, third_way, way_phrase, pair_phrase, clash_phrase}
-use Rattle.say_clashes.specs.Lines.{forth_row, back_row, each_row, third_alone_row, forth_third_row, back_third_row, each_third_row}
-use Rattle.say_clashes.specs.Means.{WayTold, LowestThird, ThirdTold, PlainTold, ClashTold}
+use Rattle.say_clashes.specs.Said.{third_under, third_way, way_phrase, clash_phrase}
+use Rattle.say_clashes.specs.Means.{LowestThird, ThirdTold, ClashTold}
 
 back : (k : ℕ) → k + 1 - 1 ≡ k
 back k = omega arith
@@ -31,7 +30,7 @@ under : (rule third : ℕ) (t : Bool) → eqb rule 2 ≡ t → pick t third 32 <
 under rule third true e h = (eqb-true rule 2 e, refl)
 under rule third false e h = absurd (omega arith)
 
-module _ (s : Site) (fine : fault_of s ≡ Fine) (i j : ℕ) (rising : i < j) (most : j < 32) where
+module _ (s : Site) (fine : fault_of s ≡ Ok tt) (i j : ℕ) (rising : i < j) (most : j < 32) where
   abbrev third : ℕ
   third = third_under s.rule s.reach i j
 

@@ -1,5 +1,5 @@
 -- What a line of a clash says, apart from its text: by the cells' numbers, over the bits of the record.
-use Rattle.std.specs.Prelude.{ℕ, ◌≤◌, ◌<◌, ◌⊎◌, ◌≡◌}
+use Rattle.std.specs.Prelude.{ℕ, ◌≤◌, ◌⊎◌, ◌≡◌}
 use Rattle.site.specs.Means.{Reaches, Third, Clashing}
 use Rattle.site.specs.declared.Site.{Site}
 use Rattle.phrases.specs.declared.Phrase.{Phrase}

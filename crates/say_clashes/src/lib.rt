@@ -128,10 +128,8 @@ fn put_pairs(out: &mut [u8], at: usize, rule: u16, reach: [u32; 32], a: usize) -
     ensures { Put out.old at (pairs_said rule reach a 32) 22400 out.new result }
 {
     let mut next = at;
-    let mut b = 0;
-    while b < 32 {
+    for b in 0..32 {
         next = put(out, next, clash_phrase(rule, reach, a, b));
-        b += 1;
     }
     next
 }

@@ -40,18 +40,9 @@ csv_refused_row = 0
 abbrev pub csv_unread_row : ℕ
 csv_unread_row = 1
 
--- the forms, in their order
+-- the first of the forms, in their order
 abbrev pub csv_chained_row : ℕ
 csv_chained_row = 2
-
-abbrev pub csv_nested_row : ℕ
-csv_nested_row = 3
-
-abbrev pub csv_renumbered_row : ℕ
-csv_renumbered_row = 4
-
-abbrev pub csv_neither_row : ℕ
-csv_neither_row = 5
 
 abbrev pub csv_planned_row : ℕ
 csv_planned_row = 6

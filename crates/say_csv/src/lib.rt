@@ -10,15 +10,15 @@ ghost use Rattle.phrases.specs.Put.{Put};
 ghost use Rattle.phrases.specs.Phrases.{phrase};
 ghost use Rattle.finds.specs.Last.{lowest_of};
 ghost use Rattle.say_csv.specs.Lines.{csv_first, csv_lines};
-ghost use Rattle.say_csv.specs.Fields.{class_row, class_fields, found_fields, cell_field, cells_field, set_field, takes_fields, changes_fields, plan_fields};
+ghost use Rattle.say_csv.specs.Fields.{found_fields, cell_field, cells_field, set_field, takes_fields, changes_fields, plan_fields};
 ghost use Rattle.say_csv.specs.Fields.{first_line, refused_line_fields, unread_fields, site_fields, plan_field};
 
-use auditing::{Extent, Form};
-use checker::CheckAnswer;
-use finder::FindAnswer;
-use mender::MendAnswer;
+use auditing::{Extent, Form, form_phrase};
+use checker::CheckError;
+use finder::{FindError, Way};
+use mender::MendError;
 use phrases::{Phrase, put_phrase};
-use records::ReadAnswer;
+use records::Refusal;
 use site::{Fault, Site};
 use words::{has, lowest};
 
@@ -26,13 +26,8 @@ const REFUSED: usize = 0;
 
 const UNREAD: usize = 1;
 
-const CHAINED: usize = 2;
-
-const NESTED: usize = 3;
-
-const RENUMBERED: usize = 4;
-
-const NEITHER: usize = 5;
+// The first of the rows of the four forms.
+const FORMS: usize = 2;
 
 const PLANNED: usize = 6;
 
@@ -72,9 +67,9 @@ const NOT_MENDED: usize = 21;
 pub enum PlanTold {
     Absent,
     Unread,
-    Refused(ReadAnswer),
+    Refused(Result<(), Refusal>),
     OtherSize,
-    Checked(CheckAnswer, MendAnswer, bool),
+    Checked(Result<(), CheckError>, Result<usize, MendError>, bool),
 }
 
 // The first line of the sheet.
@@ -124,12 +119,12 @@ fn put(out: &mut [u8], at: usize, what: Phrase) -> usize
 }
 
 // The number of a reader's refusal.
-fn read_number(answer: ReadAnswer) -> usize
+fn read_number(answer: Result<(), Refusal>) -> usize
     ensures { result ≡ (read_given answer).number }
 {
     match answer {
-        ReadAnswer::Done => 0,
-        ReadAnswer::Refused(number, _) => number as usize,
+        Ok(()) => 0,
+        Err(refusal) => refusal.number as usize,
     }
 }
 
@@ -138,7 +133,6 @@ fn fault_number(fault: Fault) -> usize
     ensures { result ≡ (fault_given fault).number }
 {
     match fault {
-        Fault::Fine => 0,
         Fault::Size => 1,
         Fault::Rule => 24,
         Fault::Load(_) => 2,
@@ -148,28 +142,28 @@ fn fault_number(fault: Fault) -> usize
 }
 
 // The number of a check's answer.
-fn check_number(verdict: CheckAnswer) -> usize
+fn check_number(verdict: Result<(), CheckError>) -> usize
     ensures { result ≡ (check_given verdict).number }
 {
     match verdict {
-        CheckAnswer::Valid => 0,
-        CheckAnswer::TableShort => 4,
-        CheckAnswer::Blocked(_, _) => 22,
-        CheckAnswer::Clash(_, _, _) => 6,
-        CheckAnswer::Count(_, _) => 7,
-        CheckAnswer::Refused(fault) => fault_number(fault),
+        Ok(()) => 0,
+        Err(CheckError::TableShort) => 4,
+        Err(CheckError::Blocked(_, _)) => 22,
+        Err(CheckError::Clash(_, _, _)) => 6,
+        Err(CheckError::Count(_, _)) => 7,
+        Err(CheckError::Record(fault)) => fault_number(fault),
     }
 }
 
 // After its name, the line of a site file that is refused: the number, and all else is empty.
-pub fn put_refused_fields(out: &mut [u8], at: usize, reply: ReadAnswer) -> usize
+pub fn put_refused_fields(out: &mut [u8], at: usize, reply: Result<(), Refusal>) -> usize
     requires { at + 400 ≤ length out.old }
     ensures { Put out.old at (refused_line_fields reply) 400 out.new result }
 {
     put(out, at, Phrase::Row(REFUSED, read_number(reply), 0, 0, 0))
 }
 
-// After its name, the line of a site file that can't be read.
+// After its name, the line of a site file that can't be read. No twin of those of `say_audit`: a row of another table.
 pub fn put_unread_fields(out: &mut [u8], at: usize) -> usize
     requires { at + 400 ≤ length out.old }
     ensures { Put out.old at unread_fields 400 out.new result }
@@ -177,44 +171,20 @@ pub fn put_unread_fields(out: &mut [u8], at: usize) -> usize
     put(out, at, Phrase::Row(UNREAD, 0, 0, 0, 0))
 }
 
-// The row of a form.
-fn class_row(form: Form) -> usize
-    ensures { result ≡ class_row form }
-{
-    match form {
-        Form::Chained => CHAINED,
-        Form::Nested => NESTED,
-        Form::Renumbered => RENUMBERED,
-        Form::Neither => NEITHER,
-    }
-}
-
-// The sizes, the rule and the form.
-fn class_fields(site: Site, form: Form) -> Phrase
-    ensures { result ≡ class_fields site form }
-{
-    let cells = site.cells as usize;
-    let slots = site.slots as usize;
-    let channels = site.channels as usize;
-    let rule = site.rule as usize;
-    let row = class_row(form);
-    Phrase::Row(row, cells, slots, channels, rule)
-}
-
 // What is found, and the tries of a search.
-fn found_fields(found: FindAnswer) -> Phrase
+fn found_fields(found: Result<Way, FindError>) -> Phrase
     ensures { result ≡ found_fields found }
 {
     match found {
-        FindAnswer::Greedy => Phrase::Row(PLANNED, 0, 0, 0, 0),
-        FindAnswer::Renumbered => Phrase::Row(ANEW, 0, 0, 0, 0),
-        FindAnswer::Searched(tries) => Phrase::Row(SEARCHED, tries as usize, 0, 0, 0),
-        FindAnswer::Full(_) => Phrase::Row(FULL, 0, 0, 0, 0),
-        FindAnswer::FullInClass => Phrase::Row(FULL, 0, 0, 0, 0),
-        FindAnswer::FullSearched(tries) => Phrase::Row(EXHAUSTED, tries as usize, 0, 0, 0),
-        FindAnswer::NotKnown(tries) => Phrase::Row(UNKNOWN, tries as usize, 0, 0, 0),
-        FindAnswer::TableShort => Phrase::Row(NOT_FOUND, 0, 0, 0, 0),
-        FindAnswer::Refused(_) => Phrase::Row(NOT_FOUND, 0, 0, 0, 0),
+        Ok(Way::Greedy) => Phrase::Row(PLANNED, 0, 0, 0, 0),
+        Ok(Way::Renumbered) => Phrase::Row(ANEW, 0, 0, 0, 0),
+        Ok(Way::Searched(tries)) => Phrase::Row(SEARCHED, tries as usize, 0, 0, 0),
+        Err(FindError::Full(_)) => Phrase::Row(FULL, 0, 0, 0, 0),
+        Err(FindError::FullInClass) => Phrase::Row(FULL, 0, 0, 0, 0),
+        Err(FindError::FullSearched(tries)) => Phrase::Row(EXHAUSTED, tries as usize, 0, 0, 0),
+        Err(FindError::NotKnown(tries)) => Phrase::Row(UNKNOWN, tries as usize, 0, 0, 0),
+        Err(FindError::TableShort) => Phrase::Row(NOT_FOUND, 0, 0, 0, 0),
+        Err(FindError::Record(_)) => Phrase::Row(NOT_FOUND, 0, 0, 0, 0),
     }
 }
 
@@ -239,30 +209,21 @@ fn put_cells(out: &mut [u8], at: usize, set: u32) -> usize
 {
     let low = lowest(set, 0, 32);
     let mut next = at;
-    let mut j = 0;
-    while j < 32 {
+    for j in 0..32 {
         next = put(out, next, cell_field(set, low, j));
-        j += 1;
     }
     next
 }
 
 // The cells of a set that is over; of any other answer nothing.
-fn put_set(out: &mut [u8], at: usize, found: FindAnswer) -> usize
+fn put_set(out: &mut [u8], at: usize, found: Result<Way, FindError>) -> usize
     requires { at + 12800 ≤ length out.old }
     ensures { Put out.old at (set_field found) 12800 out.new result }
 {
-    match found {
-        FindAnswer::Greedy => at,
-        FindAnswer::Renumbered => at,
-        FindAnswer::Searched(_) => at,
-        FindAnswer::Full(set) => put_cells(out, at, set),
-        FindAnswer::FullInClass => at,
-        FindAnswer::FullSearched(_) => at,
-        FindAnswer::NotKnown(_) => at,
-        FindAnswer::TableShort => at,
-        FindAnswer::Refused(_) => at,
-    }
+    let Err(FindError::Full(set)) = found else {
+        return at;
+    };
+    put_cells(out, at, set)
 }
 
 // After its name, the fields of a site before those of its plan.
@@ -271,14 +232,14 @@ pub fn put_site(
     at: usize,
     site: Site,
     form: Form,
-    found: FindAnswer,
+    found: Result<Way, FindError>,
     takes: Extent,
     room: usize,
 ) -> usize
     requires { at + 14000 ≤ length out.old }
     ensures { Put out.old at (site_fields site form found takes room) 14000 out.new result }
 {
-    let next = put(out, at, class_fields(site, form));
+    let next = put(out, at, form_phrase(FORMS, site, form));
     let next = put(out, next, found_fields(found));
     let next = put_set(out, next, found);
     put(
@@ -299,17 +260,18 @@ fn one_if(so: bool) -> usize
 }
 
 // A plan that was checked: the verdict's number, the changes that mend it, and whether it is valid if only two-way ranges clashed.
-fn changes_fields(verdict: CheckAnswer, mended: MendAnswer, unseen: bool) -> Phrase
+fn changes_fields(
+    verdict: Result<(), CheckError>,
+    mended: Result<usize, MendError>,
+    unseen: bool,
+) -> Phrase
     ensures { result ≡ changes_fields verdict mended unseen }
 {
     let number = check_number(verdict);
     let one = one_if(unseen);
     match mended {
-        MendAnswer::Done(changes) => Phrase::Row(CHECKED, number, changes, one, 0),
-        MendAnswer::TableShort => Phrase::Row(NOT_MENDED, number, 0, one, 0),
-        MendAnswer::NoRoom(_, _) => Phrase::Row(NOT_MENDED, number, 0, one, 0),
-        MendAnswer::ListShort(_) => Phrase::Row(NOT_MENDED, number, 0, one, 0),
-        MendAnswer::Refused(_) => Phrase::Row(NOT_MENDED, number, 0, one, 0),
+        Ok(changes) => Phrase::Row(CHECKED, number, changes, one, 0),
+        Err(_) => Phrase::Row(NOT_MENDED, number, 0, one, 0),
     }
 }
 

@@ -11,7 +11,7 @@ ghost use Rattle.say_diff.specs.Lines.{diff_lines};
 ghost use Rattle.say_diff.specs.Said.{changes_phrase, diff_phrase, diff_said};
 
 use phrases::{Phrase, put_phrase};
-use site::{Fault, Site};
+use site::Site;
 
 const NO_CHANGE: usize = 0;
 
@@ -50,10 +50,8 @@ fn cell_changes(old: &[u8], new: &[u8], n: usize, i: usize) -> usize
 {
     let from = i * n;
     let mut all: usize = 0;
-    let mut k = 0;
-    while k < n {
+    for k in 0..n {
         all += one_change(sends_at(new, from + k), sends_at(old, from + k));
-        k += 1;
     }
     all
 }
@@ -64,10 +62,8 @@ fn change_count(old: &[u8], new: &[u8], n: usize, cells: usize) -> usize
     ensures { result ≡ change_count (reserved n new.now) (reserved n old.now) n cells }
 {
     let mut all: usize = 0;
-    let mut i = 0;
-    while i < cells {
+    for i in 0..cells {
         all += cell_changes(old, new, n, i);
-        i += 1;
     }
     all
 }
@@ -86,8 +82,7 @@ fn number_phrase(number: usize) -> Phrase
 fn diff_phrase(site: Site, old: &[u8], new: &[u8]) -> Phrase
     ensures { result ≡ diff_phrase site old.now new.now }
 {
-    let fault = site.fault_in();
-    let Fault::Fine = fault else {
+    let Ok(()) = site.accepted() else {
         return Phrase::Silent;
     };
     let cells = site.cells as usize;

@@ -1,6 +1,7 @@
 -- The lines of edits that are typed wrongly, computed letter by letter, with the words between their parts. Assumes nothing.
 use mathlib.Core.List.{[], ◌∷◌, ◌++◌}
 use mathlib.Core.Path.{◌≡◌, refl}
+use Rattle.std.specs.Prelude.{Some}
 use Rattle.text.specs.Decimal.{digits_of, decimal}
 use Rattle.speech.specs.Speech.{bytes, spoken}
 use Rattle.editlist.specs.declared.Kind.TheVariants.{OfLoad, OfReach, OfClear, OfBlocked, OfRule, OfSlots, OfChannels}
@@ -11,8 +12,8 @@ use Rattle.say_edits.specs.declared.Part.TheVariants.{NoneGiven, Quoted, NoName,
 lines-said :
     part_said NoneGiven
     ∷ (part_said Quoted ++ bytes "laod" ++ part_said NoName)
-    ∷ (part_said After ++ bytes "load" ++ part_said Nothing ++ part_said (Takes OfLoad))
-    ∷ (part_said After ++ bytes "clear" ++ part_said Stands ++ bytes "1>2" ++ part_said Closed ++ part_said (Takes OfClear))
+    ∷ (part_said After ++ bytes "load" ++ part_said Nothing ++ part_said (Takes (Some OfLoad)))
+    ∷ (part_said After ++ bytes "clear" ++ part_said Stands ++ bytes "1>2" ++ part_said Closed ++ part_said (Takes (Some OfClear)))
     ∷ (bytes "blocked" ++ part_said Blank ++ bytes "1.1,9.1" ++ part_said Colon ++ part_said (BadList 5))
     ∷ []
     ≡ bytes "set: no edit is given; the edits are load, reach, clear, blocked, rule, slots and channels\n"
@@ -26,7 +27,12 @@ lines-said = refl
 
 -- what the others take
 takes-said :
-    part_said (Takes OfReach) ∷ part_said (Takes OfBlocked) ∷ part_said (Takes OfRule) ∷ part_said (Takes OfSlots) ∷ part_said (Takes OfChannels) ∷ []
+    part_said (Takes (Some OfReach))
+    ∷ part_said (Takes (Some OfBlocked))
+    ∷ part_said (Takes (Some OfRule))
+    ∷ part_said (Takes (Some OfSlots))
+    ∷ part_said (Takes (Some OfChannels))
+    ∷ []
     ≡ bytes "; it takes FROM-TO\n"
     ∷ bytes "; it takes a LIST or none\n"
     ∷ bytes "; it takes R\n"

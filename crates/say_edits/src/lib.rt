@@ -24,7 +24,7 @@ pub enum Part {
     Blank,
     Colon,
     BadList(usize),
-    Takes(Kind),
+    Takes(Option<Kind>),
 }
 
 // Puts a part: a row of the table with its value.
@@ -55,19 +55,19 @@ fn put(out: &mut [u8], at: usize, what: Phrase) -> usize
     )
 }
 
-// The row of what an edit takes.
-fn takes_row(kind: Kind) -> usize
+// The row of what an edit takes; a name of no edit takes nothing, and has the row that says so.
+fn takes_row(kind: Option<Kind>) -> usize
     ensures { result ≡ takes_row kind }
 {
     match kind {
-        Kind::Unknown => 2,
-        Kind::OfLoad => 10,
-        Kind::OfReach => 11,
-        Kind::OfClear => 11,
-        Kind::OfBlocked => 12,
-        Kind::OfRule => 13,
-        Kind::OfSlots => 14,
-        Kind::OfChannels => 15,
+        None => 2,
+        Some(Kind::OfLoad) => 10,
+        Some(Kind::OfReach) => 11,
+        Some(Kind::OfClear) => 11,
+        Some(Kind::OfBlocked) => 12,
+        Some(Kind::OfRule) => 13,
+        Some(Kind::OfSlots) => 14,
+        Some(Kind::OfChannels) => 15,
     }
 }
 

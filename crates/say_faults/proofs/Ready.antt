@@ -8,13 +8,13 @@ use native.Mathlib.Omega.{arith}
 use lib.Dec.{leb}
 use lib.ListN.{length}
 use borrow.Author.Tests.{leb-true}
+use Rattle.std.specs.Prelude.{Ok}
 use Rattle.laws.specs.Sum.{sum, count}
 use Rattle.laws.proofs.Choice.{both}
 use Rattle.laws.proofs.Grid.{row_before}
 use Rattle.laws.proofs.Sums.{count_most}
 use Rattle.site.specs.Record.{positions, size, fault_of, is_fine}
 use Rattle.site.specs.declared.Site.{Site}
-use Rattle.site.specs.declared.Fault.TheVariants.{Fine}
 use Rattle.site.proofs.Faults.{fine-is, fine-sized, few-positions, few_bytes, Sized}
 use Rattle.say_faults.specs.Said.{judgeable, shown_in, placed_at}
 use Rattle.say_faults.specs.declared.Piece.TheVariants.{AtBlocked, Clashing}
@@ -26,7 +26,7 @@ sum-most f m zero h = omega arith
 sum-most f m (suc n) h = omega (arith, sum-most f m n h, h n, mul-suc m n)
 
 module _ (s : Site) (t : List ℕ) (ok : judgeable s t ≡ true) where
-  pub ready-fine : fault_of s ≡ Fine
+  pub ready-fine : fault_of s ≡ Ok tt
   unfolding judgeable
   ready-fine = fine-is (fault_of s) (both (is_fine (fault_of s)) (leb (size s) (length t)) ok).0
 
@@ -52,3 +52,5 @@ module _ (s : Site) (t : List ℕ) (ok : judgeable s t ≡ true) where
       let two = sum-most (λ a. count (shown_in s t (Clashing k a)) s.cells) 32 s.cells
       (λ a. omega (arith, count_most (shown_in s t (Clashing k a)) s.cells)) in
       omega (arith, two, count_most (shown_in s t (AtBlocked k)) s.cells)
+
+pub ruleset judged_table = (ready-sizes, ready-few, ready-row)

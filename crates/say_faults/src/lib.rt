@@ -2,7 +2,7 @@
 // its text at `at` and answers where the next byte goes. The clash rows of the site are made once, by the caller.
 #![tactic(auto)]
 
-ghost use Rattle.std.specs.Prelude.{◌≡◌, true, ◌&&◌, ◌+◌, ◌*◌, ◌≤◌, ◌<◌, ltb, length};
+ghost use Rattle.std.specs.Prelude.{◌≡◌, true, ◌&&◌, ◌+◌, ◌*◌, ◌≤◌, ◌<◌, ltb, length, Err};
 ghost use Rattle.laws.specs.Bits.{bit_at, bit_in};
 ghost use Rattle.laws.specs.Sum.{bit, sum, count};
 ghost use Rattle.theory.specs.Greedy.{reserved};
@@ -19,12 +19,12 @@ ghost use Rattle.say_faults.specs.Said.{judgeable, shown_in, fault_in, shown_sai
 ghost use Rattle.say_faults.specs.Said.{placed_at, table_faults, things_said};
 ghost use Rattle.say_faults.specs.declared.Piece.TheVariants.{Clashing};
 
-use checker::CheckAnswer;
+use checker::CheckError;
 use phrases::{Phrase, put_phrase};
 use positions::is_blocked;
 use rowcounts::cell_count;
 use say_verdicts::put_check;
-use site::{Fault, Site};
+use site::Site;
 use words::has;
 
 const THINGS: usize = 0;
@@ -38,11 +38,11 @@ pub enum Piece {
 }
 
 // Whether a table can be judged: the site has no fault, and the table has a byte for each cell and position.
+#[tactic(auto, unfolding(crate::specs::Said::judgeable))]
 pub fn can_judge(site: Site, table: &[u8]) -> bool
     ensures { result ≡ judgeable site table.now }
 {
-    let fault = site.fault_in();
-    let Fault::Fine = fault else {
+    let Ok(()) = site.accepted() else {
         return false;
     };
     let cells = site.cells as usize;
@@ -110,15 +110,16 @@ fn shows(site: Site, table: &[u8], clash: [u32; 32], piece: Piece, i: usize) -> 
     }
 }
 
-// The fault of cell i in a piece, as a check answers it.
-fn answer(site: Site, table: &[u8], piece: Piece, i: usize) -> CheckAnswer
+// The fault of cell i in a piece, as a check refuses it.
+#[tactic(auto, using(crate::proofs::Ready::judged_table), unfolding(checker::specs::Check::verdict_of))]
+fn answer(site: Site, table: &[u8], piece: Piece, i: usize) -> CheckError
     requires { (judgeable site table.now ≡ true) × PieceOf site piece × (i < site.cells) }
-    ensures { result ≡ verdict_of (fault_in site table.now piece i) }
+    ensures { Err result ≡ verdict_of (fault_in site table.now piece i) }
 {
     match piece {
-        Piece::AtBlocked(k) => CheckAnswer::Blocked(k, i + 1),
-        Piece::Clashing(k, a) => CheckAnswer::Clash(k, a + 1, i + 1),
-        Piece::Miscounts => CheckAnswer::Count(
+        Piece::AtBlocked(k) => CheckError::Blocked(k, i + 1),
+        Piece::Clashing(k, a) => CheckError::Clash(k, a + 1, i + 1),
+        Piece::Miscounts => CheckError::Count(
             i + 1,
             cell_count(table, (site.slots as usize) * (site.channels as usize), i),
         ),
@@ -142,7 +143,7 @@ fn put_shown(
     if !shows(site, table, clash, piece, i) {
         return at;
     }
-    put_check(out, at, site, answer(site, table, piece, i))
+    put_check(out, at, site, Err(answer(site, table, piece, i)))
 }
 
 // The lines of a piece.
@@ -159,10 +160,8 @@ pub fn put_piece(
 {
     let cells = site.cells as usize;
     let mut next = at;
-    let mut i = 0;
-    while i < cells {
+    for i in 0..cells {
         next = put_shown(out, next, site, table, clash, piece, i);
-        i += 1;
     }
     next
 }
@@ -185,10 +184,8 @@ fn piece_count(site: Site, table: &[u8], clash: [u32; 32], piece: Piece) -> usiz
 {
     let cells = site.cells as usize;
     let mut all: usize = 0;
-    let mut i = 0;
-    while i < cells {
+    for i in 0..cells {
         all += one_shown(site, table, clash, piece, i);
-        i += 1;
     }
     all
 }
@@ -200,10 +197,8 @@ fn clashes_at(site: Site, table: &[u8], clash: [u32; 32], k: usize) -> usize
 {
     let cells = site.cells as usize;
     let mut all: usize = 0;
-    let mut a = 0;
-    while a < cells {
+    for a in 0..cells {
         all += piece_count(site, table, clash, Piece::Clashing(k, a));
-        a += 1;
     }
     all
 }
@@ -215,11 +210,9 @@ fn placed_count(site: Site, table: &[u8], clash: [u32; 32]) -> usize
 {
     let n = (site.slots as usize) * (site.channels as usize);
     let mut all: usize = 0;
-    let mut k = 0;
-    while k < n {
+    for k in 0..n {
         all += piece_count(site, table, clash, Piece::AtBlocked(k))
             + clashes_at(site, table, clash, k);
-        k += 1;
     }
     all
 }

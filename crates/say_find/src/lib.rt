@@ -1,15 +1,14 @@
 // What is said of a plan that was looked for by every proved way, written into a lent buffer at `at`. The answer is where the next byte goes.
 #![tactic(auto)]
 
-ghost use Rattle.std.specs.Prelude.{◌≡◌, ◌+◌, ◌*◌, ◌≤◌, ◌<◌, length};
+ghost use Rattle.std.specs.Prelude.{◌≡◌, ◌+◌, ◌*◌, ◌≤◌, ◌<◌, length, Ok, Err};
 ghost use Rattle.laws.specs.Sum.{sum};
 ghost use Rattle.theory.specs.Net.{room};
 ghost use Rattle.site.specs.Record.{fault_of};
 ghost use Rattle.site.specs.Reach.{net_of};
-ghost use Rattle.site.specs.declared.Fault.TheVariants.{Fine};
 ghost use Rattle.search.specs.Search.{too_large};
 ghost use Rattle.finder.specs.Find.{find_answer, find_table};
-ghost use Rattle.finder.specs.declared.FindAnswer.TheVariants.{Full};
+ghost use Rattle.finder.specs.declared.FindError.TheVariants.{Full};
 ghost use Rattle.phrases.specs.Put.{Put};
 ghost use Rattle.phrases.specs.Phrases.{phrase, text_of, part_in};
 ghost use Rattle.finds.specs.Lines.{last_lines, find_lines};
@@ -17,13 +16,13 @@ ghost use Rattle.finds.specs.Last.{lowest_of, several_in, named_phrase, later_ph
 ghost use Rattle.finds.specs.Find.{found_sizes, needs_row, needs_phrase, unknown_phrase, beside_phrase};
 ghost use Rattle.finds.specs.Find.{find_refused, found_said, find_said, last_line, why_tries, status_of};
 
-use finder::FindAnswer;
+use finder::{FindError, Way};
 use loads::loads_of_many;
 use phrases::{Phrase, put_phrase};
 use positions::open_count;
 use say_refusals::Place;
 use say_search::tries_phrase;
-use site::{Fault, Site};
+use site::Site;
 use text::put_text;
 use words::{has, lowest};
 
@@ -121,6 +120,7 @@ fn head_phrase(set: u32) -> Phrase
 }
 
 // A cell of the set above the lowest; nothing for any other.
+#[tactic(auto, unfolding(finds::specs::Last::later_phrase))]
 fn later_phrase(set: u32, low: usize, j: usize) -> Phrase
     requires { (j < 32) × (low ≡ lowest_of set) }
     ensures { result ≡ later_phrase set j }
@@ -134,14 +134,6 @@ fn later_phrase(set: u32, low: usize, j: usize) -> Phrase
     Phrase::Silent
 }
 
-// Puts the cell j, where it is one of those.
-fn put_one(out: &mut [u8], at: usize, set: u32, low: usize, j: usize) -> usize
-    requires { (j < 32) × (low ≡ lowest_of set) × (at + 40 ≤ length out.old) }
-    ensures { Put out.old at (phrase last_lines (later_phrase set j)) 40 out.new result }
-{
-    put_part(out, at, later_phrase(set, low, j))
-}
-
 // Puts the cells of a set above its lowest.
 fn put_later(out: &mut [u8], at: usize, set: u32) -> usize
     requires { at + 1280 ≤ length out.old }
@@ -149,10 +141,8 @@ fn put_later(out: &mut [u8], at: usize, set: u32) -> usize
 {
     let low = lowest(set, 0, 32);
     let mut next = at;
-    let mut j = 0;
-    while j < 32 {
-        next = put_one(out, next, set, low, j);
-        j += 1;
+    for j in 0..32 {
+        next = put_part(out, next, later_phrase(set, low, j));
     }
     next
 }
@@ -160,49 +150,42 @@ fn put_later(out: &mut [u8], at: usize, set: u32) -> usize
 // Puts those cells, and what stands after them.
 fn put_set(out: &mut [u8], at: usize, set: u32) -> usize
     requires { at + 2000 ≤ length out.old }
-    ensures { Put out.old at (others_said (Full set)) 2000 out.new result }
+    ensures { Put out.old at (others_said (Err (Full set))) 2000 out.new result }
 {
     let next = put_later(out, at, set);
     put(out, next, Phrase::Row(CLOSE, 0, 0, 0, 0))
 }
 
 // The last word of an answer; of a set the lowest cell.
-fn last_phrase(reply: FindAnswer) -> Phrase
+fn last_phrase(reply: Result<Way, FindError>) -> Phrase
     ensures { result ≡ last_phrase reply }
 {
     match reply {
-        FindAnswer::Greedy => Phrase::Row(PLANNED, 0, 0, 0, 0),
-        FindAnswer::Renumbered => Phrase::Row(RENUMBERED, 0, 0, 0, 0),
-        FindAnswer::Searched(tries) => tries_phrase(SEARCHED, tries),
-        FindAnswer::Full(set) => head_phrase(set),
-        FindAnswer::FullInClass => Phrase::Row(IN_CLASS, 0, 0, 0, 0),
-        FindAnswer::FullSearched(tries) => tries_phrase(EXHAUSTED, tries),
-        FindAnswer::NotKnown(tries) => tries_phrase(UNKNOWN, tries),
-        FindAnswer::TableShort => Phrase::Silent,
-        FindAnswer::Refused(_) => Phrase::Silent,
+        Ok(Way::Greedy) => Phrase::Row(PLANNED, 0, 0, 0, 0),
+        Ok(Way::Renumbered) => Phrase::Row(RENUMBERED, 0, 0, 0, 0),
+        Ok(Way::Searched(tries)) => tries_phrase(SEARCHED, tries),
+        Err(FindError::Full(set)) => head_phrase(set),
+        Err(FindError::FullInClass) => Phrase::Row(IN_CLASS, 0, 0, 0, 0),
+        Err(FindError::FullSearched(tries)) => tries_phrase(EXHAUSTED, tries),
+        Err(FindError::NotKnown(tries)) => tries_phrase(UNKNOWN, tries),
+        Err(FindError::TableShort) => Phrase::Silent,
+        Err(FindError::Record(_)) => Phrase::Silent,
     }
 }
 
 // Puts the cells of a set above its lowest; of any other answer nothing.
-fn put_others(out: &mut [u8], at: usize, reply: FindAnswer) -> usize
+fn put_others(out: &mut [u8], at: usize, reply: Result<Way, FindError>) -> usize
     requires { at + 2000 ≤ length out.old }
     ensures { Put out.old at (others_said reply) 2000 out.new result }
 {
     match reply {
-        FindAnswer::Greedy => at,
-        FindAnswer::Renumbered => at,
-        FindAnswer::Searched(_) => at,
-        FindAnswer::Full(set) => put_set(out, at, set),
-        FindAnswer::FullInClass => at,
-        FindAnswer::FullSearched(_) => at,
-        FindAnswer::NotKnown(_) => at,
-        FindAnswer::TableShort => at,
-        FindAnswer::Refused(_) => at,
+        Err(FindError::Full(set)) => put_set(out, at, set),
+        _ => at,
     }
 }
 
 // The last word, without an end of line; nothing of a refusal.
-pub fn put_last(out: &mut [u8], at: usize, reply: FindAnswer) -> usize
+pub fn put_last(out: &mut [u8], at: usize, reply: Result<Way, FindError>) -> usize
     requires { at + 2500 ≤ length out.old }
     ensures { Put out.old at (last_word reply) 2500 out.new result }
 {
@@ -211,8 +194,9 @@ pub fn put_last(out: &mut [u8], at: usize, reply: FindAnswer) -> usize
 }
 
 // How many positions of a site are open.
+#[tactic(auto, using(search::proofs::Answer::accepted_sizes))]
 fn open_of(site: Site) -> usize
-    requires { fault_of site ≡ Fine }
+    requires { fault_of site ≡ Ok tt }
     ensures { result ≡ room (net_of site) }
 {
     let n = (site.slots as usize) * (site.channels as usize);
@@ -222,7 +206,7 @@ fn open_of(site: Site) -> usize
 
 // How many fragments a site has to send in a superframe.
 fn fragments_of(site: Site) -> u32
-    requires { fault_of site ≡ Fine }
+    requires { fault_of site ≡ Ok tt }
     ensures { result ≡ sum (net_of site).load site.cells }
 {
     let loads = site.loads;
@@ -231,7 +215,7 @@ fn fragments_of(site: Site) -> u32
 
 // Whether the search does not take so large a site.
 fn too_large(site: Site) -> bool
-    requires { fault_of site ≡ Fine }
+    requires { fault_of site ≡ Ok tt }
     ensures { result ≡ too_large (net_of site) }
 {
     if 24 < fragments_of(site) {
@@ -257,8 +241,9 @@ fn needs_row(several: bool, few: usize, all: usize) -> usize
 }
 
 // What the cells of a set need, and what the site has.
+#[tactic(auto, using(search::proofs::Answer::accepted_sizes), unfolding(finds::specs::Find::needs_phrase))]
 fn needs_phrase(site: Site, set: u32) -> Phrase
-    requires { fault_of site ≡ Fine }
+    requires { fault_of site ≡ Ok tt }
     ensures { result ≡ needs_phrase site set }
 {
     let all = (site.slots as usize) * (site.channels as usize);
@@ -269,8 +254,9 @@ fn needs_phrase(site: Site, set: u32) -> Phrase
 }
 
 // Why it is not known: the search does not take so large a site, or it stopped.
+#[tactic(auto, unfolding(finds::specs::Find::unknown_phrase))]
 fn unknown_phrase(site: Site) -> Phrase
-    requires { fault_of site ≡ Fine }
+    requires { fault_of site ≡ Ok tt }
     ensures { result ≡ unknown_phrase site }
 {
     if too_large(site) {
@@ -293,20 +279,18 @@ fn sizes_phrase(site: Site) -> Phrase
 }
 
 // What is said beside the last word.
-fn beside_phrase(site: Site, reply: FindAnswer) -> Phrase
-    requires { fault_of site ≡ Fine }
+fn beside_phrase(site: Site, reply: Result<Way, FindError>) -> Phrase
+    requires { fault_of site ≡ Ok tt }
     ensures { result ≡ beside_phrase site reply }
 {
     match reply {
-        FindAnswer::Greedy => sizes_phrase(site),
-        FindAnswer::Renumbered => sizes_phrase(site),
-        FindAnswer::Searched(_) => sizes_phrase(site),
-        FindAnswer::Full(set) => needs_phrase(site, set),
-        FindAnswer::FullInClass => Phrase::Row(NO_PLAN, 0, 0, 0, 0),
-        FindAnswer::FullSearched(_) => Phrase::Row(NO_PLAN, 0, 0, 0, 0),
-        FindAnswer::NotKnown(_) => unknown_phrase(site),
-        FindAnswer::TableShort => Phrase::Silent,
-        FindAnswer::Refused(_) => Phrase::Silent,
+        Ok(_) => sizes_phrase(site),
+        Err(FindError::Full(set)) => needs_phrase(site, set),
+        Err(FindError::FullInClass) => Phrase::Row(NO_PLAN, 0, 0, 0, 0),
+        Err(FindError::FullSearched(_)) => Phrase::Row(NO_PLAN, 0, 0, 0, 0),
+        Err(FindError::NotKnown(_)) => unknown_phrase(site),
+        Err(FindError::TableShort) => Phrase::Silent,
+        Err(FindError::Record(_)) => Phrase::Silent,
     }
 }
 
@@ -331,27 +315,21 @@ fn put_line(out: &mut [u8], at: usize, what: Phrase) -> usize
 }
 
 // Puts a refusal; of any other answer nothing.
-fn put_refusal(out: &mut [u8], at: usize, reply: FindAnswer) -> usize
+fn put_refusal(out: &mut [u8], at: usize, reply: Result<Way, FindError>) -> usize
     requires { at + 2000 ≤ length out.old }
     ensures { Put out.old at (find_refused reply) 2000 out.new result }
 {
     match reply {
-        FindAnswer::Greedy => at,
-        FindAnswer::Renumbered => at,
-        FindAnswer::Searched(_) => at,
-        FindAnswer::Full(_) => at,
-        FindAnswer::FullInClass => at,
-        FindAnswer::FullSearched(_) => at,
-        FindAnswer::NotKnown(_) => at,
-        FindAnswer::TableShort => say_refusals::put_refused(out, at, 4, Place::Nowhere),
-        FindAnswer::Refused(f) => say_verdicts::put_fault(out, at, f),
+        Err(FindError::TableShort) => say_refusals::put_refused(out, at, 4, Place::Nowhere),
+        Err(FindError::Record(fault)) => say_verdicts::put_fault(out, at, fault),
+        _ => at,
     }
 }
 
 // The line of an accepted site.
-fn put_found(out: &mut [u8], at: usize, site: Site, reply: FindAnswer) -> usize
+fn put_found(out: &mut [u8], at: usize, site: Site, reply: Result<Way, FindError>) -> usize
     requires at_in_bounds { at + 6000 ≤ length out.old }
-    requires site_value { fault_of site ≡ Fine }
+    requires site_value { fault_of site ≡ Ok tt }
     ensures { Put out.old at (found_said site reply) 6000 out.new result }
 {
     let second = put_last(out, at, reply);
@@ -360,19 +338,19 @@ fn put_found(out: &mut [u8], at: usize, site: Site, reply: FindAnswer) -> usize
 }
 
 // The line of `find`: the last word, and what there is to say beside it; or the refusal.
-pub fn put_find(out: &mut [u8], at: usize, site: Site, reply: FindAnswer) -> usize
+#[tactic(auto, unfolding(finds::specs::Find::find_said))]
+pub fn put_find(out: &mut [u8], at: usize, site: Site, reply: Result<Way, FindError>) -> usize
     requires { at + 6000 ≤ length out.old }
     ensures { Put out.old at (find_said site reply) 6000 out.new result }
 {
-    let fault = site.fault_in();
-    let Fault::Fine = fault else {
+    if let Err(fault) = site.accepted() {
         return say_verdicts::put_fault(out, at, fault);
-    };
+    }
     put_found(out, at, site, reply)
 }
 
 // The last line of `why`.
-pub fn put_last_line(out: &mut [u8], at: usize, reply: FindAnswer) -> usize
+pub fn put_last_line(out: &mut [u8], at: usize, reply: Result<Way, FindError>) -> usize
     requires { at + 3000 ≤ length out.old }
     ensures { Put out.old at (last_line reply) 3000 out.new result }
 {
@@ -381,7 +359,7 @@ pub fn put_last_line(out: &mut [u8], at: usize, reply: FindAnswer) -> usize
 }
 
 // What `why` finds, with the tries that it makes.
-pub fn find_why(site: Site, table: &mut [u8]) -> FindAnswer
+pub fn find_why(site: Site, table: &mut [u8]) -> Result<Way, FindError>
     ensures answer { result ≡ find_answer site why_tries table.old }
     ensures table { table.new ≡ find_table site why_tries table.old }
 {
@@ -389,18 +367,12 @@ pub fn find_why(site: Site, table: &mut [u8]) -> FindAnswer
 }
 
 // The exit status: 0 a plan, 1 full or refused, 3 not known.
-pub fn status(reply: FindAnswer) -> u8
+pub fn status(reply: Result<Way, FindError>) -> u8
     ensures { result ≡ status_of reply }
 {
     match reply {
-        FindAnswer::Greedy => 0,
-        FindAnswer::Renumbered => 0,
-        FindAnswer::Searched(_) => 0,
-        FindAnswer::Full(_) => 1,
-        FindAnswer::FullInClass => 1,
-        FindAnswer::FullSearched(_) => 1,
-        FindAnswer::NotKnown(_) => 3,
-        FindAnswer::TableShort => 1,
-        FindAnswer::Refused(_) => 1,
+        Ok(_) => 0,
+        Err(FindError::NotKnown(_)) => 3,
+        Err(_) => 1,
     }
 }

@@ -1,6 +1,6 @@
 -- The text of `duggfrask admit`: that the loads of the site do not count; for each flow its cell, its share and its value, and whether it is taken; what the
 -- flows that are taken are worth; or why there is no answer.
-use Rattle.std.specs.Prelude.{ℕ, zero, suc, ◌+◌, List, [], ◌++◌}
+use Rattle.std.specs.Prelude.{ℕ, zero, suc, ◌+◌, List, [], ◌++◌, Result, Ok, Err}
 use Rattle.laws.specs.Bits.{bit_at}
 use Rattle.laws.specs.Choice.{pick}
 use Rattle.theory.specs.Net.{everyone}
@@ -11,11 +11,11 @@ use Rattle.site.specs.declared.Site.{Site}
 use Rattle.flowlist.specs.declared.Flow.{Flow}
 use Rattle.admitting.specs.Best.{worth}
 use Rattle.admission.specs.Admit.{share_in, amount, flows_asked}
-use Rattle.admission.specs.declared.AdmitAnswer.{AdmitAnswer}
-use Rattle.admission.specs.declared.AdmitAnswer.TheVariants as admit
-use Rattle.admission.specs.declared.BesideAnswer.{BesideAnswer}
-use Rattle.admission.specs.declared.BesideAnswer.TheVariants as beside
-use Rattle.planner.specs.declared.PlanAnswer.TheVariants as plan
+use Rattle.admission.specs.declared.AdmitError.{AdmitError}
+use Rattle.admission.specs.declared.AdmitError.TheVariants as admit
+use Rattle.admission.specs.declared.BesideError.{BesideError}
+use Rattle.admission.specs.declared.BesideError.TheVariants as beside
+use Rattle.planner.specs.declared.PlanError.TheVariants as plan
 use Rattle.phrases.specs.Phrases.{phrase}
 use Rattle.phrases.specs.declared.Phrase.{Phrase}
 use Rattle.phrases.specs.declared.Phrase.TheVariants.{Row}
@@ -60,22 +60,26 @@ nineteen_said s = pick (is_fine (fault_of s)) (split_said (class_verdict (net_of
 
 -- ---- the answer
 
--- which flows to take, after the row that says whether the loads count, and their total value; or the refusal: "18 over 16 flows, 19 site not chained", W9: not
--- nested, "then per flow 2, 15, 16 with the flow's number"
-abbrev pub answer_said : ℕ → Site → (ℕ → Flow) → ℕ → AdmitAnswer → List ℕ
-answer_said row s f n (admit.Admitted set) =
-    phrase admit_lines (start_phrase row) ++ (list_said s.slots set f n ++ phrase admit_lines (worth_phrase (worth (flows_asked s.slots f n) set)))
-answer_said row s f n admit.TooMany = refused_line 18 place.Nowhere
-answer_said row s f n admit.NotNested = nineteen_said s
-answer_said row s f n (admit.BadCell k) = refused_line 2 (place.Flow k)
-answer_said row s f n (admit.BadFlow k) = refused_line 15 (place.Flow k)
-answer_said row s f n (admit.BigShare k) = refused_line 16 (place.Flow k)
-answer_said row s f n (admit.Refused fault) = fault_said fault
+-- the refusal: "18 over 16 flows, 19 site not chained", W9: not nested, "then per flow 2, 15, 16 with the flow's number"
+abbrev pub refusal_said : Site → AdmitError → List ℕ
+refusal_said s admit.TooMany = refused_line 18 place.Nowhere
+refusal_said s admit.NotNested = nineteen_said s
+refusal_said s (admit.BadCell k) = refused_line 2 (place.Flow k)
+refusal_said s (admit.BadFlow k) = refused_line 15 (place.Flow k)
+refusal_said s (admit.BigShare k) = refused_line 16 (place.Flow k)
+refusal_said s (admit.Record fault) = fault_said fault
 
-abbrev pub admit_said : Site → (ℕ → Flow) → ℕ → AdmitAnswer → List ℕ
+-- which flows to take, after the row that says whether the loads count, and their total value; or the refusal
+abbrev pub answer_said : ℕ → Site → (ℕ → Flow) → ℕ → Result ℕ AdmitError → List ℕ
+answer_said row s f n (Ok set) =
+    phrase admit_lines (start_phrase row) ++ (list_said s.slots set f n ++ phrase admit_lines (worth_phrase (worth (flows_asked s.slots f n) set)))
+answer_said row s f n (Err refused) = refusal_said s refused
+
+abbrev pub admit_said : Site → (ℕ → Flow) → ℕ → Result ℕ AdmitError → List ℕ
 admit_said s f n a = answer_said aside_row s f n a
 
 -- on top of the loads: the same, and 5 as the planner says it, with the lowest cell that is over by the loads alone and by how much
-abbrev pub beside_said : Site → (ℕ → Flow) → ℕ → BesideAnswer → List ℕ
-beside_said s f n (beside.Answered a) = answer_said beside_row s f n a
-beside_said s f n (beside.Over cell excess) = plan_said s (plan.NoRoom cell excess)
+abbrev pub beside_said : Site → (ℕ → Flow) → ℕ → Result ℕ BesideError → List ℕ
+beside_said s f n (Ok set) = answer_said beside_row s f n (Ok set)
+beside_said s f n (Err (beside.Admit refused)) = answer_said beside_row s f n (Err refused)
+beside_said s f n (Err (beside.Over cell excess)) = plan_said s (Err (plan.NoRoom cell excess))

@@ -1,26 +1,24 @@
 // The text of an admission, written into a lent buffer. Each function puts its text at `at` and answers where the next byte goes.
 #![tactic(auto)]
 
-ghost use Rattle.std.specs.Prelude.{◌≡◌, ◌+◌, ◌*◌, ◌≤◌, ◌<◌, length, get_or};
+ghost use Rattle.std.specs.Prelude.{◌≡◌, ◌+◌, ◌*◌, ◌≤◌, ◌<◌, length, get_or, Ok};
 ghost use Rattle.laws.specs.Bits.{bit_at};
 ghost use Rattle.laws.specs.Choice.{pick};
 ghost use Rattle.flowlist.specs.List.{zero_flow};
 ghost use Rattle.admitting.specs.Best.{total};
 ghost use Rattle.admission.specs.Admit.{share_in, amount};
-ghost use Rattle.admission.specs.declared.AdmitAnswer.TheVariants.{Admitted};
 ghost use Rattle.phrases.specs.Put.{Put};
 ghost use Rattle.phrases.specs.Phrases.{phrase};
 ghost use Rattle.say_flows.specs.Lines.{admit_lines};
-ghost use Rattle.say_flows.specs.Said.{flow_phrase, list_said, split_line, nineteen_said, answer_said, admit_said, beside_said};
+ghost use Rattle.say_flows.specs.Said.{flow_phrase, list_said, split_line, nineteen_said, refusal_said, answer_said, admit_said, beside_said};
 
-use admission::{AdmitAnswer, BesideAnswer, share_in};
+use admission::{AdmitError, BesideError, share_in};
 use chainwords::{first_split, gap, split_of};
 use flowlist::{Flow, FlowList};
 use phrases::{Phrase, put_phrase};
-use planner::PlanAnswer;
+use planner::PlanError;
 use say_refusals::Place;
-use shares::ShareAnswer;
-use site::{Fault, Site};
+use site::Site;
 use words::has;
 
 const ASIDE: usize = 0;
@@ -70,11 +68,10 @@ fn put_split(out: &mut [u8], at: usize, a: usize, b: usize, i: usize) -> usize
 fn share_at(slots: u16, f: Flow) -> usize
     ensures { result ≡ amount (share_in slots f) }
 {
-    let a = share_in(slots, f);
-    let ShareAnswer::Done(s, _, _) = a else {
-        return 0;
-    };
-    s.0 as usize
+    match share_in(slots, f) {
+        Ok((share, _, _)) => share.0 as usize,
+        Err(_) => 0,
+    }
 }
 
 // The flow at place k.
@@ -94,12 +91,9 @@ fn put_flows(out: &mut [u8], at: usize, slots: u16, set: u32, l: FlowList, count
     requires { (count ≤ 16) × (at + 600 * count ≤ length out.old) }
     ensures { Put out.old at (list_said slots set (λ k. get_or l.list k zero_flow) count) (600 * count) out.new result }
 {
-    let list = l.list;
     let mut next = at;
-    let mut k = 0;
-    while k < count {
-        next = put(out, next, flow_phrase(slots, set, list[k], k));
-        k += 1;
+    for (k, &flow) in l.list[..count].iter().enumerate() {
+        next = put(out, next, flow_phrase(slots, set, flow, k));
     }
     next
 }
@@ -120,12 +114,9 @@ fn worth_of(set: u32, l: FlowList, count: usize) -> usize
     requires { count ≤ 16 }
     ensures { result ≡ total (λ k. (get_or l.list k zero_flow).value) count set }
 {
-    let list = l.list;
     let mut w: usize = 0;
-    let mut k = 0;
-    while k < count {
-        w += value_in(set, list[k], k);
-        k += 1;
+    for (k, &flow) in l.list[..count].iter().enumerate() {
+        w += value_in(set, flow, k);
     }
     w
 }
@@ -141,7 +132,7 @@ fn put_taken(
     set: u32,
 ) -> usize
     requires { (count ≤ 16) × (at + 12000 ≤ length out.old) }
-    ensures { Put out.old at (answer_said row site (λ k. get_or l.list k zero_flow) count (Admitted set)) 12000 out.new result }
+    ensures { Put out.old at (answer_said row site (λ k. get_or l.list k zero_flow) count (Ok set)) 12000 out.new result }
 {
     let first = put(out, at, Phrase::Row(row, 0, 0, 0, 0));
     let middle = put_flows(out, first, site.slots, set, l, count);
@@ -154,8 +145,7 @@ fn put_nineteen(out: &mut [u8], at: usize, site: Site) -> usize
     requires { at + 2000 ≤ length out.old }
     ensures { Put out.old at (nineteen_said site) 2000 out.new result }
 {
-    let f = site.fault_in();
-    let Fault::Fine = f else {
+    let Ok(()) = site.accepted() else {
         return say_refusals::put_refused(out, at, 19, Place::Nowhere);
     };
     let cells = site.cells as usize;
@@ -169,43 +159,37 @@ fn put_nineteen(out: &mut [u8], at: usize, site: Site) -> usize
     say_refusals::put_refused(out, at, 19, Place::Nowhere)
 }
 
-// Which flows to take, after the row that says whether the loads count; or the refusal. The flows are the first `count` of the list.
-fn put_answer(
-    out: &mut [u8],
-    at: usize,
-    row: usize,
-    site: Site,
-    l: FlowList,
-    count: usize,
-    reply: AdmitAnswer,
-) -> usize
-    requires { (count ≤ 16) × (at + 12000 ≤ length out.old) }
-    ensures { Put out.old at (answer_said row site (λ k. get_or l.list k zero_flow) count reply) 12000 out.new result }
+// Why there is no answer.
+fn put_refusal(out: &mut [u8], at: usize, site: Site, refused: AdmitError) -> usize
+    requires { at + 12000 ≤ length out.old }
+    ensures { Put out.old at (refusal_said site refused) 12000 out.new result }
 {
-    match reply {
-        AdmitAnswer::Admitted(set) => put_taken(out, at, row, site, l, count, set),
-        AdmitAnswer::TooMany => say_refusals::put_refused(out, at, 18, Place::Nowhere),
-        AdmitAnswer::NotNested => put_nineteen(out, at, site),
-        AdmitAnswer::BadCell(flow) => say_refusals::put_refused(out, at, 2, Place::Flow(flow)),
-        AdmitAnswer::BadFlow(flow) => say_refusals::put_refused(out, at, 15, Place::Flow(flow)),
-        AdmitAnswer::BigShare(flow) => say_refusals::put_refused(out, at, 16, Place::Flow(flow)),
-        AdmitAnswer::Refused(f) => say_verdicts::put_fault(out, at, f),
+    match refused {
+        AdmitError::TooMany => say_refusals::put_refused(out, at, 18, Place::Nowhere),
+        AdmitError::NotNested => put_nineteen(out, at, site),
+        AdmitError::BadCell(flow) => say_refusals::put_refused(out, at, 2, Place::Flow(flow)),
+        AdmitError::BadFlow(flow) => say_refusals::put_refused(out, at, 15, Place::Flow(flow)),
+        AdmitError::BigShare(flow) => say_refusals::put_refused(out, at, 16, Place::Flow(flow)),
+        AdmitError::Record(f) => say_verdicts::put_fault(out, at, f),
     }
 }
 
-// The same with the loads of the site set aside.
+// Which flows to take with the loads of the site set aside; or the refusal. The flows are the first `count` of the list.
 pub fn put_admit(
     out: &mut [u8],
     at: usize,
     site: Site,
     l: FlowList,
     count: usize,
-    reply: AdmitAnswer,
+    reply: Result<u32, AdmitError>,
 ) -> usize
     requires { (count ≤ 16) × (at + 12000 ≤ length out.old) }
     ensures { Put out.old at (admit_said site (λ k. get_or l.list k zero_flow) count reply) 12000 out.new result }
 {
-    put_answer(out, at, ASIDE, site, l, count, reply)
+    match reply {
+        Ok(set) => put_taken(out, at, ASIDE, site, l, count, set),
+        Err(refused) => put_refusal(out, at, site, refused),
+    }
 }
 
 // The same on top of the loads of the site; 5 in the planner's words.
@@ -215,15 +199,16 @@ pub fn put_beside(
     site: Site,
     l: FlowList,
     count: usize,
-    reply: BesideAnswer,
+    reply: Result<u32, BesideError>,
 ) -> usize
     requires { (count ≤ 16) × (at + 12000 ≤ length out.old) }
     ensures { Put out.old at (beside_said site (λ k. get_or l.list k zero_flow) count reply) 12000 out.new result }
 {
     match reply {
-        BesideAnswer::Answered(a) => put_answer(out, at, BESIDE, site, l, count, a),
-        BesideAnswer::Over(cell, excess) => {
-            say_verdicts::put_plan(out, at, site, PlanAnswer::NoRoom(cell, excess))
+        Ok(set) => put_taken(out, at, BESIDE, site, l, count, set),
+        Err(BesideError::Admit(refused)) => put_refusal(out, at, site, refused),
+        Err(BesideError::Over(cell, excess)) => {
+            say_verdicts::put_plan(out, at, site, Err(PlanError::NoRoom(cell, excess)))
         }
     }
 }

@@ -5,17 +5,17 @@ ghost use Rattle.std.specs.Prelude.{◌≡◌, ◌+◌, ◌≤◌, length};
 ghost use Rattle.phrases.specs.Put.{Put};
 ghost use Rattle.say_flowsheet.specs.Said.{flow_sheet_said};
 
-use flowsheet::FlowsAnswer;
+use flowsheet::FlowsError;
 use say_refusals::Place;
 
 // A sheet of flows that was read, or its refusal.
-pub fn put_flow_sheet(out: &mut [u8], at: usize, reply: FlowsAnswer) -> usize
+pub fn put_flow_sheet(out: &mut [u8], at: usize, reply: Result<(), FlowsError>) -> usize
     requires { at + 2000 ≤ length out.old }
     ensures { Put out.old at (flow_sheet_said reply) 2000 out.new result }
 {
     match reply {
-        FlowsAnswer::Done => at,
-        FlowsAnswer::BadLine(line) => say_refusals::put_refused(out, at, 17, Place::Line(line)),
-        FlowsAnswer::TooMany => say_refusals::put_refused(out, at, 18, Place::Nowhere),
+        Ok(()) => at,
+        Err(FlowsError::BadLine(line)) => say_refusals::put_refused(out, at, 17, Place::Line(line)),
+        Err(FlowsError::TooMany) => say_refusals::put_refused(out, at, 18, Place::Nowhere),
     }
 }

@@ -4,7 +4,6 @@
 
 ghost use Rattle.std.specs.Prelude.{◌≡◌, true, ◌&&◌, ◌+◌, ◌*◌, ◌-◌, ◌≤◌, ◌<◌, leb, length};
 ghost use Rattle.laws.specs.Bits.{bit_in};
-ghost use Rattle.laws.specs.Most.{greater};
 ghost use Rattle.site.specs.Reach.{clash_of};
 ghost use Rattle.phrases.specs.Put.{Put};
 ghost use Rattle.phrases.specs.Phrases.{phrase};
@@ -52,7 +51,7 @@ fn put(out: &mut [u8], at: usize, what: Phrase) -> usize
     )
 }
 
-// What the marks mean, at the start of `out`.
+// What the marks mean, at the start of `out`. It and `put_gap` name the row that each means: a function of a row is no plainer.
 pub fn put_legend(out: &mut [u8]) -> usize
     requires { 65536 ≤ length out.old }
     ensures { Put out.old 0 (phrase grid_lines (Row legend_row 0 0 0 0)) 500 out.new result }
@@ -74,10 +73,8 @@ fn put_blanks(out: &mut [u8], at: usize, many: usize) -> usize
     ensures { Put out.old at (blanks many) many out.new result }
 {
     let mut next = at;
-    let mut k = 0;
-    while k < many {
+    for _ in 0..many {
         next = put(out, next, Phrase::Row(BLANK, 0, 0, 0, 0));
-        k += 1;
     }
     next
 }
@@ -114,28 +111,16 @@ fn entry_size(site: Site, table: &[u8], clash: [u32; 32], line: usize, slot: usi
     put_entry(&mut scratch, 0, site, table, clash, line, slot)
 }
 
-// The greater of two.
-fn larger(a: usize, b: usize) -> usize
-    ensures { result ≡ greater a b }
-{
-    if a < b {
-        return b;
-    }
-    a
-}
-
 // How wide the column of a slot is.
 fn column_width(site: Site, table: &[u8], clash: [u32; 32], slot: usize) -> usize
     requires { (judgeable site table.now ≡ true) × (bit_in clash ≡ clash_of site) × (slot < site.slots) }
     ensures { (result ≡ column_width site table.now slot) × (result ≤ 156) }
 {
     let lines = site.channels as usize + 1;
-    let mut widest = 0;
-    let mut line = 0;
-    while line < lines {
+    let mut widest: usize = 0;
+    for line in 0..lines {
         let size = entry_size(site, table, clash, line, slot);
-        widest = larger(widest, size);
-        line += 1;
+        widest = widest.max(size);
     }
     widest
 }
@@ -176,10 +161,8 @@ fn put_columns(
     ensures { Put out.old at (columns_said site table.now line from many) 40192 out.new result }
 {
     let mut next = at;
-    let mut j = 0;
-    while j < many {
+    for j in 0..many {
         next = put_column(out, next, site, table, clash, line, from + j);
-        j += 1;
     }
     next
 }
@@ -266,15 +249,13 @@ fn fitting(
     ensures { result ≡ fitting site table.now width from }
 {
     let mut used = 12 + column_width(site, table, clash, from);
-    let mut many = 1;
-    while many < left {
+    for many in 1..left {
         used = used + 2 + column_width(site, table, clash, from + many);
         if width < used {
             return many;
         }
-        many += 1;
     }
-    many
+    left
 }
 
 // How many slots the piece has that begins at a slot; none where there are no slots more, or the table can't be judged.

@@ -7,7 +7,7 @@ ghost use Rattle.phrases.specs.Phrases.{phrase};
 ghost use Rattle.say_handheld.specs.Lines.{handheld_lines};
 ghost use Rattle.say_handheld.specs.Said.{change_said};
 
-use handheld::ChangeAnswer;
+use handheld::ChangeError;
 use phrases::{Phrase, put_phrase};
 use say_refusals::Place;
 
@@ -30,17 +30,23 @@ fn put(out: &mut [u8], at: usize, what: Phrase) -> usize
 }
 
 // A change of the load of a cell, by its number: what is now planned, or why not.
-pub fn put_change(out: &mut [u8], at: usize, cell: usize, load: usize, reply: ChangeAnswer) -> usize
+pub fn put_change(
+    out: &mut [u8],
+    at: usize,
+    cell: usize,
+    load: usize,
+    reply: Result<(), ChangeError>,
+) -> usize
     requires { at + 2000 ≤ length out.old }
     ensures { Put out.old at (change_said cell load reply) 2000 out.new result }
 {
     match reply {
-        ChangeAnswer::Done => put(out, at, Phrase::Row(CHANGED, cell, load, 0, 0)),
-        ChangeAnswer::TableShort => say_refusals::put_refused(out, at, 4, Place::Nowhere),
-        ChangeAnswer::NotPlan => say_refusals::put_refused(out, at, 26, Place::Nowhere),
-        ChangeAnswer::NoRoom(lacking, short) => {
+        Ok(()) => put(out, at, Phrase::Row(CHANGED, cell, load, 0, 0)),
+        Err(ChangeError::TableShort) => say_refusals::put_refused(out, at, 4, Place::Nowhere),
+        Err(ChangeError::NotPlan) => say_refusals::put_refused(out, at, 26, Place::Nowhere),
+        Err(ChangeError::NoRoom(lacking, short)) => {
             put(out, at, Phrase::Row(NO_ROOM, lacking, short, 0, 0))
         }
-        ChangeAnswer::Refused(f) => say_verdicts::put_fault(out, at, f),
+        Err(ChangeError::Record(f)) => say_verdicts::put_fault(out, at, f),
     }
 }

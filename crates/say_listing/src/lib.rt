@@ -73,10 +73,8 @@ fn put_reservations(out: &mut [u8], at: usize, channels: usize, row: &[u8]) -> u
     ensures { Put out.old at (reservations channels row.now (length row.now)) 20480 out.new result }
 {
     let mut next = at;
-    let mut p = 0;
-    while p < row.len() {
-        next = put_line(out, next, listed(channels, p, row[p]));
-        p += 1;
+    for (p, &byte) in row.iter().enumerate() {
+        next = put_line(out, next, listed(channels, p, byte));
     }
     next
 }

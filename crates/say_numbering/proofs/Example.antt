@@ -4,6 +4,7 @@ use mathlib.Core.List.{List, [], ◌∷◌, ◌++◌}
 use mathlib.Core.Path.{◌≡◌, refl}
 use Prim.Native.Nat.{ℕ}
 use lib.ListN.{replicate}
+use Rattle.std.specs.Prelude.{Ok, Err}
 use Rattle.laws.specs.Bits.{word_of}
 use Rattle.laws.specs.Search.{first_of}
 use Rattle.laws.specs.Sum.{sum, any}
@@ -13,11 +14,11 @@ use Rattle.site.specs.Reach.{reaches, clash_in}
 use Rattle.site.specs.declared.Site.{Site}
 use Rattle.judges.specs.Judges.{class_answer}
 use Rattle.renumbering.specs.Numbering.{last, missing, odd, fit, give_numbers, numbering}
-use Rattle.numbering.specs.Renumber.{numbering_of, renumber_of}
+use Rattle.numbering.specs.Renumber.{numbering_of, site_numbers, renumber_of}
 use Rattle.text.specs.Decimal.{digits_of, decimal}
 use Rattle.speech.specs.Speech.{bytes, spoken}
-use Rattle.numbering.specs.declared.RenumberAnswer.TheVariants as renumber
-use Rattle.numbering.specs.declared.CarryAnswer.TheVariants as carry
+use Rattle.numbering.specs.declared.RenumberError.TheVariants as renumber
+use Rattle.numbering.specs.declared.CarryError.TheVariants as carry
 use Rattle.say_refusals.specs.Said.{refused_line}
 use Rattle.say_refusals.specs.declared.Place.TheVariants.{Nowhere}
 use Rattle.say_numbering.specs.Lines.{number_lines, anew_lines}
@@ -28,13 +29,13 @@ use Rattle.say_numbering.specs.Anew.{anew_said}
 abbrev new : List ℕ
 new = 1 ∷ 3 ∷ 2 ∷ replicate 29 0
 
-numbers-said : renumber_said new renumber.Done ≡ bytes "cell 1 is now cell 1\ncell 2 is now cell 3\ncell 3 is now cell 2\n"
+numbers-said : renumber_said new (Ok tt) ≡ bytes "cell 1 is now cell 1\ncell 2 is now cell 3\ncell 3 is now cell 2\n"
 unfolding number_lines numbers_said spoken decimal digits_of
 numbers-said = refl
 
 -- the refusals, 23 and 4, whose letters are in crate `say_refusals`; and nothing of a plan that was carried
 refusals-said :
-    renumber_said new renumber.NoNumbering ∷ carry_said carry.NoNumbering ∷ carry_said carry.TableShort ∷ carry_said carry.Done ∷ []
+    renumber_said new (Err renumber.NoNumbering) ∷ carry_said (Err carry.NoNumbering) ∷ carry_said (Err carry.TableShort) ∷ carry_said (Ok tt) ∷ []
     ≡ refused_line 23 Nowhere ∷ refused_line 23 Nowhere ∷ refused_line 4 Nowhere ∷ [] ∷ []
 refusals-said = refl
 
@@ -58,5 +59,5 @@ anew-said :
     ≡ [] ∷ [] ∷ bytes "no numbering of all its cells, idle ones too, is nested\n" ∷ [] ∷ []
 unfolding p4 full ring first_of sum any second splits split_of first_split class_verdict class_answer word_of up_to size_ok rule_ok row_bad extra_load bad_row
     extra_blocked
-    fault_of reaches clash_in last missing odd fit give_numbers numbering numbering_of renumber_of spoken anew_lines anew_said
+    fault_of reaches clash_in last missing odd fit give_numbers numbering numbering_of site_numbers renumber_of spoken anew_lines anew_said
 anew-said = refl

@@ -10,8 +10,8 @@ ghost use Rattle.say_numbering.specs.Lines.{number_lines, anew_lines};
 ghost use Rattle.say_numbering.specs.Said.{number_phrase, numbers_said, renumber_said, carry_said};
 ghost use Rattle.say_numbering.specs.Anew.{anew_numbered, anew_phrase, anew_said};
 
-use judges::ClassAnswer;
-use numbering::{CarryAnswer, RenumberAnswer};
+use judges::ClassVerdict;
+use numbering::{CarryError, RenumberError};
 use phrases::{Phrase, put_phrase};
 use say_refusals::Place;
 use site::Site;
@@ -44,36 +44,39 @@ fn put_numbers(out: &mut [u8], at: usize, new: [u16; 32]) -> usize
     ensures { Put out.old at (numbers_said new 32) 9600 out.new result }
 {
     let mut next = at;
-    let mut i = 0;
-    while i < 32 {
-        next = put(out, next, number_phrase(i + 1, new[i]));
-        i += 1;
+    for (i, &number) in new.iter().enumerate() {
+        next = put(out, next, number_phrase(i + 1, number));
     }
     next
 }
 
 // A numbering: a line for each cell; or the refusal.
-pub fn put_renumber(out: &mut [u8], at: usize, new: [u16; 32], reply: RenumberAnswer) -> usize
+pub fn put_renumber(
+    out: &mut [u8],
+    at: usize,
+    new: [u16; 32],
+    reply: Result<(), RenumberError>,
+) -> usize
     requires { at + 9600 ≤ length out.old }
     ensures { Put out.old at (renumber_said new reply) 9600 out.new result }
 {
     match reply {
-        RenumberAnswer::Done => put_numbers(out, at, new),
-        RenumberAnswer::NoNumbering => say_refusals::put_refused(out, at, 23, Place::Nowhere),
-        RenumberAnswer::Refused(f) => say_verdicts::put_fault(out, at, f),
+        Ok(()) => put_numbers(out, at, new),
+        Err(RenumberError::NoNumbering) => say_refusals::put_refused(out, at, 23, Place::Nowhere),
+        Err(RenumberError::Record(f)) => say_verdicts::put_fault(out, at, f),
     }
 }
 
 // A plan that was carried, of which there is nothing to say; or the refusal.
-pub fn put_carry(out: &mut [u8], at: usize, reply: CarryAnswer) -> usize
+pub fn put_carry(out: &mut [u8], at: usize, reply: Result<(), CarryError>) -> usize
     requires { at + 2000 ≤ length out.old }
     ensures { Put out.old at (carry_said reply) 2000 out.new result }
 {
     match reply {
-        CarryAnswer::Done => at,
-        CarryAnswer::NoNumbering => say_refusals::put_refused(out, at, 23, Place::Nowhere),
-        CarryAnswer::TableShort => say_refusals::put_refused(out, at, 4, Place::Nowhere),
-        CarryAnswer::Refused(f) => say_verdicts::put_fault(out, at, f),
+        Ok(()) => at,
+        Err(CarryError::NoNumbering) => say_refusals::put_refused(out, at, 23, Place::Nowhere),
+        Err(CarryError::TableShort) => say_refusals::put_refused(out, at, 4, Place::Nowhere),
+        Err(CarryError::Record(f)) => say_verdicts::put_fault(out, at, f),
     }
 }
 
@@ -84,9 +87,9 @@ fn number_anew(site: Site) -> Phrase
     let found = numbering::renumber(site);
     let answer = found.answer;
     match answer {
-        RenumberAnswer::Done => Phrase::Silent,
-        RenumberAnswer::NoNumbering => Phrase::Row(NEVER, 0, 0, 0, 0),
-        RenumberAnswer::Refused(_) => Phrase::Silent,
+        Ok(()) => Phrase::Silent,
+        Err(RenumberError::NoNumbering) => Phrase::Row(NEVER, 0, 0, 0, 0),
+        Err(RenumberError::Record(_)) => Phrase::Silent,
     }
 }
 
@@ -96,9 +99,9 @@ fn anew(site: Site) -> Phrase
 {
     let class = judges::in_class(site);
     match class {
-        ClassAnswer::InClass => Phrase::Silent,
-        ClassAnswer::Outside(_, _, _) => number_anew(site),
-        ClassAnswer::Refused(_) => Phrase::Silent,
+        Ok(ClassVerdict::InClass) => Phrase::Silent,
+        Ok(ClassVerdict::Outside(_, _, _)) => number_anew(site),
+        Err(_) => Phrase::Silent,
     }
 }
 

@@ -135,10 +135,8 @@ pub fn put_picture_head(out: &mut [u8], at: usize, site: Site) -> usize
     let grid = every_slot(site) * slot_wide(site);
     let long = cells * cell_step(site);
     let mut next = at;
-    let mut k = 0;
-    while k < HEAD_ROWS {
+    for k in 0..HEAD_ROWS {
         next = put_head_row(out, next, Phrase::Row(k, height, grid, long, cells));
-        k += 1;
     }
     next
 }
@@ -162,10 +160,8 @@ pub fn put_picture_tail(out: &mut [u8], at: usize, site: Site) -> usize
     let channels = site.channels as usize;
     let y = height * 10 - 36;
     let mut next = at;
-    let mut k = 0;
-    while k < TAIL_ROWS {
+    for k in 0..TAIL_ROWS {
         next = put_tail_row(out, next, Phrase::Row(k, slots, channels, y, y + 19));
-        k += 1;
     }
     next
 }

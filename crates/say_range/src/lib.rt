@@ -11,7 +11,6 @@ ghost use Rattle.phrases.specs.Phrases.{phrase};
 ghost use Rattle.drawing.specs.Range.{reach_lines, circle_lines, cell_step, cell_at, bend_of, line_phrase, lines_of, circle_phrase, ring_phrase};
 
 use phrases::{Phrase, put_phrase};
-use say_slots::less_of;
 use site::Site;
 use words::has;
 
@@ -63,7 +62,7 @@ pub fn cell_step(site: Site) -> usize
     ensures { result ≡ cell_step site }
 {
     let cells = site.cells as usize;
-    less_of(860, 1720 / cells)
+    (1720 / cells).min(860)
 }
 
 // The middle of a cell.
@@ -163,10 +162,8 @@ pub fn put_lines(out: &mut [u8], at: usize, site: Site, clash: [u32; 32], a: usi
 {
     let cells = site.cells as usize;
     let mut next = at;
-    let mut b = 0;
-    while b < cells {
+    for b in 0..cells {
         next = put_line(out, next, line_phrase(site, clash, a, b));
-        b += 1;
     }
     next
 }

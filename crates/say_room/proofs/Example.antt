@@ -4,14 +4,17 @@ use mathlib.Core.Path.{◌≡◌, refl}
 use Rattle.text.specs.Decimal.{digits_of, decimal}
 use Rattle.speech.specs.Speech.{bytes, spoken}
 use Rattle.phrases.specs.Phrases.{phrase}
-use Rattle.finder.specs.declared.FindAnswer.TheVariants.{Greedy, Full, NotKnown}
-use Rattle.rooms.specs.declared.RoomAnswer.TheVariants.{Exactly, AtLeast}
+use Rattle.std.specs.Prelude.{Ok, Err}
+use Rattle.finder.specs.declared.Way.TheVariants.{Greedy}
+use Rattle.finder.specs.declared.FindError.TheVariants.{Full, NotKnown}
+use Rattle.rooms.specs.declared.Room.TheVariants.{Exactly, AtLeast}
 use Rattle.say_room.specs.Lines.{room_lines}
 use Rattle.say_room.specs.Said.{more_phrase, word_end, slots_enough, open_enough, slots_said, open_said_of}
 
 cells-said :
-    phrase room_lines (more_phrase 1 6 (Exactly 5)) ∷ phrase room_lines (more_phrase 2 5 (Exactly 0)) ∷ phrase room_lines (more_phrase 3 1 (AtLeast 0))
-    ∷ phrase room_lines (word_end (Full 3)) ∷ phrase room_lines (word_end (NotKnown 10)) ∷ phrase room_lines (word_end Greedy) ∷ []
+    phrase room_lines (more_phrase 1 6 (Ok (Exactly 5))) ∷ phrase room_lines (more_phrase 2 5 (Ok (Exactly 0)))
+    ∷ phrase room_lines (more_phrase 3 1 (Ok (AtLeast 0))) ∷ phrase room_lines (word_end (Err (Full 3))) ∷ phrase room_lines (word_end (Err (NotKnown 10)))
+    ∷ phrase room_lines (word_end (Ok Greedy)) ∷ []
     ≡ bytes "cell 1, load 6: 5 more, and no more than that\n" ∷ bytes "cell 2, load 5: no more\n" ∷ bytes "cell 3, load 1: at least 0 more\n"
     ∷ bytes ": no cell can carry more\n" ∷ bytes ": whether it has a plan\n" ∷ [] ∷ []
 unfolding room_lines spoken decimal digits_of
@@ -38,5 +41,5 @@ unfolding room_lines spoken decimal digits_of
 open_said = refl
 
 -- a plan that is found with fewer positions than the load test asks, and none
-enough : open_enough Greedy 4 6 ∷ open_enough Greedy 6 4 ∷ open_enough (Full 3) 4 6 ∷ slots_enough Greedy 4 6 2 2 ∷ [] ≡ 4 ∷ 4 ∷ 6 ∷ 2 ∷ []
+enough : open_enough (Ok Greedy) 4 6 ∷ open_enough (Ok Greedy) 6 4 ∷ open_enough (Err (Full 3)) 4 6 ∷ slots_enough (Ok Greedy) 4 6 2 2 ∷ [] ≡ 4 ∷ 4 ∷ 6 ∷ 2 ∷ []
 enough = refl

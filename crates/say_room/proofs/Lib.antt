@@ -1,4 +1,3 @@
 -- The laws of crate `say_room`, module by module.
-pub mod Found
 pub mod Truth
 pub mod Example

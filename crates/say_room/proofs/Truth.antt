@@ -21,55 +21,33 @@ use Rattle.theory.specs.Verdict.{most_demand}
 use Rattle.theory.proofs.Exact.{planned-valid}
 use Rattle.theory.proofs.LoadLaws.{most-demand-test}
 use Rattle.site.specs.Record.{load_at, positions, size, fault_of}
-use Rattle.site.specs.Edit.{or_else, load_edit_fault}
+use Rattle.site.specs.Edit.{load_edit_fault}
 use Rattle.site.specs.Reach.{net_of}
 use Rattle.site.specs.declared.Site.{Site}
-use Rattle.site.specs.declared.Fault.TheVariants.{Fine}
+use Rattle.site.specs.declared.Fault.{Fault}
+use Rattle.std.specs.Prelude.{Result, Ok, Err, is_ok}
 use Rattle.site.proofs.Faults.{up-to-is}
 use Rattle.judges.specs.Judges.{least_answer}
 use Rattle.planner.specs.Plan.{plan_table}
 use Rattle.finder.specs.Find.{find_answer, find_table}
-use Rattle.finder.specs.declared.FindAnswer.{FindAnswer}
-use Rattle.finder.specs.declared.FindAnswer.TheVariants as find
-use Rattle.finder.proofs.Right.{is_plan, is_none, plan_right, none_right}
+use Rattle.finder.specs.declared.Way.{Way}
+use Rattle.finder.specs.declared.FindError.{FindError}
+use Rattle.finder.specs.declared.FindError.TheVariants as find
+use Rattle.finder.proofs.Right.{is_none, plan_right, none_right}
 use Rattle.rooms.specs.Room.{room_answer, with_more, more_of}
-use Rattle.rooms.specs.declared.RoomAnswer.{RoomAnswer}
-use Rattle.rooms.specs.declared.RoomAnswer.TheVariants as room
+use Rattle.rooms.specs.declared.Room.{Room}
+use Rattle.rooms.specs.declared.Room.TheVariants as room
 use Rattle.rooms.proofs.Right.{room-planned, room-nothing, room-exact, room-less, same-with}
 use Rattle.why.specs.Said.{open_of, least_number, fewest, some_blocked}
 use Rattle.why.specs.Means.{Planned, AllOpen, AtLeastSlots, WillDo, set}
 use Rattle.why.proofs.Numbers.{itself, at_least, fewer-slots, slots-exact}
 use Rattle.why.proofs.Truth.{least-does, all_so}
 use Rattle.phrases.specs.declared.Phrase.{Phrase}
-use Rattle.phrases.specs.declared.Phrase.TheVariants.{Silent, Row}
-use Rattle.say_room.specs.Lines.{do_slots_row, do_open_row}
-use Rattle.say_room.specs.Said.{by_found, more_phrase, room_phrase, word_end, own_does, open_enough, slots_enough, beside_own, fewer_phrase, slots_first}
+use Rattle.phrases.specs.declared.Phrase.TheVariants.{Row}
+use Rattle.say_room.specs.Lines.{no_cell_row, do_slots_row, do_open_row}
+use Rattle.say_room.specs.Said.{more_phrase, room_phrase, word_end, own_does, open_enough, slots_enough, beside_own, fewer_phrase, slots_first}
 use Rattle.say_room.specs.Said.{slots_second}
 use Rattle.say_room.specs.Means.{HasPlan, Carries, CarriesNoMore, SlotsPlan, Fewer, RoomMeans}
-
--- ---- what is chosen by an answer
-
-by-found : (P : Phrase → Type 0) (p n u r : Phrase) (a : FindAnswer) → (is_plan a ≡ true → P p) → (is_none a ≡ true → P n) → P u → P r → P (by_found p n u r a)
-by-found P p n u r find.Greedy y z un re = y refl
-by-found P p n u r find.Renumbered y z un re = y refl
-by-found P p n u r (find.Searched k) y z un re = y refl
-by-found P p n u r (find.Full x) y z un re = z refl
-by-found P p n u r find.FullInClass y z un re = z refl
-by-found P p n u r (find.FullSearched k) y z un re = z refl
-by-found P p n u r (find.NotKnown k) y z un re = un
-by-found P p n u r find.TableShort y z un re = re
-by-found P p n u r (find.Refused f) y z un re = re
-
-is-plan : (a : FindAnswer) → by_found true false false false a ≡ is_plan a
-is-plan find.Greedy = refl
-is-plan find.Renumbered = refl
-is-plan (find.Searched k) = refl
-is-plan (find.Full x) = refl
-is-plan find.FullInClass = refl
-is-plan (find.FullSearched k) = refl
-is-plan (find.NotKnown k) = refl
-is-plan find.TableShort = refl
-is-plan (find.Refused f) = refl
 
 -- ---- of the three rows that set a number beside what the site has
 
@@ -84,23 +62,30 @@ beside-cases P row n has less same more =
     above : (n has : ℕ) → has ≤ n → (n ≡ has → ⊥) → has < n
     above n has l d = ⊎_elim (λ e. ltb-true has n e) (λ e. absurd (d (let m = ltb-false has n e in omega arith))) (cases (ltb has n))
 
-module _ (s : Site) (fine : fault_of s ≡ Fine) (long : length s.loads ≡ 32) (limit : ℕ) (t : List ℕ) (fits : size s ≤ length t) where
-  abbrev reply : FindAnswer
+module _ (s : Site) (fine : fault_of s ≡ Ok tt) (long : length s.loads ≡ 32) (limit : ℕ) (t : List ℕ) (fits : size s ≤ length t) where
+  abbrev reply : Result Way FindError
   reply = find_answer s limit t
 
-  plan-so : is_plan reply ≡ true → HasPlan s
+  plan-so : is_ok reply ≡ true → HasPlan s
   plan-so h = (reserved (positions s) (find_table s limit t), plan_right s limit t h)
 
-  edit-fine : (i : ℕ) → i < s.cells → load_edit_fault s (i + 1) ≡ Fine
-  unfolding load_edit_fault or_else
+  edit-fine : (i : ℕ) → i < s.cells → load_edit_fault s (i + 1) ≡ Ok tt
+  unfolding load_edit_fault
   edit-fine i l = rw (fine, up-to-is s.cells (i + 1) (omega arith, omega arith))
 
   -- ---- the first line
 
+  word-of : (a : Result Way FindError) → (is_none a ≡ true → RoomMeans s (Row no_cell_row 0 0 0 0)) → RoomMeans s (word_end a)
+  word-of (Ok way) h = tt
+  word-of (Err (find.Full x)) h = h refl
+  word-of (Err find.FullInClass) h = h refl
+  word-of (Err (find.FullSearched n)) h = h refl
+  word-of (Err (find.NotKnown n)) h = tt
+  word-of (Err find.TableShort) h = tt
+  word-of (Err (find.Record f)) h = tt
+
   pub word-true : RoomMeans s (word_end reply)
-  word-true =
-      by-found (RoomMeans s) Silent (Row 3 0 0 0 0) (Row 4 0 0 0 0) Silent reply (λ _. tt)
-      (λ h. let none = none_right s limit t h in (none, λ i l m. room-less s (i + 1) long (edit-fine i l) none m)) tt tt
+  word-true = word-of reply (λ h. let none = none_right s limit t h in (none, λ i l m. room-less s (i + 1) long (edit-fine i l) none m))
 
   -- ---- a cell
 
@@ -121,18 +106,21 @@ module _ (s : Site) (fine : fault_of s ≡ Fine) (long : length s.loads ≡ 32) 
         (reserved (positions s) p.0, planned-valid (net_of (with_more s (i + 1) l)) p.0 p.1))
         (cases (ltb (room (net_of s)) (most_demand (net_of s) (loaded (net_of s)))))
 
-    more-true : (a : RoomAnswer) → room_answer s (i + 1) ≡ a → RoomMeans s (more_phrase (i + 1) (load_at s i) a)
-    more-true (room.Exactly m) e =
+    more-true : (a : Result Room Fault) → room_answer s (i + 1) ≡ a → RoomMeans s (more_phrase (i + 1) (load_at s i) a)
+    more-true (Ok (room.Exactly m)) e =
         let no_more : CarriesNoMore s (i + 1) m = room-exact s (i + 1) long (edit-fine i inside) m e in
         let yes : Carries s (i + 1) m = rw e at carries in
         ⊎_elim (λ z. let none : m ≡ 0 = eqb-true m 0 z in rw z ((i, refl, inside, refl), rw none at no_more))
         (λ z. rw z ((i, refl, inside, refl), yes, no_more)) (cases (eqb m 0))
-    more-true (room.AtLeast m) e = ((i, refl, inside, refl), rw e at carries)
-    more-true (room.Refused f) e = tt
+    more-true (Ok (room.AtLeast m)) e = ((i, refl, inside, refl), rw e at carries)
+    more-true (Err f) e = tt
+
+  cell-of : (i : ℕ) → i < s.cells → (a : Result Way FindError) → (is_ok a ≡ true → HasPlan s) → RoomMeans s (room_phrase s i a)
+  cell-of i l (Ok way) h = more-true i l (h refl) (room_answer s (i + 1)) refl
+  cell-of i l (Err e) h = tt
 
   pub cell-true : (i : ℕ) → i < s.cells → RoomMeans s (room_phrase s i reply)
-  cell-true i l =
-      by-found (RoomMeans s) _ Silent Silent Silent reply (λ h. more-true i l (plan-so h) (room_answer s (i + 1)) refl) (λ _. tt) tt tt
+  cell-true i l = cell-of i l reply plan-so
 
   -- ---- the size
 
@@ -149,7 +137,7 @@ module _ (s : Site) (fine : fault_of s ≡ Fine) (long : length s.loads ≡ 32) 
   planned-has p = (reserved (positions s) (plan_table s t), (p t fits).1)
 
   own-has : own_does reply (open_of s) most ≡ true → HasPlan s
-  own-has h = plan-so (sym (is-plan reply) ∙ (both (by_found true false false false reply) (ltb (open_of s) most) h).0)
+  own-has h = plan-so (both (is_ok reply) (ltb (open_of s) most) h).0
 
   fewer-true : (n u : ℕ) → Fewer s n → RoomMeans s (fewer_phrase n u)
   fewer-true n u h =

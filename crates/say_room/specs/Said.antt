@@ -1,18 +1,18 @@
 -- What `duggfrask room` says of a site, by what `find` answers of it: "for each cell how much more it could carry with all else as it is (exact in the class,
 -- "at least" elsewhere: say which), and for the site how many slots more or fewer would do."
-use Rattle.std.specs.Prelude.{ℕ, ◌+◌, ◌-◌, Bool, true, false, ◌&&◌, List, [], ◌++◌, ltb, eqb}
+use Rattle.std.specs.Prelude.{ℕ, ◌+◌, ◌-◌, Bool, ◌&&◌, List, [], ◌++◌, ltb, eqb, Result, Ok, Err, is_ok}
 use Rattle.laws.specs.Choice.{pick}
 use Rattle.site.specs.Record.{load_at}
 use Rattle.site.specs.declared.Site.{Site}
+use Rattle.site.specs.declared.Fault.{Fault}
 use Rattle.judges.specs.Judges.{least_answer}
 use Rattle.heaviest.specs.Sets.{heaviest_of}
-use Rattle.heaviest.specs.declared.HeaviestAnswer.{HeaviestAnswer}
-use Rattle.heaviest.specs.declared.HeaviestAnswer.TheVariants as heavy
-use Rattle.finder.specs.declared.FindAnswer.{FindAnswer}
-use Rattle.finder.specs.declared.FindAnswer.TheVariants as find
+use Rattle.finder.specs.declared.Way.{Way}
+use Rattle.finder.specs.declared.FindError.{FindError}
+use Rattle.finder.specs.declared.FindError.TheVariants as find
 use Rattle.rooms.specs.Room.{room_answer}
-use Rattle.rooms.specs.declared.RoomAnswer.{RoomAnswer}
-use Rattle.rooms.specs.declared.RoomAnswer.TheVariants as room
+use Rattle.rooms.specs.declared.Room.{Room}
+use Rattle.rooms.specs.declared.Room.TheVariants as room
 use Rattle.why.specs.Said.{open_of, least_number, fewest, some_blocked}
 use Rattle.phrases.specs.Phrases.{phrase}
 use Rattle.phrases.specs.declared.Phrase.{Phrase}
@@ -21,46 +21,41 @@ use Rattle.say_room.specs.Lines.{room_lines, carries_row, no_more_row, carries_l
 use Rattle.say_room.specs.Lines.{fewer_row}
 use Rattle.say_room.specs.Lines.{fewer_than_row, least_slots_row, too_few_row}
 
--- a plan is found, there is none, it is not known, or it is refused
-abbrev pub by_found : {A : Type 0} → (plan none unknown refused : A) → FindAnswer → A
-by_found plan none unknown refused find.Greedy = plan
-by_found plan none unknown refused find.Renumbered = plan
-by_found plan none unknown refused (find.Searched n) = plan
-by_found plan none unknown refused (find.Full x) = none
-by_found plan none unknown refused find.FullInClass = none
-by_found plan none unknown refused (find.FullSearched n) = none
-by_found plan none unknown refused (find.NotKnown n) = unknown
-by_found plan none unknown refused find.TableShort = refused
-by_found plan none unknown refused (find.Refused f) = refused
-
 -- ---- the cells
 
 -- a cell by its number, with its load
-abbrev pub more_phrase : (cell load : ℕ) → RoomAnswer → Phrase
-more_phrase cell load (room.Exactly m) = pick (eqb m 0) (Row no_more_row cell load 0 0) (Row carries_row cell load m 0)
-more_phrase cell load (room.AtLeast m) = Row carries_least_row cell load m 0
-more_phrase cell load (room.Refused f) = Silent
+abbrev pub more_phrase : (cell load : ℕ) → Result Room Fault → Phrase
+more_phrase cell load (Ok (room.Exactly m)) = pick (eqb m 0) (Row no_more_row cell load 0 0) (Row carries_row cell load m 0)
+more_phrase cell load (Ok (room.AtLeast m)) = Row carries_least_row cell load m 0
+more_phrase cell load (Err f) = Silent
 
 -- of the cell at index i, where a plan is found; else a first line says that no cell can carry more, or that it is not known
-abbrev pub room_phrase : Site → ℕ → FindAnswer → Phrase
-room_phrase s i reply = by_found (more_phrase (i + 1) (load_at s i) (room_answer s (i + 1))) Silent Silent Silent reply
+abbrev pub room_phrase : Site → ℕ → Result Way FindError → Phrase
+room_phrase s i (Ok way) = more_phrase (i + 1) (load_at s i) (room_answer s (i + 1))
+room_phrase s i (Err e) = Silent
 
--- the first line's end, after the last word on the site
-abbrev pub word_end : FindAnswer → Phrase
-word_end reply = by_found Silent (Row no_cell_row 0 0 0 0) (Row whether_row 0 0 0 0) Silent reply
+-- the first line's end, after the last word on the site: there is no plan, or it is not known
+abbrev pub word_end : Result Way FindError → Phrase
+word_end (Ok way) = Silent
+word_end (Err (find.Full x)) = Row no_cell_row 0 0 0 0
+word_end (Err find.FullInClass) = Row no_cell_row 0 0 0 0
+word_end (Err (find.FullSearched n)) = Row no_cell_row 0 0 0 0
+word_end (Err (find.NotKnown n)) = Row whether_row 0 0 0 0
+word_end (Err find.TableShort) = Silent
+word_end (Err (find.Record f)) = Silent
 
 -- ---- the slots
 
 -- a plan is found with n open positions, which are fewer than m
-abbrev pub own_does : FindAnswer → (n m : ℕ) → Bool
-own_does reply n m = by_found true false false false reply && ltb n m
+abbrev pub own_does : Result Way FindError → (n m : ℕ) → Bool
+own_does reply n m = is_ok reply && ltb n m
 
 -- how many open positions will do: `least`'s number, m, or the site's own, n
-abbrev pub open_enough : FindAnswer → (n m : ℕ) → ℕ
+abbrev pub open_enough : Result Way FindError → (n m : ℕ) → ℕ
 open_enough reply n m = pick (own_does reply n m) n m
 
 -- how many slots of f channels: the site's own are t
-abbrev pub slots_enough : FindAnswer → (n m t f : ℕ) → ℕ
+abbrev pub slots_enough : Result Way FindError → (n m t f : ℕ) → ℕ
 slots_enough reply n m t f = pick (own_does reply n m) t (fewest m f)
 
 -- so many will do, beside those that it has
@@ -91,14 +86,14 @@ abbrev pub open_said_of : (needs enough has : ℕ) → List ℕ
 open_said_of needs enough has = two_said (beside_own do_open_row enough has) (fewer_phrase needs enough)
 
 -- l is the load of the heaviest clash, m the number of `least`. Where something is blocked more slots need not be open: open channel-slots are counted
-abbrev pub sized_said : Site → FindAnswer → (l m : ℕ) → List ℕ
+abbrev pub sized_said : Site → Result Way FindError → (l m : ℕ) → List ℕ
 sized_said s reply l m =
     pick (some_blocked s) (open_said_of l (open_enough reply (open_of s) m) (open_of s))
     (slots_said (fewest l s.channels) (slots_enough reply (open_of s) m s.slots s.channels) s.slots)
 
-abbrev pub by_load : Site → FindAnswer → HeaviestAnswer → List ℕ
-by_load s reply (heavy.Done l set) = sized_said s reply l (least_number (least_answer s))
-by_load s reply (heavy.Refused f) = []
+abbrev pub by_load : Site → Result Way FindError → Result (ℕ × ℕ) Fault → List ℕ
+by_load s reply (Ok (l, set)) = sized_said s reply l (least_number (least_answer s))
+by_load s reply (Err f) = []
 
-unfoldable pub size_said : Site → FindAnswer → List ℕ
+unfoldable pub size_said : Site → Result Way FindError → List ℕ
 size_said s reply = by_load s reply (heaviest_of s)

@@ -1,26 +1,25 @@
 // What is said of the room of a site, written into a lent buffer at `at`. The answer is where the next byte goes.
 #![tactic(auto)]
 
-ghost use Rattle.std.specs.Prelude.{◌≡◌, true, false, ◌+◌, ◌≤◌, ◌<◌, eqb, length};
+ghost use Rattle.std.specs.Prelude.{◌≡◌, ◌+◌, ◌≤◌, ◌<◌, eqb, length, Ok};
 ghost use Rattle.laws.specs.Choice.{pick};
 ghost use Rattle.site.specs.Record.{fault_of};
-ghost use Rattle.site.specs.declared.Fault.TheVariants.{Fine};
 ghost use Rattle.judges.specs.Judges.{least_answer};
 ghost use Rattle.phrases.specs.declared.Phrase.TheVariants.{Row};
 ghost use Rattle.phrases.specs.Put.{Put};
 ghost use Rattle.phrases.specs.Phrases.{phrase};
 ghost use Rattle.say_room.specs.Lines.{room_lines, carries_row, no_more_row};
 ghost use Rattle.why.specs.Said.{least_number};
-ghost use Rattle.say_room.specs.Said.{by_found, more_phrase, room_phrase, word_end, own_does, beside_own, fewer_phrase};
+ghost use Rattle.say_room.specs.Said.{more_phrase, room_phrase, word_end, own_does, beside_own, fewer_phrase};
 ghost use Rattle.say_room.specs.Said.{slots_first, slots_second, two_said, slots_said, open_said_of, sized_said, size_said};
 
-use finder::FindAnswer;
-use heaviest::HeaviestAnswer;
+use finder::{FindError, Way};
 use phrases::{Phrase, put_phrase};
 use positions::open_count;
-use rooms::RoomAnswer;
-use say_why::{fewest, least_number};
-use site::Site;
+use rooms::Room;
+use say_why::fewest;
+use site::{Fault, Site};
+use whyrows::least_number;
 
 const CARRIES: usize = 0;
 
@@ -78,13 +77,13 @@ fn put(out: &mut [u8], at: usize, what: Phrase) -> usize
 }
 
 // How much more a cell could carry.
-fn more_phrase(cell: usize, load: usize, reply: RoomAnswer) -> Phrase
+fn more_phrase(cell: usize, load: usize, reply: Result<Room, Fault>) -> Phrase
     ensures { result ≡ more_phrase cell load reply }
 {
     match reply {
-        RoomAnswer::Exactly(m) => exact_phrase(cell, load, m),
-        RoomAnswer::AtLeast(m) => Phrase::Row(CARRIES_LEAST, cell, load, m, 0),
-        RoomAnswer::Refused(_) => Phrase::Silent,
+        Ok(Room::Exactly(m)) => exact_phrase(cell, load, m),
+        Ok(Room::AtLeast(m)) => Phrase::Row(CARRIES_LEAST, cell, load, m, 0),
+        Err(_) => Phrase::Silent,
     }
 }
 
@@ -98,42 +97,23 @@ fn exact_phrase(cell: usize, load: usize, m: usize) -> Phrase
     Phrase::Row(CARRIES, cell, load, m, 0)
 }
 
-// Whether a plan is found.
-fn plan_found(reply: FindAnswer) -> bool
-    ensures { result ≡ by_found true false false false reply }
-{
-    match reply {
-        FindAnswer::Greedy => true,
-        FindAnswer::Renumbered => true,
-        FindAnswer::Searched(_) => true,
-        FindAnswer::Full(_) => false,
-        FindAnswer::FullInClass => false,
-        FindAnswer::FullSearched(_) => false,
-        FindAnswer::NotKnown(_) => false,
-        FindAnswer::TableShort => false,
-        FindAnswer::Refused(_) => false,
-    }
-}
-
 // The end of the first line, after the last word on the site.
-fn word_end(reply: FindAnswer) -> Phrase
+fn word_end(reply: Result<Way, FindError>) -> Phrase
     ensures { result ≡ word_end reply }
 {
     match reply {
-        FindAnswer::Greedy => Phrase::Silent,
-        FindAnswer::Renumbered => Phrase::Silent,
-        FindAnswer::Searched(_) => Phrase::Silent,
-        FindAnswer::Full(_) => Phrase::Row(NO_CELL, 0, 0, 0, 0),
-        FindAnswer::FullInClass => Phrase::Row(NO_CELL, 0, 0, 0, 0),
-        FindAnswer::FullSearched(_) => Phrase::Row(NO_CELL, 0, 0, 0, 0),
-        FindAnswer::NotKnown(_) => Phrase::Row(WHETHER, 0, 0, 0, 0),
-        FindAnswer::TableShort => Phrase::Silent,
-        FindAnswer::Refused(_) => Phrase::Silent,
+        Ok(_) => Phrase::Silent,
+        Err(FindError::Full(_)) => Phrase::Row(NO_CELL, 0, 0, 0, 0),
+        Err(FindError::FullInClass) => Phrase::Row(NO_CELL, 0, 0, 0, 0),
+        Err(FindError::FullSearched(_)) => Phrase::Row(NO_CELL, 0, 0, 0, 0),
+        Err(FindError::NotKnown(_)) => Phrase::Row(WHETHER, 0, 0, 0, 0),
+        Err(FindError::TableShort) => Phrase::Silent,
+        Err(FindError::Record(_)) => Phrase::Silent,
     }
 }
 
 // Puts the end of the first line: that no cell can carry more, or that it is not known whether there is a plan. Where a plan is found there is no such line.
-pub fn put_word_end(out: &mut [u8], at: usize, reply: FindAnswer) -> usize
+pub fn put_word_end(out: &mut [u8], at: usize, reply: Result<Way, FindError>) -> usize
     requires { at + 1000 ≤ length out.old }
     ensures { Put out.old at (phrase room_lines (word_end reply)) 1000 out.new result }
 {
@@ -141,13 +121,19 @@ pub fn put_word_end(out: &mut [u8], at: usize, reply: FindAnswer) -> usize
 }
 
 // The line of the cell at index i, of a site of which find gives this answer; nothing where no plan is found, or the site has no such cell.
-pub fn put_room(out: &mut [u8], at: usize, site: Site, i: usize, reply: FindAnswer) -> usize
+pub fn put_room(
+    out: &mut [u8],
+    at: usize,
+    site: Site,
+    i: usize,
+    reply: Result<Way, FindError>,
+) -> usize
     requires { (i < 32) × (at + 1000 ≤ length out.old) }
     ensures { Put out.old at (phrase room_lines (room_phrase site i reply)) 1000 out.new result }
 {
-    if !plan_found(reply) {
+    let Ok(_) = reply else {
         return at;
-    }
+    };
     let loads = site.loads;
     let load = loads::wide(loads[i]) as usize;
     let more = rooms::room_of(site, i + 1);
@@ -155,13 +141,10 @@ pub fn put_room(out: &mut [u8], at: usize, site: Site, i: usize, reply: FindAnsw
 }
 
 // Whether a plan is found with n open positions, which are fewer than m.
-fn own_does(reply: FindAnswer, n: usize, m: usize) -> bool
+fn own_does(reply: Result<Way, FindError>, n: usize, m: usize) -> bool
     ensures { result ≡ own_does reply n m }
 {
-    if !plan_found(reply) {
-        return false;
-    }
-    n < m
+    reply.is_ok() && n < m
 }
 
 // So many will do, beside those that it has: the row is the first of three.
@@ -257,9 +240,15 @@ fn either(own: bool, a: usize, b: usize) -> usize
 }
 
 // The line of the size of an accepted site, whose heaviest clash has load l.
-fn put_sized(out: &mut [u8], at: usize, site: Site, reply: FindAnswer, l: usize) -> usize
+fn put_sized(
+    out: &mut [u8],
+    at: usize,
+    site: Site,
+    reply: Result<Way, FindError>,
+    l: usize,
+) -> usize
     requires at_in_bounds { at + 2000 ≤ length out.old }
-    requires site_value { fault_of site ≡ Fine }
+    requires site_value { fault_of site ≡ Ok tt }
     ensures { Put out.old at (sized_said site reply l (least_number (least_answer site))) 2000 out.new result }
 {
     let slots = site.slots as usize;
@@ -280,13 +269,12 @@ fn put_sized(out: &mut [u8], at: usize, site: Site, reply: FindAnswer, l: usize)
 
 // How many slots will do for a site of which find gives this answer, next to how many it has; open channel-slots where something is blocked. A refused record
 // has no text.
-pub fn put_size(out: &mut [u8], at: usize, site: Site, reply: FindAnswer) -> usize
+pub fn put_size(out: &mut [u8], at: usize, site: Site, reply: Result<Way, FindError>) -> usize
     requires { at + 2000 ≤ length out.old }
     ensures { Put out.old at (size_said site reply) 2000 out.new result }
 {
-    let found = heaviest::heaviest(site);
-    match found {
-        HeaviestAnswer::Done(l, _) => put_sized(out, at, site, reply, l),
-        HeaviestAnswer::Refused(_) => at,
+    match heaviest::heaviest(site) {
+        Ok((l, _)) => put_sized(out, at, site, reply, l),
+        Err(_) => at,
     }
 }

@@ -21,7 +21,7 @@ use Rattle.site.specs.Record.{fault_of}
 use Rattle.site.specs.Reach.{reaches, reached_by_both, clash_in}
 use Rattle.site.specs.Means.{UpTo, Reaches, Third, Clashing}
 use Rattle.site.specs.declared.Site.{Site}
-use Rattle.site.specs.declared.Fault.TheVariants.{Fine}
+use Rattle.std.specs.Prelude.{Ok}
 use Rattle.site.proofs.Accepted.{fine-reach}
 use Rattle.site.proofs.Faults.{fine-sized}
 use Rattle.phrases.specs.declared.Phrase.TheVariants.{Silent, Row}
@@ -66,7 +66,7 @@ back k = omega arith
 up : (a : ℕ) → 1 ≤ a → a - 1 + 1 ≡ a
 up a h = omega arith
 
-module _ (s : Site) (fine : fault_of s ≡ Fine) (a b : ℕ) (first_in_holds : UpTo 32 a) (second_in_holds : UpTo 32 b) where
+module _ (s : Site) (fine : fault_of s ≡ Ok tt) (a b : ℕ) (first_in_holds : UpTo 32 a) (second_in_holds : UpTo 32 b) where
   abbrev third : ℕ
   third = third_of s.reach (a - 1) (b - 1)
 
@@ -140,7 +140,7 @@ module _ (s : Site) (fine : fault_of s ≡ Fine) (a b : ℕ) (first_in_holds : U
         omega (arith, least c t.third),
       )
 
-module _ (s : Site) (fine : fault_of s ≡ Fine) where
+module _ (s : Site) (fine : fault_of s ≡ Ok tt) where
   pub line-said : (a b c : ℕ) → ByThird s a b c → third_phrase s.reach (a - 1) (b - 1) ≡ Row third_row a b c 0
   line-said a b c t =
       let most : s.cells ≤ 32 = (fine-sized s fine).cells_most in

@@ -54,14 +54,12 @@ pub fn third_of(reach: [u32; 32], a: usize, b: usize) -> usize
 {
     let first = reach[a];
     let second = reach[b];
-    let mut c = 0;
-    while c < 32 {
+    for c in 0..32 {
         if in_both(first, second, a, b, c) {
             return c;
         }
-        c += 1;
     }
-    c
+    32
 }
 
 // Two cells, the lower first, and the third cell; nothing where one of the two reaches the other, or there is no third.
@@ -91,10 +89,8 @@ fn put_seconds(out: &mut [u8], at: usize, reach: [u32; 32], a: usize) -> usize
     ensures { Put out.old at (seconds_said reach a 32) 22400 out.new result }
 {
     let mut next = at;
-    let mut b = 0;
-    while b < 32 {
+    for b in 0..32 {
         next = put(out, next, third_phrase(reach, a, b));
-        b += 1;
     }
     next
 }

@@ -1,6 +1,6 @@
 -- The runs of some rows, computed letter by letter. Assumes nothing.
 use mathlib.Core.Path.{◌≡◌, refl}
-use mathlib.Core.List.{List, [], ◌∷◌}
+use mathlib.Core.List.{[], ◌∷◌}
 use Rattle.laws.specs.Part.{list_of}
 use Rattle.laws.specs.Search.{first_of}
 use Rattle.faults.specs.Faults.{in_turn}

@@ -77,28 +77,24 @@ fn run_end(row: &[u32], i: usize) -> usize
     ensures { (result ≡ run_stop row.now i) × (result ≤ length row.now) }
 {
     let number = row[i];
-    let mut j = i + 1;
-    while j < row.len() {
+    for j in i + 1..row.len() {
         if row[j] != number {
             return j;
         }
-        j += 1;
     }
-    j
+    row.len()
 }
 
 // The first place whose number is not 0.
 fn first_used(row: &[u32]) -> usize
     ensures { result ≡ first (λ j. not (eqb (get_or row.now j 0) 0)) 0 (length row.now) }
 {
-    let mut j = 0;
-    while j < row.len() {
-        if row[j] != 0 {
+    for (j, &number) in row.iter().enumerate() {
+        if number != 0 {
             return j;
         }
-        j += 1;
     }
-    j
+    row.len()
 }
 
 // Whether there is a run.
@@ -145,10 +141,8 @@ fn put_numbers(out: &mut [u8], at: usize, row: &[u32]) -> usize
     ensures { Put out.old at (spans_said row.now) 96 out.new result }
 {
     let mut next = at;
-    let mut i = 0;
-    while i < row.len() {
+    for i in 0..row.len() {
         next = put(out, next, run_phrase(NUMBERS, row, i));
-        i += 1;
     }
     next
 }
@@ -255,10 +249,8 @@ pub fn put_runs(out: &mut [u8], at: usize, channels: usize, row: &[u32]) -> usiz
     ensures { Put out.old at (runs_said channels row.now) 45568 out.new result }
 {
     let mut next = at;
-    let mut slot = 0;
-    while slot < row.len() {
+    for slot in 0..row.len() {
         next = put_run(out, next, channels, row, slot);
-        slot += 1;
     }
     next
 }

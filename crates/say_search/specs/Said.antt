@@ -1,8 +1,8 @@
 -- The text of `duggfrask search`: W13, "For sites outside W9's class the desk needs to know whether the site is full."
-use Rattle.std.specs.Prelude.{ℕ, ◌+◌, List, eqb}
+use Rattle.std.specs.Prelude.{ℕ, ◌+◌, List, eqb, Result, Ok, Err}
 use Rattle.laws.specs.Choice.{pick}
-use Rattle.search.specs.declared.SearchAnswer.{SearchAnswer}
-use Rattle.search.specs.declared.SearchAnswer.TheVariants.{Plan, Full, Limit, TooMany, TableShort, Refused}
+use Rattle.search.specs.declared.SearchError.{SearchError}
+use Rattle.search.specs.declared.SearchError.TheVariants.{Full, Limit, TooMany, TableShort, Record}
 use Rattle.phrases.specs.Phrases.{phrase}
 use Rattle.phrases.specs.declared.Phrase.{Phrase}
 use Rattle.phrases.specs.declared.Phrase.TheVariants.{Silent, Row}
@@ -16,22 +16,22 @@ abbrev pub tries_phrase : (row tries : ℕ) → Phrase
 tries_phrase row tries = pick (eqb tries 1) (Row (row + 1) 0 0 0 0) (Row row tries 0 0 0)
 
 -- "the answer is a plan, "none exists" or "limit met", with the tries made"
-abbrev pub search_phrase : SearchAnswer → Phrase
-search_phrase (Plan n) = tries_phrase planned_after_row n
-search_phrase (Full n) = tries_phrase exhausted_row n
-search_phrase (Limit n) = tries_phrase stopped_row n
-search_phrase TooMany = Silent
-search_phrase TableShort = Silent
-search_phrase (Refused f) = Silent
+abbrev pub search_phrase : Result ℕ SearchError → Phrase
+search_phrase (Ok n) = tries_phrase planned_after_row n
+search_phrase (Err (Full n)) = tries_phrase exhausted_row n
+search_phrase (Err (Limit n)) = tries_phrase stopped_row n
+search_phrase (Err TooMany) = Silent
+search_phrase (Err TableShort) = Silent
+search_phrase (Err (Record f)) = Silent
 
 -- that; 25; 4; or what is wrong with the record
-abbrev pub search_said : SearchAnswer → List ℕ
-search_said (Plan n) = phrase search_lines (search_phrase (Plan n))
-search_said (Full n) = phrase search_lines (search_phrase (Full n))
-search_said (Limit n) = phrase search_lines (search_phrase (Limit n))
-search_said TooMany = refused_line 25 place.Nowhere
-search_said TableShort = refused_line 4 place.Nowhere
-search_said (Refused f) = fault_said f
+abbrev pub search_said : Result ℕ SearchError → List ℕ
+search_said (Ok n) = phrase search_lines (search_phrase (Ok n))
+search_said (Err (Full n)) = phrase search_lines (search_phrase (Err (Full n)))
+search_said (Err (Limit n)) = phrase search_lines (search_phrase (Err (Limit n)))
+search_said (Err TooMany) = refused_line 25 place.Nowhere
+search_said (Err TableShort) = refused_line 4 place.Nowhere
+search_said (Err (Record f)) = fault_said f
 
 -- on a terminal, of a search with rising limits: said where a limit is met and a larger one comes
 abbrev pub on_phrase : ℕ → Phrase

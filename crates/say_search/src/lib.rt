@@ -9,7 +9,7 @@ ghost use Rattle.say_search.specs.Said.{tries_phrase, search_said, on_said};
 
 use phrases::{Phrase, put_phrase};
 use say_refusals::Place;
-use search::SearchAnswer;
+use search::SearchError;
 
 const PLANNED: usize = 0;
 
@@ -58,17 +58,17 @@ fn put_tries(out: &mut [u8], at: usize, row: usize, tries: u64) -> usize
 }
 
 // A search: planned, full or not known, with the tries made; or the refusal.
-pub fn put_search(out: &mut [u8], at: usize, reply: SearchAnswer) -> usize
+pub fn put_search(out: &mut [u8], at: usize, reply: Result<u64, SearchError>) -> usize
     requires { at + 2000 ≤ length out.old }
     ensures { Put out.old at (search_said reply) 2000 out.new result }
 {
     match reply {
-        SearchAnswer::Plan(tries) => put_tries(out, at, PLANNED, tries),
-        SearchAnswer::Full(tries) => put_tries(out, at, FULL, tries),
-        SearchAnswer::Limit(tries) => put_tries(out, at, STOPPED, tries),
-        SearchAnswer::TooMany => say_refusals::put_refused(out, at, 25, Place::Nowhere),
-        SearchAnswer::TableShort => say_refusals::put_refused(out, at, 4, Place::Nowhere),
-        SearchAnswer::Refused(f) => say_verdicts::put_fault(out, at, f),
+        Ok(tries) => put_tries(out, at, PLANNED, tries),
+        Err(SearchError::Full(tries)) => put_tries(out, at, FULL, tries),
+        Err(SearchError::Limit(tries)) => put_tries(out, at, STOPPED, tries),
+        Err(SearchError::TooMany) => say_refusals::put_refused(out, at, 25, Place::Nowhere),
+        Err(SearchError::TableShort) => say_refusals::put_refused(out, at, 4, Place::Nowhere),
+        Err(SearchError::Record(f)) => say_verdicts::put_fault(out, at, f),
     }
 }
 

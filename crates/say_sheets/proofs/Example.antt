@@ -2,6 +2,7 @@
 use mathlib.Core.List.{[], ◌∷◌}
 use mathlib.Core.Path.{◌≡◌, refl}
 use Prim.Native.Nat.{ℕ}
+use Rattle.std.specs.Prelude.{Err}
 use Rattle.laws.specs.Sum.{sum, any}
 use Rattle.text.specs.Decimal.{digits_of, decimal}
 use Rattle.speech.specs.Speech.{bytes, spoken}
@@ -9,7 +10,7 @@ use Rattle.site.specs.Record.{site_of}
 use Rattle.site.specs.Reach.{reaches, reached_by_both, clash_in}
 use Rattle.site.specs.declared.Site.{Site}
 use Rattle.clashcount.specs.Count.{clash_count}
-use Rattle.tidying.specs.declared.TidyAnswer.TheVariants.{BadLine}
+use Rattle.tidying.specs.declared.TidyError.TheVariants.{BadLine}
 use Rattle.say_sheets.specs.Lines.{line_fault_lines, tidy_lines, made_lines}
 use Rattle.say_sheets.specs.Said.{line_fault_said, named_said, tidy_said, made_said}
 
@@ -29,7 +30,7 @@ changes-said :
     named_said 4 (record { times = 6; line = 1 })
     ∷ named_said 5 (record { times = 1; line = 2 })
     ∷ named_said 7 (record { times = 0; line = 0 })
-    ∷ tidy_said [] (BadLine 3)
+    ∷ tidy_said [] (Err (BadLine 3))
     ∷ []
     ≡ bytes "from line 1 on, 6 times: a quote dropped\n"
     ∷ bytes "line 2: a blank dropped\n"

@@ -1,5 +1,5 @@
 -- What is said of a bad line, of a tidied sheet, and of a site that was made of a sheet.
-use Rattle.std.specs.Prelude.{ℕ, zero, suc, ◌+◌, not, List, [], ◌++◌, eqb}
+use Rattle.std.specs.Prelude.{ℕ, zero, suc, ◌+◌, not, List, [], ◌++◌, eqb, Result, Ok, Err}
 use Rattle.laws.specs.Choice.{pick}
 use Rattle.laws.specs.Search.{first}
 use Rattle.site.specs.declared.Site.{Site}
@@ -8,10 +8,10 @@ use Rattle.cleaning.specs.Clean.{changes_of}
 use Rattle.cleaning.specs.declared.Tidied.{Tidied}
 use Rattle.linefaults.specs.Fault.{fault_of_line}
 use Rattle.linefaults.specs.declared.LineFault.{LineFault}
-use Rattle.sheet.specs.declared.SheetAnswer.{SheetAnswer}
-use Rattle.sheet.specs.declared.SheetAnswer.TheVariants as sheet
-use Rattle.tidying.specs.declared.TidyAnswer.{TidyAnswer}
-use Rattle.tidying.specs.declared.TidyAnswer.TheVariants as tidying
+use Rattle.sheet.specs.declared.SheetError.{SheetError}
+use Rattle.sheet.specs.declared.SheetError.TheVariants as sheet
+use Rattle.tidying.specs.declared.TidyError.{TidyError}
+use Rattle.tidying.specs.declared.TidyError.TheVariants as tidying
 use Rattle.phrases.specs.Phrases.{phrase}
 use Rattle.phrases.specs.declared.Phrase.{Phrase}
 use Rattle.phrases.specs.declared.Phrase.TheVariants.{Row}
@@ -28,13 +28,13 @@ line_fault_said line f = phrase line_fault_lines (Row f.reason line f.place 0 0)
 
 -- "A range sheet's 17 says why, where it can be told"; else it says what the number means
 abbrev pub bad_line_said : List ℕ → ℕ → List ℕ
-bad_line_said b line = pick (eqb (fault_of_line b line).reason 0) (sheet_said (sheet.BadLine line)) (line_fault_said line (fault_of_line b line))
+bad_line_said b line = pick (eqb (fault_of_line b line).reason 0) (sheet_said (Err (sheet.BadLine line))) (line_fault_said line (fault_of_line b line))
 
 -- nothing to say; 17 and the line; or what is wrong with the site
-abbrev pub sheet_refused_said : List ℕ → SheetAnswer → List ℕ
-sheet_refused_said b sheet.Done = sheet_said sheet.Done
-sheet_refused_said b (sheet.BadLine line) = bad_line_said b line
-sheet_refused_said b (sheet.Refused f) = sheet_said (sheet.Refused f)
+abbrev pub sheet_refused_said : List ℕ → Result Unit SheetError → List ℕ
+sheet_refused_said b (Ok u) = sheet_said (Ok u)
+sheet_refused_said b (Err (sheet.BadLine line)) = bad_line_said b line
+sheet_refused_said b (Err (sheet.Record f)) = sheet_said (Err (sheet.Record f))
 
 -- ---- a sheet that is tidied
 
@@ -60,10 +60,10 @@ tidied_said s =
     pick (eqb (first_change s) 8) (phrase tidy_lines (Row as_it_is_row 0 0 0 0)) (phrase tidy_lines (Row tidied_row 0 0 0 0) ++ tidy_changes_said s 8)
 
 -- what was changed; 13; or "a sheet that can't be tidied is refused with its line"
-abbrev pub tidy_said : List ℕ → TidyAnswer → List ℕ
-tidy_said s (tidying.Done n) = tidied_said s
-tidy_said s (tidying.OutShort n) = refused_line 13 Nowhere
-tidy_said s (tidying.BadLine line) = phrase tidy_lines (Row not_tidied_row line 0 0 0)
+abbrev pub tidy_said : List ℕ → Result ℕ TidyError → List ℕ
+tidy_said s (Ok n) = tidied_said s
+tidy_said s (Err (tidying.OutShort n)) = refused_line 13 Nowhere
+tidy_said s (Err (tidying.BadLine line)) = phrase tidy_lines (Row not_tidied_row line 0 0 0)
 
 -- ---- a site that is made
 

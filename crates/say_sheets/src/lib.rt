@@ -16,9 +16,9 @@ use linefaults::{LineFault, fault_of_line};
 use phrases::{Phrase, put_phrase};
 use say_refusals::{Place, put_refused};
 use say_verdicts::put_sheet_read;
-use sheet::SheetAnswer;
+use sheet::SheetError;
 use site::Site;
-use tidying::{TidyAnswer, changes_made};
+use tidying::{TidyError, changes_made};
 
 // How many kinds of changes there are.
 const KINDS: u8 = 8;
@@ -68,20 +68,24 @@ fn put_bad_line(out: &mut [u8], at: usize, sheet: &[u8], line: usize) -> usize
 {
     let fault = fault_of_line(sheet, line);
     if fault.reason == 0 {
-        return put_sheet_read(out, at, SheetAnswer::BadLine(line));
+        return put_sheet_read(out, at, Err(SheetError::BadLine(line)));
     }
     put_line_fault(out, at, line, fault)
 }
 
 // A sheet that was read, or its refusal.
-pub fn put_sheet_refused(out: &mut [u8], at: usize, sheet: &[u8], reply: SheetAnswer) -> usize
+pub fn put_sheet_refused(
+    out: &mut [u8],
+    at: usize,
+    sheet: &[u8],
+    reply: Result<(), SheetError>,
+) -> usize
     requires { at + 2000 ≤ length out.old }
     ensures { Put out.old at (sheet_refused_said sheet.now reply) 2000 out.new result }
 {
     match reply {
-        SheetAnswer::Done => put_sheet_read(out, at, reply),
-        SheetAnswer::BadLine(line) => put_bad_line(out, at, sheet, line),
-        SheetAnswer::Refused(_) => put_sheet_read(out, at, reply),
+        Err(SheetError::BadLine(line)) => put_bad_line(out, at, sheet, line),
+        _ => put_sheet_read(out, at, reply),
     }
 }
 
@@ -138,11 +142,9 @@ fn put_changes(out: &mut [u8], at: usize, sheet: &[u8]) -> usize
     ensures { Put out.old at (tidy_changes_said sheet.now 8) 8000 out.new result }
 {
     let mut next = at;
-    let mut done: u8 = 0;
-    while done < KINDS {
+    for done in 0..KINDS {
         let kind = done + 1;
         next = put_named(out, next, kind, changes_made(sheet, kind));
-        done += 1;
     }
     next
 }
@@ -160,14 +162,12 @@ fn is_made(sheet: &[u8], done: u8) -> bool
 fn first_change(sheet: &[u8]) -> u8
     ensures { result ≡ first_change sheet.now }
 {
-    let mut done: u8 = 0;
-    while done < KINDS {
+    for done in 0..KINDS {
         if is_made(sheet, done) {
             return done;
         }
-        done += 1;
     }
-    done
+    KINDS
 }
 
 // What was tidied in a sheet, a line for each thing; or that there was nothing to change.
@@ -183,14 +183,14 @@ fn put_tidied(out: &mut [u8], at: usize, sheet: &[u8]) -> usize
 }
 
 // What tidying answered: what was changed, or the line that can't be tidied.
-pub fn put_tidy(out: &mut [u8], at: usize, sheet: &[u8], reply: TidyAnswer) -> usize
+pub fn put_tidy(out: &mut [u8], at: usize, sheet: &[u8], reply: Result<usize, TidyError>) -> usize
     requires { at + 9000 ≤ length out.old }
     ensures { Put out.old at (tidy_said sheet.now reply) 9000 out.new result }
 {
     match reply {
-        TidyAnswer::Done(_) => put_tidied(out, at, sheet),
-        TidyAnswer::OutShort(_) => put_refused(out, at, 13, Place::Nowhere),
-        TidyAnswer::BadLine(line) => put(out, at, Phrase::Row(NOT_TIDIED, line, 0, 0, 0)),
+        Ok(_) => put_tidied(out, at, sheet),
+        Err(TidyError::OutShort(_)) => put_refused(out, at, 13, Place::Nowhere),
+        Err(TidyError::BadLine(line)) => put(out, at, Phrase::Row(NOT_TIDIED, line, 0, 0, 0)),
     }
 }
 

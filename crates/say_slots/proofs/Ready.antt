@@ -5,7 +5,7 @@ use mathlib.Core.Bool.{Bool, ◌&&◌, ◌||◌, not}
 use mathlib.Core.List.{List}
 use native.Mathlib.Omega.{arith}
 use lib.ListN.{length, get_or}
-use Rattle.laws.specs.Bits.{bit_at, bit_in}
+use Rattle.laws.specs.Bits.{bit_at}
 use Rattle.laws.specs.Sum.{any}
 use Rattle.laws.proofs.Grid.{row_before, inside}
 use Rattle.laws.proofs.Search.{first-least, first-most}
@@ -13,7 +13,7 @@ use Rattle.theory.specs.Greedy.{reserved}
 use Rattle.positions.specs.Blocked.{blocked_at}
 use Rattle.site.specs.Record.{positions, size}
 use Rattle.site.specs.declared.Site.{Site}
-use Rattle.site.proofs.Faults.{Sized, few_bytes}
+use Rattle.site.proofs.Faults.{Sized, few-positions, few_bytes}
 use Rattle.drawing.specs.Slots.{meets, keeps_clear, sends_wrong, marked_in, run_past}
 use Rattle.say_slots.specs.Code.{Drawn}
 
@@ -26,6 +26,9 @@ module _ (s : Site) (sizes : Sized s) where
 
   pub place_in : (slot channel : ℕ) → slot < s.slots → channel < s.channels → slot * s.channels + channel < positions s
   place_in slot channel l m = inside s.slots s.channels slot channel l m
+
+  pub place-few : (slot channel : ℕ) → slot < s.slots → channel < s.channels → slot * s.channels + channel < 2048
+  place-few slot channel l m = omega (arith, place_in slot channel l m, few-positions sizes)
 
 module _ (s : Site) (t : List ℕ) where
   pub past-least : (mark i channel slot : ℕ) → slot ≤ run_past s t mark i channel slot

@@ -2,7 +2,7 @@
 // 0. The clash rows of the site are made once, by the caller.
 #![tactic(auto)]
 
-ghost use Rattle.std.specs.Prelude.{◌≡◌, ◌&&◌, ◌||◌, not, ◌+◌, ◌*◌, ◌%◌, ◌≤◌, ◌<◌, eqb, ltb, length};
+ghost use Rattle.std.specs.Prelude.{◌≡◌, ◌&&◌, ◌||◌, not, ◌+◌, ◌-◌, ◌*◌, ◌%◌, ◌≤◌, ◌<◌, eqb, ltb, length};
 ghost use Rattle.laws.specs.Bits.{bit_at};
 ghost use Rattle.laws.specs.Choice.{pick};
 ghost use Rattle.laws.specs.Sum.{any};
@@ -12,17 +12,17 @@ ghost use Rattle.site.specs.Record.{positions, size};
 ghost use Rattle.site.specs.Means.{Sized};
 ghost use Rattle.phrases.specs.Put.{Put};
 ghost use Rattle.phrases.specs.Phrases.{phrase};
-ghost use Rattle.phrases.specs.declared.Phrase.TheVariants.{Row};
+ghost use Rattle.phrases.specs.declared.Phrase.TheVariants.{Row, Silent};
 ghost use Rattle.drawing.specs.Lines.{mark_lines, band_lines};
-ghost use Rattle.drawing.specs.Places.{lesser, slot_wide, channel_high, down_of};
+ghost use Rattle.drawing.specs.Places.{slot_wide, channel_high, down_of};
 ghost use Rattle.say_slots.specs.Code.{Drawn};
-ghost use Rattle.drawing.specs.Slots.{marked_as, run_begins, run_past, mark_phrase, marks_of_kind, edge_phrase, frame_phrase, name_phrase};
+ghost use Rattle.drawing.specs.Slots.{marked_as, run_past, marks_of_kind, edge_phrase, frame_phrase, name_phrase};
 ghost use Rattle.drawing.specs.Slots.{every_slot, slot_phrase, slot_numbers};
 
 use phrases::{Phrase, put_phrase};
 use positions::is_blocked;
 use site::Site;
-use words::has;
+use words::lowest;
 
 const BLOCKED: usize = 0;
 
@@ -76,23 +76,13 @@ fn put_frame(out: &mut [u8], at: usize, what: Phrase) -> usize
     )
 }
 
-// The less of two numbers.
-pub fn less_of(a: usize, b: usize) -> usize
-    ensures { result ≡ lesser a b }
-{
-    if b < a {
-        return b;
-    }
-    a
-}
-
 // How wide a slot is.
 pub fn slot_wide(site: Site) -> usize
     requires { Sized site }
     ensures { result ≡ slot_wide site }
 {
     let slots = site.slots as usize;
-    less_of(416, 1664 / slots)
+    (1664 / slots).min(416)
 }
 
 // How high a channel is in a band.
@@ -101,7 +91,7 @@ pub fn channel_high(site: Site) -> usize
     ensures { result ≡ channel_high site }
 {
     let rows = (site.cells as usize) * (site.channels as usize);
-    less_of(48, 1536 / rows)
+    (1536 / rows).min(48)
 }
 
 // How far down a channel of a cell's band begins.
@@ -114,83 +104,70 @@ fn down(site: Site, high: usize, i: usize, channel: usize) -> usize
     TOP + (i * step + channel * high)
 }
 
-// Whether cell c sends at position k and the row has it.
-fn met(table: &[u8], n: usize, row: u32, c: usize, k: usize) -> bool
-    requires { (k < n) × (n ≤ 2048) × (c < 32) × (c * n + n ≤ length table.now) }
-    ensures { result ≡ (reserved n table.now c k && bit_at row c) }
-{
-    if table[c * n + k] != 1 {
-        return false;
-    }
-    has(row, c)
-}
-
 // Whether one of the cells of the row sends at position k.
 fn meets_one(table: &[u8], n: usize, row: u32, cells: usize, k: usize) -> bool
     requires { (k < n) × (n ≤ 2048) × (cells ≤ 32) × (cells * n ≤ length table.now) }
     ensures { result ≡ any (λ c. reserved n table.now c k && bit_at row c) cells }
 {
-    let mut c = 0;
+    let mut c = lowest(row, 0, cells);
+    // From member to member of a word: no index is counted.
     while c < cells {
-        if met(table, n, row, c, k) {
+        if table[c * n + k] == 1 {
             return true;
         }
-        c += 1;
+        c = lowest(row, c + 1, cells);
     }
     false
 }
 
 // Whether cell i is silent at position k, where a cell of its clash row sends and nothing is blocked.
-fn keeps_clear(site: Site, table: &[u8], row: u32, i: usize, k: usize) -> bool
-    requires { Sized site × (size site ≤ length table.now) × (i < site.cells) × (k < positions site) }
-    ensures { result ≡ (not (reserved (positions site) table.now i k)
-        && (not (blocked_at site.blocked k) && any (λ c. reserved (positions site) table.now c k && bit_at row c) site.cells)) }
+fn keeps_clear(site: &Site, table: &[u8], row: u32, i: usize, k: usize) -> bool
+    requires { Sized site.now × (size site.now ≤ length table.now) × (i < site.now.cells) × (k < positions site.now) }
+    ensures { result ≡ (not (reserved (positions site.now) table.now i k)
+        && (not (blocked_at site.now.blocked k) && any (λ c. reserved (positions site.now) table.now c k && bit_at row c) site.now.cells)) }
 {
     let n = (site.slots as usize) * (site.channels as usize);
     if table[i * n + k] == 1 {
         return false;
     }
-    let blocked = site.blocked;
-    if is_blocked(&blocked, k) {
+    if is_blocked(&site.blocked, k) {
         return false;
     }
     meets_one(table, n, row, site.cells as usize, k)
 }
 
 // Whether cell i sends at position k, where it is blocked or a cell of its clash row sends too.
-fn sends_wrong(site: Site, table: &[u8], row: u32, i: usize, k: usize) -> bool
-    requires { Sized site × (size site ≤ length table.now) × (i < site.cells) × (k < positions site) }
-    ensures { result ≡ (reserved (positions site) table.now i k
-        && (blocked_at site.blocked k || any (λ c. reserved (positions site) table.now c k && bit_at row c) site.cells)) }
+fn sends_wrong(site: &Site, table: &[u8], row: u32, i: usize, k: usize) -> bool
+    requires { Sized site.now × (size site.now ≤ length table.now) × (i < site.now.cells) × (k < positions site.now) }
+    ensures { result ≡ (reserved (positions site.now) table.now i k
+        && (blocked_at site.now.blocked k || any (λ c. reserved (positions site.now) table.now c k && bit_at row c) site.now.cells)) }
 {
     let n = (site.slots as usize) * (site.channels as usize);
     if table[i * n + k] != 1 {
         return false;
     }
-    let blocked = site.blocked;
-    if is_blocked(&blocked, k) {
+    if is_blocked(&site.blocked, k) {
         return true;
     }
     meets_one(table, n, row, site.cells as usize, k)
 }
 
 // Whether cell i sends at position k.
-fn sends_at(site: Site, table: &[u8], i: usize, k: usize) -> bool
-    requires { Sized site × (size site ≤ length table.now) × (i < site.cells) × (k < positions site) }
-    ensures { result ≡ reserved (positions site) table.now i k }
+fn sends_at(site: &Site, table: &[u8], i: usize, k: usize) -> bool
+    requires { Sized site.now × (size site.now ≤ length table.now) × (i < site.now.cells) × (k < positions site.now) }
+    ensures { result ≡ reserved (positions site.now) table.now i k }
 {
     let n = (site.slots as usize) * (site.channels as usize);
     table[i * n + k] == 1
 }
 
 // Whether cell i has the mark at position k.
-fn marked(site: Site, table: &[u8], clash: [u32; 32], mark: usize, i: usize, k: usize) -> bool
-    requires { Drawn site table.now clash × (i < site.cells) × (k < positions site) }
-    ensures { result ≡ marked_as site table.now mark i k }
+fn marked(site: &Site, table: &[u8], clash: &[u32; 32], mark: usize, i: usize, k: usize) -> bool
+    requires { Drawn site.now table.now clash.now × (i < site.now.cells) × (k < positions site.now) }
+    ensures { result ≡ marked_as site.now table.now mark i k }
 {
     if mark == BLOCKED {
-        let blocked = site.blocked;
-        return is_blocked(&blocked, k);
+        return is_blocked(&site.blocked, k);
     }
     if mark == CLEAR {
         return keeps_clear(site, table, clash[i], i, k);
@@ -201,75 +178,37 @@ fn marked(site: Site, table: &[u8], clash: [u32; 32], mark: usize, i: usize, k: 
     sends_wrong(site, table, clash[i], i, k)
 }
 
-// Whether a run of the mark begins at a slot.
-fn run_begins(
-    site: Site,
-    table: &[u8],
-    clash: [u32; 32],
-    mark: usize,
-    i: usize,
-    channel: usize,
-    slot: usize,
-) -> bool
-    requires { Drawn site table.now clash × (i < site.cells) × (channel < site.channels) × (slot < site.slots) }
-    ensures { result ≡ run_begins site table.now mark i channel slot }
-{
-    let channels = site.channels as usize;
-    if !marked(site, table, clash, mark, i, slot * channels + channel) {
-        return false;
-    }
-    if slot == 0 {
-        return true;
-    }
-    !marked(site, table, clash, mark, i, (slot - 1) * channels + channel)
-}
-
-// The first slot past a run that begins at a slot.
+// The first slot from a slot on that has not the mark.
 fn run_past(
-    site: Site,
+    site: &Site,
     table: &[u8],
-    clash: [u32; 32],
+    clash: &[u32; 32],
     mark: usize,
     i: usize,
     channel: usize,
     slot: usize,
 ) -> usize
-    requires { Drawn site table.now clash × (i < site.cells) × (channel < site.channels) × (slot < site.slots) }
-    ensures { result ≡ run_past site table.now mark i channel slot }
+    requires { Drawn site.now table.now clash.now × (i < site.now.cells) × (channel < site.now.channels) × (slot < site.now.slots) }
+    ensures { result ≡ run_past site.now table.now mark i channel slot }
 {
     let slots = site.slots as usize;
     let channels = site.channels as usize;
-    let mut j = slot;
-    while j < slots {
+    for j in slot..slots {
         if !marked(site, table, clash, mark, i, j * channels + channel) {
             return j;
         }
-        j += 1;
     }
-    j
+    slots
 }
 
-// The mark of the run that begins at a slot, or nothing. A slot is so wide, a channel so high, and this one begins so far down.
-fn mark_phrase(
-    site: Site,
-    table: &[u8],
-    clash: [u32; 32],
-    mark: usize,
-    i: usize,
-    channel: usize,
-    slot: usize,
-    wide: usize,
-    high: usize,
-    y: usize,
-) -> Phrase
-    requires drawn { Drawn site table.now clash × (i < site.cells) × (channel < site.channels) × (slot < site.slots) }
-    requires wide_value { (wide ≡ slot_wide site) × (high ≡ channel_high site) × (y ≡ down_of site i channel) }
-    ensures { result ≡ mark_phrase site table.now mark i channel slot }
+// The mark of a run of slots, or nothing where there is none in it. A slot is so wide, a channel so high, and this one begins so far down.
+fn run_phrase(mark: usize, slot: usize, past: usize, wide: usize, high: usize, y: usize) -> Phrase
+    requires { (slot ≤ past) × (past ≤ 128) × (wide ≤ 416) }
+    ensures { result ≡ pick (ltb slot past) (Row mark (150 + slot * wide) y ((past - slot) * wide) high) Silent }
 {
-    if !run_begins(site, table, clash, mark, i, channel, slot) {
+    if slot == past {
         return Phrase::Silent;
     }
-    let past = run_past(site, table, clash, mark, i, channel, slot);
     Phrase::Row(mark, LEFT + slot * wide, y, (past - slot) * wide, high)
 }
 
@@ -293,13 +232,11 @@ pub fn put_marks(
     let y = down(site, high, i, channel);
     let mut next = at;
     let mut slot = 0;
+    // From run to run: a turn takes as many slots as the run has.
     while slot < slots {
-        next = put_one_mark(
-            out,
-            next,
-            mark_phrase(site, table, clash, mark, i, channel, slot, wide, high, y),
-        );
-        slot += 1;
+        let past = run_past(&site, table, &clash, mark, i, channel, slot);
+        next = put_one_mark(out, next, run_phrase(mark, slot, past, wide, high, y));
+        slot = past.max(slot + 1);
     }
     next
 }
@@ -392,10 +329,8 @@ pub fn put_numbers(out: &mut [u8], at: usize, site: Site) -> usize
 {
     let slots = site.slots as usize;
     let mut next = at;
-    let mut slot = 0;
-    while slot < slots {
+    for slot in 0..slots {
         next = put_frame(out, next, slot_phrase(site, slot));
-        slot += 1;
     }
     next
 }

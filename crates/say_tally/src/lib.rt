@@ -8,8 +8,8 @@ ghost use Rattle.laws.specs.Sum.{bit};
 ghost use Rattle.say_tally.specs.Marks.{found_mark, plan_mark, verdict_said, mark_of, refused_mark, marks_with};
 ghost use Rattle.say_tally.specs.Said.{tally_lines, sites_phrase, plans_phrase, totals_said, all_well};
 
-use checker::CheckAnswer;
-use finder::FindAnswer;
+use checker::CheckError;
+use finder::{FindError, Way};
 use phrases::{Phrase, put_phrase};
 
 const SITES: usize = 0;
@@ -31,19 +31,17 @@ pub enum PlanSaid {
 }
 
 // The site's part of a mark: 0 a plan, 1 full, 2 not known, 3 refused.
-fn found_mark(found: FindAnswer) -> u8
+fn found_mark(found: Result<Way, FindError>) -> u8
     ensures { (result ≡ found_mark found) × (result ≤ 3) }
 {
     match found {
-        FindAnswer::Greedy => 0,
-        FindAnswer::Renumbered => 0,
-        FindAnswer::Searched(_) => 0,
-        FindAnswer::Full(_) => 1,
-        FindAnswer::FullInClass => 1,
-        FindAnswer::FullSearched(_) => 1,
-        FindAnswer::NotKnown(_) => 2,
-        FindAnswer::TableShort => 3,
-        FindAnswer::Refused(_) => 3,
+        Ok(_) => 0,
+        Err(FindError::Full(_)) => 1,
+        Err(FindError::FullInClass) => 1,
+        Err(FindError::FullSearched(_)) => 1,
+        Err(FindError::NotKnown(_)) => 2,
+        Err(FindError::TableShort) => 3,
+        Err(FindError::Record(_)) => 3,
     }
 }
 
@@ -61,7 +59,7 @@ fn plan_mark(plan: PlanSaid) -> u8
 }
 
 // What a check says of a plan.
-pub fn verdict_said(verdict: CheckAnswer, unseen: bool) -> PlanSaid
+pub fn verdict_said(verdict: Result<(), CheckError>, unseen: bool) -> PlanSaid
     ensures { result ≡ verdict_said verdict unseen }
 {
     if oneway::is_valid(verdict) {
@@ -74,7 +72,7 @@ pub fn verdict_said(verdict: CheckAnswer, unseen: bool) -> PlanSaid
 }
 
 // The mark of a site and its plan.
-pub fn mark_of(found: FindAnswer, plan: PlanSaid) -> u8
+pub fn mark_of(found: Result<Way, FindError>, plan: PlanSaid) -> u8
     ensures { result ≡ mark_of found plan }
 {
     found_mark(found) + plan_mark(plan)
@@ -104,10 +102,8 @@ fn marks_with(tally: &[u8], a: u8, b: u8, part: u8) -> usize
     ensures { (result ≡ marks_with a b part tally.now) × (result ≤ 65536) }
 {
     let mut n = 0;
-    let mut i = 0;
-    while i < tally.len() {
-        n = one_more(n, tally[i] / a % b == part);
-        i += 1;
+    for &mark in tally {
+        n = one_more(n, mark / a % b == part);
     }
     n
 }

@@ -11,15 +11,15 @@ ghost use Rattle.verdicts.specs.Said.{check_sentence, plan_sentence, bad_flow_ro
 ghost use Rattle.verdicts.specs.Said.{fault_said, read_said, sheet_said, check_said, plan_said, share_said, mend_said, other_plan_line};
 ghost use Rattle.verdicts.specs.Said.{bad_list_line, repeats_line};
 
-use checker::CheckAnswer;
-use mender::MendAnswer;
+use checker::CheckError;
+use mender::MendError;
 use phrases::Phrase;
-use planner::PlanAnswer;
-use records::ReadAnswer;
+use planner::PlanError;
+use records::Refusal;
 use say_refusals::{Place, Sentence, put_sentence};
 use say_ways::{changes_sentence, clash_sentence};
-use shares::ShareAnswer;
-use sheet::SheetAnswer;
+use shares::{Fragments, ShareError, Slots};
+use sheet::SheetError;
 use site::{Fault, Site, within};
 use verdicts::File;
 
@@ -84,11 +84,10 @@ fn put(out: &mut [u8], at: usize, what: Sentence) -> usize
 }
 
 // What is wrong with a record.
-fn fault_sentence(reply: Fault) -> Sentence
-    ensures { result ≡ fault_sentence reply }
+fn fault_sentence(fault: Fault) -> Sentence
+    ensures { result ≡ fault_sentence fault }
 {
-    match reply {
-        Fault::Fine => Sentence::Plain(Phrase::Silent),
+    match fault {
         Fault::Size => Sentence::Refusal(1, Place::Nowhere),
         Fault::Rule => Sentence::Refusal(24, Place::Nowhere),
         Fault::Load(cell) => Sentence::Refusal(2, Place::Cell(cell)),
@@ -108,37 +107,28 @@ fn byte_of(file: File, offset: usize) -> Place
 }
 
 // A file that was read, or its refusal.
-fn read_sentence(file: File, reply: ReadAnswer) -> Sentence
+fn read_sentence(file: File, reply: Result<(), Refusal>) -> Sentence
     ensures { result ≡ read_sentence file reply }
 {
     match reply {
-        ReadAnswer::Done => Sentence::Plain(Phrase::Silent),
-        ReadAnswer::Refused(number, offset) => Sentence::Refusal(
-            number as usize,
-            byte_of(file, offset),
-        ),
+        Ok(()) => Sentence::Plain(Phrase::Silent),
+        Err(refusal) => Sentence::Refusal(refusal.number as usize, byte_of(file, refusal.place)),
     }
 }
 
 // A sheet that was read, or its refusal.
-fn sheet_sentence(reply: SheetAnswer) -> Sentence
+fn sheet_sentence(reply: Result<(), SheetError>) -> Sentence
     ensures { result ≡ sheet_sentence reply }
 {
     match reply {
-        SheetAnswer::Done => Sentence::Plain(Phrase::Silent),
-        SheetAnswer::BadLine(line) => Sentence::Refusal(17, Place::Line(line)),
-        SheetAnswer::Refused(f) => fault_sentence(f),
+        Ok(()) => Sentence::Plain(Phrase::Silent),
+        Err(SheetError::BadLine(line)) => Sentence::Refusal(17, Place::Line(line)),
+        Err(SheetError::Record(fault)) => fault_sentence(fault),
     }
 }
 
-// A load as a number.
-fn wide(x: u16) -> usize
-    ensures { result ≡ x }
-{
-    x as usize
-}
-
 // The load of a cell, by its number.
+#[tactic(auto, unfolding(verdicts::specs::Said::load_named))]
 fn load_of(site: Site, cell: usize) -> usize
     ensures { result ≡ load_named site cell }
 {
@@ -149,10 +139,11 @@ fn load_of(site: Site, cell: usize) -> usize
         return 0;
     }
     let loads = site.loads;
-    wide(loads[cell - 1])
+    loads[cell - 1] as usize
 }
 
 // A cell that sends at a blocked position, by slot and channel.
+#[tactic(auto, unfolding(verdicts::specs::Said::blocked_sentence))]
 fn blocked_sentence(site: Site, p: usize, cell: usize) -> Sentence
     ensures { result ≡ blocked_sentence site p cell }
 {
@@ -167,44 +158,47 @@ fn blocked_sentence(site: Site, p: usize, cell: usize) -> Sentence
 }
 
 // A table that is valid, or the first thing wrong with it.
-fn check_sentence(site: Site, reply: CheckAnswer) -> Sentence
+fn check_sentence(site: Site, reply: Result<(), CheckError>) -> Sentence
     ensures { result ≡ check_sentence site reply }
 {
     match reply {
-        CheckAnswer::Valid => Sentence::Plain(Phrase::Row(VALID, 0, 0, 0, 0)),
-        CheckAnswer::TableShort => Sentence::Refusal(4, Place::Nowhere),
-        CheckAnswer::Blocked(p, cell) => blocked_sentence(site, p, cell),
-        CheckAnswer::Clash(p, a, c) => clash_sentence(site, p, a, c),
-        CheckAnswer::Count(cell, times) => Sentence::Plain(Phrase::Row(
+        Ok(()) => Sentence::Plain(Phrase::Row(VALID, 0, 0, 0, 0)),
+        Err(CheckError::TableShort) => Sentence::Refusal(4, Place::Nowhere),
+        Err(CheckError::Blocked(p, cell)) => blocked_sentence(site, p, cell),
+        Err(CheckError::Clash(p, a, c)) => clash_sentence(site, p, a, c),
+        Err(CheckError::Count(cell, times)) => Sentence::Plain(Phrase::Row(
             COUNT,
             cell,
             times,
             load_of(site, cell),
             0,
         )),
-        CheckAnswer::Refused(f) => fault_sentence(f),
+        Err(CheckError::Record(fault)) => fault_sentence(fault),
     }
 }
 
 // What was planned, or why not.
-fn plan_sentence(site: Site, reply: PlanAnswer) -> Sentence
+fn plan_sentence(site: Site, reply: Result<(), PlanError>) -> Sentence
     ensures { result ≡ plan_sentence site reply }
 {
     match reply {
-        PlanAnswer::Done => Sentence::Plain(Phrase::Row(
+        Ok(()) => Sentence::Plain(Phrase::Row(
             PLANNED,
             site.cells as usize,
             site.slots as usize,
             site.channels as usize,
             0,
         )),
-        PlanAnswer::TableShort => Sentence::Refusal(4, Place::Nowhere),
-        PlanAnswer::NoRoom(cell, short) => Sentence::Plain(Phrase::Row(NO_ROOM, cell, short, 0, 0)),
-        PlanAnswer::Refused(f) => fault_sentence(f),
+        Err(PlanError::TableShort) => Sentence::Refusal(4, Place::Nowhere),
+        Err(PlanError::NoRoom(cell, short)) => Sentence::Plain(Phrase::Row(
+            NO_ROOM, cell, short, 0, 0,
+        )),
+        Err(PlanError::Record(fault)) => fault_sentence(fault),
     }
 }
 
 // The row that names which of a flow's numbers is wrong, the first that is: where the burst and the period are in range, the repeats are not.
+#[tactic(auto, unfolding(verdicts::specs::Said::bad_flow_row))]
 fn bad_flow_row(burst: usize, period: usize) -> usize
     ensures { result ≡ bad_flow_row burst period }
 {
@@ -218,58 +212,62 @@ fn bad_flow_row(burst: usize, period: usize) -> usize
 }
 
 // A share with its bounds, or its refusal, for a flow with this burst and period.
-fn share_sentence(burst: usize, period: usize, reply: ShareAnswer) -> Sentence
+fn share_sentence(
+    burst: usize,
+    period: usize,
+    reply: Result<(Fragments, Fragments, Slots), ShareError>,
+) -> Sentence
     ensures { result ≡ share_sentence burst period reply }
 {
     match reply {
-        ShareAnswer::Done(share, queue, delay) => Sentence::Plain(Phrase::Row(
+        Ok((share, queue, delay)) => Sentence::Plain(Phrase::Row(
             SHARE,
             share.0 as usize,
             queue.0 as usize,
             delay.0 as usize,
             0,
         )),
-        ShareAnswer::OutOfRange => Sentence::Plain(Phrase::Row(BAD_SLOTS, 0, 0, 0, 0)),
-        ShareAnswer::BadFlow => Sentence::Plain(Phrase::Row(
+        Err(ShareError::OutOfRange) => Sentence::Plain(Phrase::Row(BAD_SLOTS, 0, 0, 0, 0)),
+        Err(ShareError::BadFlow) => Sentence::Plain(Phrase::Row(
             bad_flow_row(burst, period),
             0,
             0,
             0,
             0,
         )),
-        ShareAnswer::BigShare => Sentence::Refusal(16, Place::Nowhere),
+        Err(ShareError::BigShare) => Sentence::Refusal(16, Place::Nowhere),
     }
 }
 
 // A table that was mended, or why not.
-fn mend_sentence(reply: MendAnswer) -> Sentence
+fn mend_sentence(reply: Result<usize, MendError>) -> Sentence
     ensures { result ≡ mend_sentence reply }
 {
     match reply {
-        MendAnswer::Done(number) => changes_sentence(number),
-        MendAnswer::TableShort => Sentence::Refusal(4, Place::Nowhere),
-        MendAnswer::NoRoom(cell, short) => Sentence::Plain(Phrase::Row(
+        Ok(number) => changes_sentence(number),
+        Err(MendError::TableShort) => Sentence::Refusal(4, Place::Nowhere),
+        Err(MendError::NoRoom(cell, short)) => Sentence::Plain(Phrase::Row(
             KEPT_NO_ROOM,
             cell,
             short,
             0,
             0,
         )),
-        MendAnswer::ListShort(_) => Sentence::Refusal(13, Place::Nowhere),
-        MendAnswer::Refused(f) => fault_sentence(f),
+        Err(MendError::ListShort(_)) => Sentence::Refusal(13, Place::Nowhere),
+        Err(MendError::Record(fault)) => fault_sentence(fault),
     }
 }
 
-// What is wrong with a record.
-pub fn put_fault(out: &mut [u8], at: usize, reply: Fault) -> usize
+// What is wrong with a record. No twin of `put_part` in `say_edits` and `put_plan_fields` in `say_csv`: each puts its own type from its own table.
+pub fn put_fault(out: &mut [u8], at: usize, fault: Fault) -> usize
     requires { at + 2000 ≤ length out.old }
-    ensures { Put out.old at (fault_said reply) 2000 out.new result }
+    ensures { Put out.old at (fault_said fault) 2000 out.new result }
 {
-    put(out, at, fault_sentence(reply))
+    put(out, at, fault_sentence(fault))
 }
 
-// A file that was read, or its refusal.
-pub fn put_read(out: &mut [u8], at: usize, file: File, reply: ReadAnswer) -> usize
+// A file that was read, or its refusal. No twin of `put_check` and `put_plan`: each chooses its sentence from another type of answer.
+pub fn put_read(out: &mut [u8], at: usize, file: File, reply: Result<(), Refusal>) -> usize
     requires { at + 2000 ≤ length out.old }
     ensures { Put out.old at (read_said file reply) 2000 out.new result }
 {
@@ -277,7 +275,7 @@ pub fn put_read(out: &mut [u8], at: usize, file: File, reply: ReadAnswer) -> usi
 }
 
 // A sheet that was read, or its refusal.
-pub fn put_sheet_read(out: &mut [u8], at: usize, reply: SheetAnswer) -> usize
+pub fn put_sheet_read(out: &mut [u8], at: usize, reply: Result<(), SheetError>) -> usize
     requires { at + 2000 ≤ length out.old }
     ensures { Put out.old at (sheet_said reply) 2000 out.new result }
 {
@@ -285,7 +283,7 @@ pub fn put_sheet_read(out: &mut [u8], at: usize, reply: SheetAnswer) -> usize
 }
 
 // A table that is valid, or the first thing wrong with it.
-pub fn put_check(out: &mut [u8], at: usize, site: Site, reply: CheckAnswer) -> usize
+pub fn put_check(out: &mut [u8], at: usize, site: Site, reply: Result<(), CheckError>) -> usize
     requires { at + 2000 ≤ length out.old }
     ensures { Put out.old at (check_said site reply) 2000 out.new result }
 {
@@ -293,7 +291,7 @@ pub fn put_check(out: &mut [u8], at: usize, site: Site, reply: CheckAnswer) -> u
 }
 
 // What was planned, or why not.
-pub fn put_plan(out: &mut [u8], at: usize, site: Site, reply: PlanAnswer) -> usize
+pub fn put_plan(out: &mut [u8], at: usize, site: Site, reply: Result<(), PlanError>) -> usize
     requires { at + 2000 ≤ length out.old }
     ensures { Put out.old at (plan_said site reply) 2000 out.new result }
 {
@@ -319,6 +317,7 @@ pub fn put_other_plan(
 }
 
 // A list of blocked positions that is none: the character, counted from 1, at which its first item begins that is no item.
+// `put_repeats` stays beside it: both are public, and one function for both would take a row of the table from its callers.
 pub fn put_bad_list(out: &mut [u8], at: usize, character: usize) -> usize
     requires { at + 2000 ≤ length out.old }
     ensures { Put out.old at (bad_list_line character) 2000 out.new result }
@@ -348,7 +347,7 @@ pub fn put_share(
     at: usize,
     burst: usize,
     period: usize,
-    reply: ShareAnswer,
+    reply: Result<(Fragments, Fragments, Slots), ShareError>,
 ) -> usize
     requires { at + 2000 ≤ length out.old }
     ensures { Put out.old at (share_said burst period reply) 2000 out.new result }
@@ -357,7 +356,7 @@ pub fn put_share(
 }
 
 // A table that was mended, or why not.
-pub fn put_mend(out: &mut [u8], at: usize, reply: MendAnswer) -> usize
+pub fn put_mend(out: &mut [u8], at: usize, reply: Result<usize, MendError>) -> usize
     requires { at + 2000 ≤ length out.old }
     ensures { Put out.old at (mend_said reply) 2000 out.new result }
 {

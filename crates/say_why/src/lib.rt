@@ -1,28 +1,24 @@
 // What `duggfrask why` says of a site, written into a lent buffer: one public function, which asks the calls and puts their answers into English.
 #![tactic(auto)]
 
-ghost use Rattle.std.specs.Prelude.{◌≡◌, ◌+◌, ◌*◌, ◌≤◌, ◌<◌, ltb, length};
-ghost use Rattle.laws.specs.Choice.{pick};
+ghost use Rattle.std.specs.Prelude.{◌≡◌, ◌+◌, ◌*◌, ◌≤◌, ◌<◌, length, Ok};
 ghost use Rattle.site.specs.Record.{positions, fault_of};
-ghost use Rattle.site.specs.declared.Fault.TheVariants.{Fine};
 ghost use Rattle.planner.specs.Plan.{plan_table};
-ghost use Rattle.heaviest.specs.declared.HeaviestAnswer.TheVariants.{Done};
 ghost use Rattle.phrases.specs.Put.{Put};
 ghost use Rattle.phrases.specs.Phrases.{phrase, text_of, part_in};
 ghost use Rattle.why.specs.Lines.{why_lines};
-ghost use Rattle.why.specs.Said.{open_of, class_phrase, nested_phrase, over_phrase, load_phrase, plan_phrase, least_number, will_do, has_row};
+ghost use Rattle.why.specs.Said.{open_of, class_phrase, nested_phrase, over_phrase, load_phrase, plan_phrase, will_do, has_row};
 ghost use Rattle.why.specs.Said.{takes_phrase, set_phrase, cell_phrase, cell_phrases, fewest, size_row, size_phrase, verdicts_said, clash_phrases};
 ghost use Rattle.why.specs.Said.{sizes_phrases, texts, list_line, last_said, site_said, why_said};
 
-use heaviest::HeaviestAnswer;
-use judges::{ChainAnswer, ClassAnswer, LeastAnswer, LoadAnswer};
+use judges::{ChainVerdict, ClassVerdict, LoadVerdict};
 use phrases::{Phrase, put_phrase};
-use planner::PlanAnswer;
+use planner::PlanError;
 use positions::open_count;
 use putblocks::put_blocked;
-use site::Site;
+use site::{Fault, Site};
 use text::put_text;
-use whyrows::{chain_phrase, no_row};
+use whyrows::{chain_phrase, least_number, no_row};
 use words::has;
 
 const HOLDS: usize = 2;
@@ -85,7 +81,7 @@ fn put_line(out: &mut [u8], at: usize, what: Phrase) -> usize
     )
 }
 
-// Puts any line: no row has more than 150 bytes.
+// Puts any line: no row has more than 150 bytes. No twin of `put` in `say_find`: another table and another bound.
 fn put(out: &mut [u8], at: usize, what: Phrase) -> usize
     requires { at + 1500 ≤ length out.old }
     ensures { Put out.old at (phrase why_lines what) 1500 out.new result }
@@ -93,92 +89,71 @@ fn put(out: &mut [u8], at: usize, what: Phrase) -> usize
     put_line(out, at, what)
 }
 
-// Nested, or the triple that shows that it is not.
-fn class_phrase(class: ClassAnswer) -> Phrase
+// Nested, or the triple that shows that it is not. No twin of `chain_phrase` in `whyrows`: another verdict and other rows.
+fn class_phrase(class: Result<ClassVerdict, Fault>) -> Phrase
     ensures { result ≡ class_phrase class }
 {
     match class {
-        ClassAnswer::InClass => Phrase::Row(NESTED, 0, 0, 0, 0),
-        ClassAnswer::Outside(a, b, i) => Phrase::Row(SPLIT, a, b, i, 0),
-        ClassAnswer::Refused(_) => Phrase::Silent,
+        Ok(ClassVerdict::InClass) => Phrase::Row(NESTED, 0, 0, 0, 0),
+        Ok(ClassVerdict::Outside(a, b, i)) => Phrase::Row(SPLIT, a, b, i, 0),
+        Err(_) => Phrase::Silent,
     }
 }
 
 // The class of a site that is not chained. A chained site is nested, and nothing is said of that.
-fn nested_phrase(judge: ChainAnswer, class: ClassAnswer) -> Phrase
+fn nested_phrase(judge: Result<ChainVerdict, Fault>, class: Result<ClassVerdict, Fault>) -> Phrase
     ensures { result ≡ nested_phrase judge class }
 {
     match judge {
-        ChainAnswer::Chained => Phrase::Silent,
-        ChainAnswer::Broken(_, _, _) => class_phrase(class),
-        ChainAnswer::Refused(_) => Phrase::Silent,
+        Ok(ChainVerdict::Chained) => Phrase::Silent,
+        Ok(ChainVerdict::Broken(_, _, _)) => class_phrase(class),
+        Err(_) => Phrase::Silent,
     }
 }
 
 // The lowest cell that is over, and what that means.
-fn over_phrase(class: ClassAnswer, cell: usize, excess: usize) -> Phrase
+fn over_phrase(class: Result<ClassVerdict, Fault>, cell: usize, excess: usize) -> Phrase
     ensures { result ≡ over_phrase class cell excess }
 {
     match class {
-        ClassAnswer::InClass => Phrase::Row(OVER, cell, excess, 0, 0),
-        ClassAnswer::Outside(_, _, _) => Phrase::Row(OPEN_OVER, cell, excess, 0, 0),
-        ClassAnswer::Refused(_) => Phrase::Silent,
+        Ok(ClassVerdict::InClass) => Phrase::Row(OVER, cell, excess, 0, 0),
+        Ok(ClassVerdict::Outside(_, _, _)) => Phrase::Row(OPEN_OVER, cell, excess, 0, 0),
+        Err(_) => Phrase::Silent,
     }
 }
 
 // The load test: it holds, or who is over.
-fn load_phrase(class: ClassAnswer, reply: LoadAnswer) -> Phrase
+fn load_phrase(class: Result<ClassVerdict, Fault>, reply: Result<LoadVerdict, Fault>) -> Phrase
     ensures { result ≡ load_phrase class reply }
 {
     match reply {
-        LoadAnswer::Holds => Phrase::Row(HOLDS, 0, 0, 0, 0),
-        LoadAnswer::Over(cell, excess) => over_phrase(class, cell, excess),
-        LoadAnswer::Refused(_) => Phrase::Silent,
+        Ok(LoadVerdict::Holds) => Phrase::Row(HOLDS, 0, 0, 0, 0),
+        Ok(LoadVerdict::Over(cell, excess)) => over_phrase(class, cell, excess),
+        Err(_) => Phrase::Silent,
     }
 }
 
 // Planned or not, and what a no means.
-fn plan_phrase(l: usize, n: usize, reply: PlanAnswer) -> Phrase
+fn plan_phrase(l: usize, n: usize, reply: Result<(), PlanError>) -> Phrase
     ensures { result ≡ plan_phrase l n reply }
 {
     match reply {
-        PlanAnswer::Done => Phrase::Row(PLANNED, 0, 0, 0, 0),
-        PlanAnswer::TableShort => Phrase::Silent,
-        PlanAnswer::NoRoom(cell, short) => Phrase::Row(no_row(l, n), cell, short, 0, 0),
-        PlanAnswer::Refused(_) => Phrase::Silent,
+        Ok(()) => Phrase::Row(PLANNED, 0, 0, 0, 0),
+        Err(PlanError::TableShort) => Phrase::Silent,
+        Err(PlanError::NoRoom(cell, short)) => Phrase::Row(no_row(l, n), cell, short, 0, 0),
+        Err(PlanError::Record(_)) => Phrase::Silent,
     }
-}
-
-// The number that `least` answers.
-pub fn least_number(reply: LeastAnswer) -> usize
-    ensures { result ≡ least_number reply }
-{
-    match reply {
-        LeastAnswer::Least(n) => n,
-        LeastAnswer::Enough(n) => n,
-        LeastAnswer::Refused(_) => 0,
-    }
-}
-
-// The smaller of two numbers.
-fn smaller(n: usize, m: usize) -> usize
-    ensures { result ≡ pick (ltb n m) n m }
-{
-    if n < m {
-        return n;
-    }
-    m
 }
 
 // The number of channel-slots that will do: where the site is planned, its own if that is smaller.
-fn will_do(reply: PlanAnswer, n: usize, m: usize) -> usize
+fn will_do(reply: Result<(), PlanError>, n: usize, m: usize) -> usize
     ensures { result ≡ will_do reply n m }
 {
     match reply {
-        PlanAnswer::Done => smaller(n, m),
-        PlanAnswer::TableShort => m,
-        PlanAnswer::NoRoom(_, _) => m,
-        PlanAnswer::Refused(_) => m,
+        Ok(()) => n.min(m),
+        Err(PlanError::TableShort) => m,
+        Err(PlanError::NoRoom(_, _)) => m,
+        Err(PlanError::Record(_)) => m,
     }
 }
 
@@ -224,31 +199,14 @@ fn cell_phrase(set: u32, load: usize, j: usize) -> Phrase
     Phrase::Silent
 }
 
-// Puts the line of a cell.
-fn put_cell(out: &mut [u8], at: usize, set: u32, load: usize, j: usize) -> usize
-    requires { (j < 32) × (at + 200 ≤ length out.old) }
-    ensures { Put out.old at (phrase why_lines (cell_phrase set load j)) 200 out.new result }
-{
-    put_line(out, at, cell_phrase(set, load, j))
-}
-
-// A load as a number.
-fn wide(x: u16) -> usize
-    ensures { result ≡ x }
-{
-    x as usize
-}
-
 // The lines of the cells of the set, of the first so many.
 fn put_cells(out: &mut [u8], at: usize, loads: &[u16; 32], set: u32, cells: usize) -> usize
     requires { (cells ≤ 32) × (at + 200 * cells ≤ length out.old) }
     ensures { Put out.old at (texts (cell_phrases loads.now set cells)) (200 * cells) out.new result }
 {
     let mut next = at;
-    let mut j = 0;
-    while j < cells {
-        next = put_cell(out, next, set, wide(loads[j]), j);
-        j += 1;
+    for j in 0..cells {
+        next = put_line(out, next, cell_phrase(set, loads[j] as usize, j));
     }
     next
 }
@@ -295,7 +253,7 @@ fn size_phrase(row: usize, most: usize, f: usize, l: usize, u: usize) -> Phrase
 // How many slots, and how many channels.
 fn put_sizes(out: &mut [u8], at: usize, site: Site, l: usize, u: usize) -> usize
     requires at_in_bounds { at + 3000 ≤ length out.old }
-    requires site_value { fault_of site ≡ Fine }
+    requires site_value { fault_of site ≡ Ok tt }
     ensures { Put out.old at (texts (sizes_phrases site l u)) 3000 out.new result }
 {
     let slots = size_phrase(SLOTS, 128, site.channels as usize, l, u);
@@ -307,7 +265,7 @@ fn put_sizes(out: &mut [u8], at: usize, site: Site, l: usize, u: usize) -> usize
 // What is blocked, as a list that can be typed again.
 fn put_list(out: &mut [u8], at: usize, site: Site) -> usize
     requires at_in_bounds { at + 30000 ≤ length out.old }
-    requires site_value { fault_of site ≡ Fine }
+    requires site_value { fault_of site ≡ Ok tt }
     ensures { Put out.old at (list_line site) 30000 out.new result }
 {
     let blocked = site.blocked;
@@ -333,7 +291,7 @@ fn put_last(
     u: usize,
 ) -> usize
     requires at_in_bounds { at + 30000 ≤ length out.old }
-    requires site_value { (fault_of site ≡ Fine) × (n ≡ open_of site) × (all ≡ positions site) }
+    requires site_value { (fault_of site ≡ Ok tt) × (n ≡ open_of site) × (all ≡ positions site) }
     ensures { Put out.old at (last_said site l u) 30000 out.new result }
 {
     if n < all {
@@ -354,7 +312,7 @@ fn put_clash(
     set: u32,
 ) -> usize
     requires at_in_bounds { at + 9400 ≤ length out.old }
-    requires site_value { (fault_of site ≡ Fine) × (n ≡ open_of site) × (all ≡ positions site) }
+    requires site_value { (fault_of site ≡ Ok tt) × (n ≡ open_of site) × (all ≡ positions site) }
     ensures { Put out.old at (texts (clash_phrases site l u set)) 9400 out.new result }
 {
     let second = put(out, at, takes_phrase(l, u, n, all));
@@ -364,7 +322,13 @@ fn put_clash(
 }
 
 // The verdicts: the chain, the class, the load test and the plan.
-fn put_verdicts(out: &mut [u8], site: Site, reply: PlanAnswer, l: usize, n: usize) -> usize
+fn put_verdicts(
+    out: &mut [u8],
+    site: Site,
+    reply: Result<(), PlanError>,
+    l: usize,
+    n: usize,
+) -> usize
     requires { 6000 ≤ length out.old }
     ensures { Put out.old 0 (verdicts_said site reply l n) 6000 out.new result }
 {
@@ -378,10 +342,10 @@ fn put_verdicts(out: &mut [u8], site: Site, reply: PlanAnswer, l: usize, n: usiz
 }
 
 // All that is said of an accepted site, with the planner's answer and the heaviest clash.
-fn put_all(out: &mut [u8], site: Site, reply: PlanAnswer, l: usize, set: u32) -> usize
+fn put_all(out: &mut [u8], site: Site, reply: Result<(), PlanError>, l: usize, set: u32) -> usize
     requires in_bounds { 60000 ≤ length out.old }
-    requires site_value { fault_of site ≡ Fine }
-    ensures { Put out.old 0 (site_said site reply (Done l set)) 60000 out.new result }
+    requires site_value { fault_of site ≡ Ok tt }
+    ensures { Put out.old 0 (site_said site reply (Ok (l, set))) 60000 out.new result }
 {
     let all = site.slots as usize * site.channels as usize;
     let blocked = site.blocked;
@@ -401,9 +365,8 @@ pub fn put_why(site: Site, table: &mut [u8], out: &mut [u8]) -> usize
     ensures table { table.new ≡ plan_table site table.old }
 {
     let reply = planner::plan(site, table);
-    let found = heaviest::heaviest(site);
-    match found {
-        HeaviestAnswer::Done(l, set) => put_all(out, site, reply, l, set),
-        HeaviestAnswer::Refused(_) => 0,
+    match heaviest::heaviest(site) {
+        Ok((l, set)) => put_all(out, site, reply, l, set),
+        Err(_) => 0,
     }
 }

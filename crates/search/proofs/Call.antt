@@ -3,6 +3,7 @@
 use mathlib.Core.Path.{◌≡◌, refl, sym, ap, ◌∙◌, subst}
 use mathlib.Core.Bool.{true, false, or-true}
 use mathlib.Core.List.{List, [], ◌++◌}
+use Rattle.std.specs.Prelude.{Result, Err}
 use Prim.Native.Nat.{ℕ, zero, suc, ◌+◌, ◌*◌, ◌≤◌, ◌<◌}
 use native.Mathlib.Omega.{arith}
 use native.Mathlib.Nat.{not-suc-le-zero, le_of_suc-le-suc}
@@ -17,8 +18,8 @@ use Rattle.tries.proofs.Lists.{Sorted, done, more, fragments-sorted, fragments-l
 use Rattle.tries.proofs.Sound.{plan-inside}
 use Rattle.tries.proofs.Limit.{ended_is}
 use Rattle.search.specs.Search.{most_fragments, most_open, too_large, replied, reply_of, laid_on, leaves_of}
-use Rattle.search.specs.declared.SearchAnswer.{SearchAnswer}
-use Rattle.search.specs.declared.SearchAnswer.TheVariants.{TooMany}
+use Rattle.search.specs.declared.SearchError.{SearchError}
+use Rattle.search.specs.declared.SearchError.TheVariants.{TooMany}
 use Rattle.search.proofs.Table.{lay-append}
 
 sorted-at : {n b : ℕ} {fs : List ℕ} → Sorted n b fs → (k : ℕ) → k < length fs → get_or fs k 0 < n
@@ -84,7 +85,7 @@ module _ (s : Net) where
   within h g = rw (le-ltb most_fragments (sum s.load s.cells) (omega (arith, fragments-length s)), le-ltb most_open (room s) (omega (arith, open-length s)))
 
   module _ (limit : ℕ) (t : List ℕ) where
-    pub many-reply : too_large s ≡ true → TooMany ≡ reply_of s limit
+    pub many-reply : too_large s ≡ true → Err TooMany ≡ reply_of s limit
     many-reply h = rw h
 
     pub many-table : too_large s ≡ true → t ≡ leaves_of s limit t
@@ -106,7 +107,7 @@ module _ (s : Net) where
       all : limited limit (seek s.clash ps fs [] ps) ≡ searched s limit
       all = ap (λ z. limited limit (seek s.clash ps z [] ps)) is-fs ∙ ap (λ z. limited limit (seek s.clash z (fragments s) [] z)) is-ps
 
-      pub found-reply : (r : SearchAnswer) → r ≡ replied limit (limited limit (seek s.clash ps fs [] ps)) → r ≡ reply_of s limit
+      pub found-reply : (r : Result ℕ SearchError) → r ≡ replied limit (limited limit (seek s.clash ps fs [] ps)) → r ≡ reply_of s limit
       found-reply r e = rw fits (e ∙ ap (replied limit) all)
 
       pub found-table : (z u : List ℕ) → z ≡ replicate size 0 → u ≡ laid_on s.width (limited limit (seek s.clash ps fs [] ps)) (z ++ drop size t)

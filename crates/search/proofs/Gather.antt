@@ -1,13 +1,15 @@
 -- A list gathered in an array, element by element, and the two lists that a search gathers.
 -- Assumes nothing.
-use mathlib.Core.Path.{◌≡◌, refl, sym, ap, ◌∙◌}
+use mathlib.Core.Path.{◌≡◌, sym, ap, ◌∙◌}
 use mathlib.Core.Bool.{Bool, true, false}
-use mathlib.Core.List.{List, [], ◌∷◌, ◌++◌, append-nil}
-use Prim.Native.Nat.{ℕ, zero, suc, ◌+◌, ◌-◌, ◌≤◌, ◌<◌}
+use mathlib.Core.List.{List, [], ◌∷◌, ◌++◌, append-nil, append_assoc}
+use Prim.Native.Nat.{ℕ, suc, ◌+◌, ◌-◌, ◌≤◌, ◌<◌}
 use native.Mathlib.Omega.{arith}
 use native.Mathlib.Numerals.{add-one}
-use lib.ListN.{length, set, take, replicate, length-set, length-append}
+use borrow.Rule.Slice.PartMut.{put_mid}
+use lib.ListN.{length, set, take, drop, replicate, length-set, length-append, length-drop, length-replicate}
 use lib.Seq.{take-suc-set, append_snoc, length-take-le}
+use Rattle.std.proofs.lemmas.Slice.{take-put_mid}
 use Rattle.tries.specs.Search.{opens_from, fragments_from}
 use Rattle.search.specs.Loop.{Listed}
 
@@ -18,9 +20,6 @@ pub record Filling (m : ℕ) (xs : List ℕ) (count : ℕ) (array rest : List �
   pub same : take count array ++ rest ≡ xs
 
 module _ (m : ℕ) (xs array : List ℕ) where
-  pub fill_none : length array ≡ m → Filling m xs 0 array xs
-  fill_none h = record { size = h; most = omega arith; same = refl }
-
   pub fill-same : (count : ℕ) (rest more : List ℕ) → Filling m xs count array rest → rest ≡ more → Filling m xs count array more
   fill-same count rest more f e = record { size = f.size; most = f.most; same = ap (λ z. take count array ++ z) (sym e) ∙ f.same }
 
@@ -33,52 +32,55 @@ module _ (m : ℕ) (xs array : List ℕ) where
         same = rw (add-one, take-suc-set array count v w, append_snoc (take count array) v rest) f.same;
       }
 
+  -- a run of k equal elements, stored at once
+  pub fill-run : (count k v j : ℕ) (ys rest : List ℕ) → Filling m xs count array (replicate k v ++ rest) → count + k ≤ m → j ≡ k
+      → ys ≡ replicate (length (take j (drop count array))) v → Filling m xs (count + k) (put_mid count j array ys) rest
+  fill-run count k v j ys rest f l d e =
+      let fits : j ≤ length (drop count array) = omega (arith, length-drop count array, f.size) in
+      let long : length (take j (drop count array)) ≡ k = length-take-le j (drop count array) fits ∙ d in
+      let are : ys ≡ replicate k v = e ∙ ap (λ n. replicate n v) long in
+      let many : length ys ≡ k = ap length are ∙ length-replicate k v in
+      let before : count ≤ length array = omega (arith, f.size) in
+      record {
+        size = omega (
+          arith,
+          f.size,
+          many,
+          length-append (take count array) (ys ++ drop j (drop count array)),
+          length-append ys (drop j (drop count array)),
+          length-take-le count array before,
+          length-drop j (drop count array),
+          length-drop count array,
+        );
+        most = l;
+        same = ap (λ z. z ++ rest) (take-put_mid count j array ys (count + k) (omega arith) before)
+            ∙ append_assoc (take count array) ys rest ∙ ap (λ z. take count array ++ (z ++ rest)) are ∙ f.same;
+      }
+
   pub fill_end-law : (count : ℕ) → Filling m xs count array [] → Listed m xs count array
   fill_end-law count f =
       record { size = f.size; all = λ _. sym (append-nil (take count array)) ∙ f.same; over = λ l. absurd (omega (arith, f.most)) }
 
-  pub fill-over : (count v : ℕ) (rest : List ℕ) → Filling m xs count array (v ∷ rest) → count ≡ m → Listed m xs (m + 1) array
-  fill-over count v rest f e =
-      let w : count ≤ length array = omega (arith, f.size) in
+  -- a run that does not fit
+  pub fill-past : (count k v : ℕ) (rest : List ℕ) → Filling m xs count array (replicate k v ++ rest) → m < count + k → Listed m xs (m + 1) array
+  fill-past count k v rest f l =
+      let w : count ≤ length array = omega (arith, f.size, f.most) in
       record {
         size = f.size;
-        all = λ l. absurd (omega arith);
-        over = λ _. omega (arith, simp (length-append, length-take-le count array w) at (ap length f.same));
+        all = λ h. absurd (omega arith);
+        over = λ _. omega (arith, simp (length-append, length-replicate, length-take-le count array w) at (ap length f.same));
       }
 
 -- ---- the fragments
 
-module _ (load : ℕ → ℕ) where
-  -- those of the n cells from i on that are left, when `done` of cell i's are listed
-  unfoldable pub rest_of : ℕ → ℕ → ℕ → List ℕ
-  rest_of i done zero = []
-  rest_of i done (suc n) = replicate (load i - done) i ++ fragments_from load (suc i) n
+module _ (load : ℕ → ℕ) (i n : ℕ) where
+  pub fragments-next : i < n → fragments_from load i (n - i) ≡ replicate (load i) i ++ fragments_from load (i + 1) (n - (i + 1))
+  unfolding fragments_from
+  fragments-next l = let e : n - i ≡ suc (n - (i + 1)) = omega arith in rw (e, add-one)
 
-  rest_all : (i n : ℕ) → fragments_from load i n ≡ rest_of i 0 n
-  unfolding fragments_from rest_of
-  rest_all i zero = refl
-  rest_all i (suc n) = let e : load i - 0 ≡ load i = omega arith in rw e
-
-  pub rest-start : (n : ℕ) → fragments_from load 0 n ≡ rest_of 0 0 (n - 0)
-  rest-start n = let e : n - 0 ≡ n = omega arith in rw e (rest_all 0 n)
-
-  pub rest-push : (i done n : ℕ) → i < n → done < load i → rest_of i done (n - i) ≡ i ∷ rest_of i (done + 1) (n - i)
-  unfolding rest_of
-  rest-push i done n l h =
-      let e : n - i ≡ suc (n - i - 1) = omega arith in
-      let d : load i - done ≡ suc (load i - (done + 1)) = omega arith in
-      rw (e, d)
-
-  pub rest-next : (i done n : ℕ) → i < n → load i ≤ done → rest_of i done (n - i) ≡ rest_of (i + 1) 0 (n - (i + 1))
-  unfolding rest_of
-  rest-next i done n l h =
-      let e : n - i ≡ suc (n - (i + 1)) = omega arith in
-      let d : load i - done ≡ 0 = omega arith in
-      rw (e, d, add-one) (rest_all (suc i) (n - suc i))
-
-  pub rest_end : (i done n : ℕ) → n ≤ i → rest_of i done (n - i) ≡ []
-  unfolding rest_of
-  rest_end i done n l = let e : n - i ≡ 0 = omega arith in rw e
+  pub fragments-end : n ≤ i → fragments_from load i (n - i) ≡ []
+  unfolding fragments_from
+  fragments-end l = let e : n - i ≡ 0 = omega arith in rw e
 
 -- ---- the positions
 
@@ -94,6 +96,3 @@ module _ (u : ℕ → Bool) (k n : ℕ) where
   pub opens-end : n ≤ k → opens_from u k (n - k) ≡ []
   unfolding opens_from
   opens-end l = let e : n - k ≡ 0 = omega arith in rw e
-
-pub opens-start : (u : ℕ → Bool) (n : ℕ) → opens_from u 0 n ≡ opens_from u 0 (n - 0)
-opens-start u n = let e : n - 0 ≡ n = omega arith in rw e

@@ -9,20 +9,28 @@ ghost use Rattle.search.specs.Hunt.{keeps, placed_of, start_of, Distinct, Owned,
 ghost use Rattle.site.specs.Reach.{net_in, is_open};
 ghost use Rattle.search.specs.Search.{lay_out, laid_on, replied, reply_of, leaves_of, search_answer, search_table};
 ghost use Rattle.search.specs.Loop.{Listed, Spots};
+ghost use Rattle.search.specs.declared.SearchError.TheVariants.{Record};
 
-use positions::{bit_weight, is_blocked};
+use positions::{bit_weight, has_bit, is_blocked};
 use site::{Fault, Site};
 
-// What the search answers: a plan, none exists or limit met, each with the tries made; 25, too many positions or fragments; 4, the table is short; or what is
-// wrong with the record.
+// Why a search has no plan: none exists or limit met, each with the tries made; 25, too many positions or fragments; 4, the table is short; or what is wrong
+// with the record.
 #[derive(Clone, Copy)]
-pub enum SearchAnswer {
-    Plan(u64),
+pub enum SearchError {
     Full(u64),
     Limit(u64),
     TooMany,
     TableShort,
-    Refused(Fault),
+    Record(Fault),
+}
+
+impl From<Fault> for SearchError {
+    ghost from_gives = { λ f e. e ≡ Record f };
+
+    fn from(fault: Fault) -> SearchError {
+        SearchError::Record(fault)
+    }
 }
 
 // How a search ends, with the tries made.
@@ -52,14 +60,6 @@ struct Fragments {
 struct Opens {
     count: usize,
     at: [usize; 64],
-}
-
-// Whether a word has bit b.
-fn has(x: u64, b: usize) -> bool
-    requires { b < 64 }
-    ensures { result ≡ bit_at x b }
-{
-    (x >> b) % 2 == 1
 }
 
 // Whether a fragment of cell `o` keeps one of cell `c` from its position; `row` has the cells that clash with `o`.
@@ -134,6 +134,7 @@ fn hunt(owner: &[usize], opens: &[usize], clash: &[u32; 32], limit: u64) -> Hunt
     let mut d: usize = 0;
     let mut i: usize = 0;
     let mut tries: u64 = 0;
+    // A turn goes a fragment on, a fragment back or a position on: no index is counted.
     while d < owner.len() {
         if i == many {
             if d == 0 {
@@ -154,7 +155,7 @@ fn hunt(owner: &[usize], opens: &[usize], clash: &[u32; 32], limit: u64) -> Hunt
         }
         tries += 1;
         let word = words[d];
-        if has(word, i) {
+        if has_bit(word, i) {
             i += 1;
             continue;
         }
@@ -176,21 +177,13 @@ fn list_fragments(cells: usize, loads: [u16; 32]) -> Fragments
 {
     let mut owner = [0usize; 24];
     let mut count: usize = 0;
-    let mut i: usize = 0;
-    let mut done: usize = 0;
-    while i < cells {
-        let load = loads[i] as usize;
-        if done < load {
-            if count == 24 {
-                return Fragments { count: 25, owner };
-            }
-            owner[count] = i;
-            count += 1;
-            done += 1;
-            continue;
+    for i in 0..cells {
+        let to = count + loads[i] as usize;
+        if 24 < to {
+            return Fragments { count: 25, owner };
         }
-        i += 1;
-        done = 0;
+        owner[count..to].fill(i);
+        count = to;
     }
     Fragments { count, owner }
 }
@@ -202,10 +195,8 @@ fn list_opens(n: usize, blocked: &[u64; 32]) -> Opens
 {
     let mut at = [0usize; 64];
     let mut count: usize = 0;
-    let mut k: usize = 0;
-    while k < n {
+    for k in 0..n {
         if is_blocked(blocked, k) {
-            k += 1;
             continue;
         }
         if count == 64 {
@@ -213,7 +204,6 @@ fn list_opens(n: usize, blocked: &[u64; 32]) -> Opens
         }
         at[count] = k;
         count += 1;
-        k += 1;
     }
     Opens { count, at }
 }
@@ -239,7 +229,7 @@ fn settle(
     opens: &[usize],
     clash: &[u32; 32],
     limit: u64,
-) -> SearchAnswer
+) -> Result<u64, SearchError>
     requires owner_len_bound { (length owner.now ≤ 24) × (length opens.now ≤ 64) }
     requires owned { Owned owner.now }
     requires distinct { Distinct opens.now }
@@ -255,10 +245,10 @@ fn settle(
     match end {
         HuntEnd::Plan(tries) => {
             lay(table, n, owner, opens, stack);
-            SearchAnswer::Plan(tries)
+            Ok(tries)
         }
-        HuntEnd::Full(tries) => SearchAnswer::Full(tries),
-        HuntEnd::Limit => SearchAnswer::Limit(limit),
+        HuntEnd::Full(tries) => Err(SearchError::Full(tries)),
+        HuntEnd::Limit => Err(SearchError::Limit(limit)),
     }
 }
 
@@ -271,7 +261,7 @@ fn search_in(
     clash: &[u32; 32],
     blocked: &[u64; 32],
     limit: u64,
-) -> SearchAnswer
+) -> Result<u64, SearchError>
     requires { (cells ≤ 32) × (n ≤ 2048) × (cells * n ≤ length table.old) }
     ensures answer { result ≡ reply_of (net_in cells n loads (bit_in clash.now) (is_open blocked.now)) limit }
     ensures table { table.new ≡ leaves_of (net_in cells n loads (bit_in clash.now) (is_open blocked.now)) limit
@@ -280,12 +270,12 @@ fn search_in(
     let fragments = list_fragments(cells, loads);
     let count = fragments.count;
     if 24 < count {
-        return SearchAnswer::TooMany;
+        return Err(SearchError::TooMany);
     }
     let opens = list_opens(n, blocked);
     let many = opens.count;
     if 64 < many {
-        return SearchAnswer::TooMany;
+        return Err(SearchError::TooMany);
     }
     let size = cells * n;
     rows::clear(&mut table[..size]);
@@ -294,20 +284,18 @@ fn search_in(
     settle(table, n, &owner[..count], &at[..many], clash, limit)
 }
 
-// Searches for a plan of the site, with at most so many tries: the answer for any site, any limit and any table.
-pub fn search(site: Site, limit: u64, table: &mut [u8]) -> SearchAnswer
+// Searches for a plan of the site, with at most so many tries: the tries made, for any site, any limit and any table.
+#[tactic(auto, using(crate::proofs::Answer::accepted_sizes), unfolding(crate::specs::Search::search_answer, crate::specs::Search::search_table))]
+pub fn search(site: Site, limit: u64, table: &mut [u8]) -> Result<u64, SearchError>
     ensures answer { result ≡ search_answer site limit table.old }
     ensures table { table.new ≡ search_table site limit table.old }
 {
-    let fault = site.fault_in();
-    let Fault::Fine = fault else {
-        return SearchAnswer::Refused(fault);
-    };
+    site.accepted()?;
     let cells = site.cells as usize;
     let n = site.slots as usize * site.channels as usize;
     let size = cells * n;
     if table.len() < size {
-        return SearchAnswer::TableShort;
+        return Err(SearchError::TableShort);
     }
     let loads = site.loads;
     let clash = site.clash_rows();

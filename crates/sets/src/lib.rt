@@ -16,16 +16,6 @@ use packing::pack_words;
 use positions::bits_in;
 use setwords::{differing, either, first_few, kept_word, low_word, shared, without};
 
-// What is left of l when up to n are taken.
-fn less(l: usize, n: usize) -> usize
-    ensures { result ≡ l - n }
-{
-    if n < l {
-        return l - n;
-    }
-    0
-}
-
 // How many positions a set of w words has.
 pub fn set_size(set: &[u64], w: usize) -> usize
     requires { (w ≤ length set.now) × (w ≤ 65536) }
@@ -58,7 +48,7 @@ fn take_some(set: &mut [u64], w: usize, m: usize) -> usize
     for j in 0..w {
         let x = set[j];
         set[j] = first_few(x, left);
-        left = less(left, bits_in(x));
+        left = left.saturating_sub(bits_in(x));
     }
     left
 }
@@ -136,7 +126,7 @@ pub fn first_positions(set: &mut [u64], w: usize, n: usize)
     ensures { set.new ≡ sets set.old 0 (set_in (λ k. ltb k n) w) }
 {
     for j in 0..w {
-        set[j] = low_word(less(n, 64 * j));
+        set[j] = low_word(n.saturating_sub(64 * j));
     }
 }
 

@@ -95,3 +95,6 @@ few-all x l n fits h = word-bits x n fits ∙ word-eq (bit_at x) (first_few (bit
     same : (k : ℕ) → k < n → (b : Bool) → bit_at x k ≡ b → b ≡ (b && ltb (count (bit_at x) k) l)
     same k g false e = refl
     same k g true e = sym (lt-ltb (count (bit_at x) k) l (omega (arith, count-below (bit_at x) k n g e)))
+
+-- what the loop that takes positions away asks
+pub ruleset few_laws = (later-all, some-later, clear-lowest, few-all)

@@ -17,6 +17,7 @@ pub fn shared(x: u64, y: u64) -> u64
 }
 
 // The positions that either word has.
+// The loops over whole sets in `positions` join words without it: they ask only whether anything is left, and this says which bits.
 pub fn either(x: u64, y: u64) -> u64
     ensures { result ≡ word_of (λ b. bit_at x b || bit_at y b) 64 }
 {
@@ -31,6 +32,7 @@ pub fn without(x: u64, y: u64) -> u64
 }
 
 // The first l positions of a word; all where it has no more. Else the first l are cleared from a copy, one by one, and what is left of it is taken away.
+#[tactic(auto, using(crate::proofs::Firsts::few_laws))]
 pub fn first_few(x: u64, l: usize) -> u64
     ensures { result ≡ word_of (first_few (bit_at x) l) 64 }
 {
@@ -38,10 +40,8 @@ pub fn first_few(x: u64, l: usize) -> u64
         return x;
     }
     let mut rest = x;
-    let mut i: usize = 0;
-    while i < l {
+    for _ in 0..l {
         rest = rest & (rest - 1);
-        i += 1;
     }
     without(x, rest)
 }

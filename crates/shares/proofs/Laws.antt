@@ -3,19 +3,21 @@
 use Prim.Native.Nat.{ℕ, zero, suc, ◌+◌, ◌*◌, ◌/◌, ◌%◌, ◌≤◌, ◌<◌}
 use mathlib.Core.Bool.{Bool, true, false}
 use mathlib.Core.Logic.{⊎_elim}
-use mathlib.Core.Path.{◌≡◌, refl}
+use mathlib.Core.Path.{◌≡◌, refl, sym}
 use native.Mathlib.Nat.{div-add-mod', div-lt_iff_lt-mul, lt-div-mul-add, mul_comm, mul-le-mul}
-use native.Mathlib.Nat.{mul-mod_left, add-mul, zero-mul, one-mul, eq-or-lt_of_le, le_refl}
+use native.Mathlib.Nat.{mul-mod_left, add-mul, zero-mul, one-mul, eq-or-lt_of_le, le_refl, le_trans}
 use lib.Dec.{leb, eqb}
-use borrow.Author.Tests.{le-leb, eqb-true, eqb-false}
+use borrow.Author.Tests.{le-leb, lt-leb, eqb-true, eqb-false}
 use native.Mathlib.Omega.{arith}
 use Rattle.laws.specs.Choice.{pick}
-use Rattle.site.proofs.Faults.{up-to-is}
-use Rattle.shares.specs.Share.{rounded_up, share_once, share_needed, queue_bound, delay_bound, share_of}
+use Rattle.std.specs.Prelude.{Ok, Err}
+use Rattle.site.specs.Record.{up_to}
+use Rattle.site.proofs.Faults.{up-to, up-to-is}
+use Rattle.shares.specs.Share.{rounded_up, share_once, share_needed, queue_bound, delay_bound, shares_by, share_of}
 use Rattle.shares.specs.Means.{Fair, Least}
 use Rattle.shares.specs.declared.Fragments.{Fragments}
 use Rattle.shares.specs.declared.Slots.{Slots}
-use Rattle.shares.specs.declared.ShareAnswer.TheVariants.{Done, BigShare}
+use Rattle.shares.specs.declared.ShareError.TheVariants.{BigShare}
 
 module _ (a b : ℕ) (some : 0 < b) where
   enough-at : (t : Bool) → eqb (a % b) 0 ≡ t → a ≤ (a / b + pick t 0 1) * b
@@ -93,11 +95,45 @@ module _ (t c p k : ℕ) (f : Fair t c p k) where
       once-most = share-least t c p 8388480 f.period.0 (omega (arith, fair-product-most, times-most p 8388480 f.period.0, mul_comm p 8388480))
 
   pub fair-share : share_of t c p k ≡ pick (leb (share_needed t c p k) 65535)
-      (Done (record { 0 = share_needed t c p k }) (record { 0 = queue_bound t c p }) (record { 0 = delay_bound t c p })) BigShare
+      (Ok (shares_by (share_needed t c p k) (queue_bound t c p) (delay_bound t c p))) (Err BigShare)
   unfolding share_of
   fair-share = simp (up-to-is 128 t f.slots, up-to-is 65535 c f.burst, up-to-is 65535 p f.period, up-to-is 4 k f.repeats)
 
   pub fair-done : (s q : Fragments) (d : Slots) → share_needed t c p k ≤ 65535 → s.0 ≡ share_needed t c p k → q.0 ≡ queue_bound t c p
-      → d.0 ≡ delay_bound t c p → Done s q d ≡ share_of t c p k
+      → d.0 ≡ delay_bound t c p → Ok (s, q, d) ≡ share_of t c p k
   fair-done s q d h es eq ed = rw (fair-share, le-leb (share_needed t c p k) 65535 h)
-      (λ i. Done (record { 0 = es i }) (record { 0 = eq i }) (record { 0 = ed i }))
+      (λ i. Ok (shares_by (es i) (eq i) (ed i)))
+
+-- ---- what the code asks of a flow whose four numbers passed their tests
+
+tested : (t c p k : ℕ) → up_to 128 t ≡ true → up_to 65535 c ≡ true → up_to 65535 p ≡ true → up_to 4 k ≡ true → Fair t c p k
+tested t c p k u v w x = record { slots = up-to _ _ u; burst = up-to _ _ v; period = up-to _ _ w; repeats = up-to _ _ x }
+
+pub in_range : (most x : ℕ) → up_to most x ≡ true → (0 < x) × (x ≤ most)
+in_range most x e = let h = up-to most x e in (omega (arith, h.0), h.1)
+
+pub product_most : (t c : ℕ) → up_to 128 t ≡ true → up_to 65535 c ≡ true → c * t ≤ 8388480
+product_most t c u v = mul-le-mul (up-to 65535 c v).1 (up-to 128 t u).1
+
+pub once_some : (t c p : ℕ) → up_to 128 t ≡ true → up_to 65535 c ≡ true → up_to 65535 p ≡ true → 0 < rounded_up (c * t) p
+once_some t c p u v w = up_pos (c * t) p (product t c (up-to 128 t u).0 (up-to 65535 c v).0) (up-to 65535 p w).0
+
+pub sent_most : (t c p k : ℕ) → up_to 128 t ≡ true → up_to 65535 c ≡ true → up_to 65535 p ≡ true → up_to 4 k ≡ true
+    → k * rounded_up (c * t) p ≤ 33553920
+sent_most t c p k u v w x = fair-most t c p k (tested t c p k u v w x)
+
+pub once_sent : (k n : ℕ) → up_to 4 k ≡ true → n ≤ k * n
+once_sent k n x = times-most k n (up-to 4 k x).0
+
+pub time_most : (t c n : ℕ) → up_to 128 t ≡ true → up_to 65535 c ≡ true → 0 < n → rounded_up (c * t) n ≤ 8388480
+time_most t c n u v some = le_trans (up-most (c * t) n some) (product_most t c u v)
+
+pub flow_big : (t c p k : ℕ) → up_to 128 t ≡ true → up_to 65535 c ≡ true → up_to 65535 p ≡ true → up_to 4 k ≡ true
+    → 65535 < k * rounded_up (c * t) p → share_of t c p k ≡ Err BigShare
+flow_big t c p k u v w x over = rw (fair-share t c p k (tested t c p k u v w x), lt-leb (share_needed t c p k) 65535 over)
+
+pub flow_done : (t c p k : ℕ) (s q : Fragments) (d : Slots) → up_to 128 t ≡ true → up_to 65535 c ≡ true → up_to 65535 p ≡ true → up_to 4 k ≡ true
+    → s.0 ≤ 65535 → s.0 ≡ share_needed t c p k → q.0 ≡ queue_bound t c p → d.0 ≡ delay_bound t c p → share_of t c p k ≡ Ok (s, q, d)
+flow_done t c p k s q d u v w x few es eq ed = sym (fair-done t c p k (tested t c p k u v w x) s q d (omega (arith, es, few)) es eq ed)
+
+pub ruleset flows = (in_range, product_most, once_some, sent_most, once_sent, time_most, flow_big, flow_done)

@@ -7,11 +7,12 @@ use borrow.Author.Tests.{leb-true, leb-false}
 use lib.Dec.{leb}
 use Rattle.laws.specs.Choice.{pick}
 use Rattle.laws.proofs.Choice.{both, both_is}
+use Rattle.std.specs.Prelude.{Ok, Err}
 use Rattle.site.specs.Record.{up_to}
 use Rattle.site.proofs.Faults.{up-to, up-to-is}
-use Rattle.shares.specs.Share.{rounded_up, share_once, share_needed, queue_bound, delay_bound, share_of}
+use Rattle.shares.specs.Share.{rounded_up, share_once, share_needed, queue_bound, delay_bound, shares_by, share_of}
 use Rattle.shares.specs.Means.{Fair, Bounds, Within, Above, ShareMeans}
-use Rattle.shares.specs.declared.ShareAnswer.TheVariants.{Done, OutOfRange, BadFlow, BigShare}
+use Rattle.shares.specs.declared.ShareError.TheVariants.{OutOfRange, BadFlow, BigShare}
 use Rattle.shares.proofs.Laws.{up-is-least, fair-pos}
 
 module _ (t c p k : ℕ) where
@@ -42,9 +43,9 @@ module _ (t c p k : ℕ) where
       → ShareMeans t c p k
       (pick u
       (pick v
-      (pick w (Done (record { 0 = share_needed t c p k }) (record { 0 = queue_bound t c p }) (record { 0 = delay_bound t c p })) BigShare)
-      BadFlow)
-      OutOfRange)
+      (pick w (Ok (shares_by (share_needed t c p k) (queue_bound t c p) (delay_bound t c p))) (Err BigShare))
+      (Err BadFlow))
+      (Err OutOfRange))
   means-at false v w e h g = λ i. true≢false (sym (up-to-is 128 t i) ∙ e)
   means-at true false w e h g = (
     up-to _ _ e,

@@ -1,8 +1,9 @@
 -- What a share's answer means, said a second time, by products alone: no division. proofs/Means.antt shows that the definition says this.
-use Rattle.std.specs.Prelude.{ℕ, ◌+◌, ◌-◌, ◌*◌, ◌≤◌, ◌<◌, ◌≡◌}
+use Rattle.std.specs.Prelude.{ℕ, ◌+◌, ◌-◌, ◌*◌, ◌≤◌, ◌<◌, ◌≡◌, Result, Ok, Err}
 use Rattle.site.specs.Means.{UpTo}
-use Rattle.shares.specs.declared.ShareAnswer.{ShareAnswer}
-use Rattle.shares.specs.declared.ShareAnswer.TheVariants.{Done, OutOfRange, BadFlow, BigShare}
+use Rattle.shares.specs.Share.{Shares}
+use Rattle.shares.specs.declared.ShareError.{ShareError}
+use Rattle.shares.specs.declared.ShareError.TheVariants.{OutOfRange, BadFlow, BigShare}
 
 -- T 1 to 128; burst and period "each 1 to 65,535"; W4: "k from 1 to 4"
 pub record Fair (t c p k : ℕ) : Type 0 where
@@ -39,8 +40,8 @@ pub record Above (t c p k : ℕ) : Type 0 where
   pub above : 65535 < k * once
 
 -- "Share: 1 (T out of range), 15, 16"; W4: "15 also when k is outside 1 to 4; 16 is tested on the new share"
-abbrev pub ShareMeans : ℕ → ℕ → ℕ → ℕ → ShareAnswer → Type 0
-ShareMeans t c p k OutOfRange = UpTo 128 t → ⊥
-ShareMeans t c p k BadFlow = UpTo 128 t × (UpTo 65535 c × (UpTo 65535 p × UpTo 4 k) → ⊥)
-ShareMeans t c p k BigShare = Fair t c p k × Above t c p k
-ShareMeans t c p k (Done s q d) = Fair t c p k × Bounds t c p k s.0 q.0 d.0
+abbrev pub ShareMeans : ℕ → ℕ → ℕ → ℕ → Result Shares ShareError → Type 0
+ShareMeans t c p k (Err OutOfRange) = UpTo 128 t → ⊥
+ShareMeans t c p k (Err BadFlow) = UpTo 128 t × (UpTo 65535 c × (UpTo 65535 p × UpTo 4 k) → ⊥)
+ShareMeans t c p k (Err BigShare) = Fair t c p k × Above t c p k
+ShareMeans t c p k (Ok (s, q, d)) = Fair t c p k × Bounds t c p k s.0 q.0 d.0

@@ -1,9 +1,11 @@
 -- The share of a flow: T slots in a superframe, burst c in fragments, period p in slots.
-use Rattle.std.specs.Prelude.{ℕ, ◌+◌, ◌*◌, ◌/◌, ◌%◌, ◌&&◌, leb, eqb}
+use Rattle.std.specs.Prelude.{ℕ, ◌+◌, ◌*◌, ◌/◌, ◌%◌, ◌&&◌, leb, eqb, Result, Ok, Err}
 use Rattle.laws.specs.Choice.{pick}
 use Rattle.site.specs.Record.{up_to}
-use Rattle.shares.specs.declared.ShareAnswer.{ShareAnswer}
-use Rattle.shares.specs.declared.ShareAnswer.TheVariants.{Done, OutOfRange, BadFlow, BigShare}
+use Rattle.shares.specs.declared.Fragments.{Fragments}
+use Rattle.shares.specs.declared.Slots.{Slots}
+use Rattle.shares.specs.declared.ShareError.{ShareError}
+use Rattle.shares.specs.declared.ShareError.TheVariants.{OutOfRange, BadFlow, BigShare}
 
 -- a / b "rounded up": the quotient, and one more where something is left over
 unfoldable pub rounded_up : ℕ → ℕ → ℕ
@@ -33,15 +35,20 @@ queue_bound t c p = c + share_once t c p
 abbrev pub delay_bound : ℕ → ℕ → ℕ → ℕ
 delay_bound t c p = t + rounded_up (c * t) (share_once t c p)
 
+-- "share, queue bound, delay bound"
+abbrev pub Shares : Type 0
+Shares = Fragments × Fragments × Slots
+
+abbrev pub shares_by : ℕ → ℕ → ℕ → Shares
+shares_by s q d = (record { 0 = s }, record { 0 = q }, record { 0 = d })
+
 -- T 1 to 128; "Burst c in fragments, period p in slots, each 1 to 65,535"; "share above 65,535". "Share: 1 (T out of range), 15, 16."
 -- 15 is "burst or period is 0"; it is given for one above 65,535 too, for which the document has no other number.
 -- W4: "15 also when k is outside 1 to 4; 16 is tested on the new share."
-unfoldable pub share_of : ℕ → ℕ → ℕ → ℕ → ShareAnswer
+unfoldable pub share_of : ℕ → ℕ → ℕ → ℕ → Result Shares ShareError
 share_of t c p k =
     pick (up_to 128 t)
     (pick (up_to 65535 c && (up_to 65535 p && up_to most_repeats k))
-    (pick (leb (share_needed t c p k) 65535)
-    (Done (record { 0 = share_needed t c p k }) (record { 0 = queue_bound t c p }) (record { 0 = delay_bound t c p }))
-    BigShare)
-    BadFlow)
-    OutOfRange
+    (pick (leb (share_needed t c p k) 65535) (Ok (shares_by (share_needed t c p k) (queue_bound t c p) (delay_bound t c p))) (Err BigShare))
+    (Err BadFlow))
+    (Err OutOfRange)

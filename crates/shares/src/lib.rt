@@ -26,16 +26,16 @@ const MOST_REPEATS: usize = 4;
 // The repeats of a caller that gives none.
 const DEFAULT_REPEATS: u32 = 2;
 
-// The share, the bound on the queue and the bound on the delay; or T is out of range, the burst, the period or the repeats are, the share is above 65,535.
+// Why there is no share: T is out of range, the burst, the period or the repeats are, or the share is above 65,535.
 #[derive(Clone, Copy)]
-pub enum ShareAnswer {
-    Done(Fragments, Fragments, Slots),
+pub enum ShareError {
     OutOfRange,
     BadFlow,
     BigShare,
 }
 
 // a / b rounded up: one more than the quotient where something is left over. Nothing is added to a, which may be fragments times slots.
+#[tactic(auto, unfolding(crate::specs::Share::rounded_up))]
 fn rounded_up(a: u32, b: u32) -> u32
     requires { (0 < b) × (a ≤ 8388480) }
     ensures { result ≡ rounded_up a b }
@@ -71,22 +71,6 @@ fn time_for(burst: Fragments, share: Fragments, slots: Slots) -> Slots
     Slots(rounded_up(burst.0 * slots.0, share.0))
 }
 
-// Fragments and fragments.
-fn add_fragments(a: Fragments, b: Fragments) -> Fragments
-    requires { (a.0 ≤ 65535) × (b.0 ≤ 65535) }
-    ensures { result.0 ≡ a.0 + b.0 }
-{
-    Fragments(a.0 + b.0)
-}
-
-// Slots and slots.
-fn add_slots(a: Slots, b: Slots) -> Slots
-    requires { (a.0 ≤ 128) × (b.0 ≤ 8388480) }
-    ensures { result.0 ≡ a.0 + b.0 }
-{
-    Slots(a.0 + b.0)
-}
-
 // Whether a flow may ask for so many repeats: from 1 to 4.
 fn repeats_fit(repeats: Repeats) -> bool
     ensures { result ≡ up_to most_repeats repeats.0 }
@@ -94,30 +78,37 @@ fn repeats_fit(repeats: Repeats) -> bool
     within(repeats.0 as usize, MOST_REPEATS)
 }
 
-// The share of a flow with its bounds: T is `slots`. The bounds have the share of one sending in them, whatever the repeats.
-pub fn share_of(slots: Slots, burst: Fragments, period: Slots, repeats: Repeats) -> ShareAnswer
+// The share of a flow, the bound on its queue and the bound on its delay: T is `slots`. The bounds have the share of one sending in them, whatever the repeats.
+#[tactic(auto, using(crate::proofs::Laws::flows), unfolding(crate::specs::Share::share_of))]
+pub fn share_of(
+    slots: Slots,
+    burst: Fragments,
+    period: Slots,
+    repeats: Repeats,
+) -> Result<(Fragments, Fragments, Slots), ShareError>
     ensures { result ≡ share_of slots.0 burst.0 period.0 repeats.0 }
 {
     if !within(slots.0 as usize, 128) {
-        return ShareAnswer::OutOfRange;
+        return Err(ShareError::OutOfRange);
     }
     if !within(burst.0 as usize, 65535) {
-        return ShareAnswer::BadFlow;
+        return Err(ShareError::BadFlow);
     }
     if !within(period.0 as usize, 65535) {
-        return ShareAnswer::BadFlow;
+        return Err(ShareError::BadFlow);
     }
     if !repeats_fit(repeats) {
-        return ShareAnswer::BadFlow;
+        return Err(ShareError::BadFlow);
     }
     let once = share_for(burst, period, slots);
     let s = repeated(once, repeats);
     if 65535 < s.0 {
-        return ShareAnswer::BigShare;
+        return Err(ShareError::BigShare);
     }
-    let queue = add_fragments(burst, once);
-    let delay = add_slots(slots, time_for(burst, once, slots));
-    ShareAnswer::Done(s, queue, delay)
+    let queue = Fragments(burst.0 + once.0);
+    let time = time_for(burst, once, slots);
+    let delay = Slots(slots.0 + time.0);
+    Ok((s, queue, delay))
 }
 
 // The repeats that are taken for a caller that gives none.
@@ -128,7 +119,11 @@ pub fn default_repeats() -> Repeats
 }
 
 // The same for a caller that gives no repeats.
-pub fn share(slots: Slots, burst: Fragments, period: Slots) -> ShareAnswer
+pub fn share(
+    slots: Slots,
+    burst: Fragments,
+    period: Slots,
+) -> Result<(Fragments, Fragments, Slots), ShareError>
     ensures { result ≡ share_of slots.0 burst.0 period.0 default_repeats }
 {
     share_of(slots, burst, period, Repeats(DEFAULT_REPEATS))

@@ -25,7 +25,7 @@ use Rattle.site.specs.Reach.{reaches}
 use Rattle.site.specs.Means.{UpTo}
 use Rattle.site.specs.declared.Site.{Site}
 use Rattle.site.specs.declared.Fault.{Fault}
-use Rattle.site.specs.declared.Fault.TheVariants.{Fine, Size, Rule, Load, Reach, Blocked}
+use Rattle.site.specs.declared.Fault.TheVariants.{Size, Rule, Reach, Blocked}
 use Rattle.site.proofs.Faults.{up-to, up-to-is, few-positions, ruled, ruled-is}
 use Rattle.lines.specs.Format.{crlf, header, marks, label, cell_line, bits_of, line_number}
 use Rattle.lines.specs.Content.{cells_of_line, load_of_line, row_of_line, line_in, line_ok, head_ok}
@@ -33,45 +33,41 @@ use Rattle.text.specs.Decimal.{decimal}
 use Rattle.lines.proofs.Lines.{ok-written, line-there, line-content, marks-at}
 use Rattle.lines.proofs.Heads.{head-written, head-is, cells-few}
 use Rattle.sheet.specs.Sheet.{line_of, lines_from, sheet_bytes}
-use Rattle.sheet.specs.Read.{from, bad_cell, body, site_of_sheet, judged, bad_sheet, cells_read, read_sheet}
+use Rattle.sheet.specs.Read.{from, bad_cell, body, site_of_sheet, judged, judged_as, bad_sheet, cells_read, read_sheet}
 use Rattle.sheet.specs.Means.{BlockedHeld, FitsSheet, FirstBadOfSheet, no_first_line, no_cell_line, one_too_many, SheetOf, own_mark, sheet_fault}
 use Rattle.sheet.specs.Means.{MarksItself, BlockedPast, mark_place}
 use Rattle.sheet.specs.declared.SheetRead.{SheetRead}
-use Rattle.sheet.specs.declared.SheetAnswer.TheVariants.{Done, BadLine}
+use Rattle.sheet.specs.declared.SheetError.{SheetError}
+use Rattle.sheet.specs.declared.SheetError.TheVariants.{BadLine}
+use Rattle.std.specs.Prelude.{Result, Ok, Err}
 use Rattle.sheet.proofs.Trip.{bits-two, bad-after, extra-after, sheet-judged, made, lines-made, fits-made}
 
 -- ---- what the record's judge answers
 
-no-line-at : (s : Site) (f : Fault) → fault_of s ≡ f → (l : ℕ) → (judged s).answer ≡ BadLine l → ⊥
-unfolding judged
-no-line-at s Fine q l e = let w = rw q at e in let z : ◌≡◌ {A = ℕ} 0 1 = cc in omega arith
-no-line-at s Size q l e = let w = rw q at e in let z : ◌≡◌ {A = ℕ} 0 1 = cc in omega arith
-no-line-at s Rule q l e = let w = rw q at e in let z : ◌≡◌ {A = ℕ} 0 1 = cc in omega arith
-no-line-at s (Load k) q l e = let w = rw q at e in let z : ◌≡◌ {A = ℕ} 0 1 = cc in omega arith
-no-line-at s (Reach k) q l e = let w = rw q at e in let z : ◌≡◌ {A = ℕ} 0 1 = cc in omega arith
-no-line-at s (Blocked k) q l e = let w = rw q at e in let z : ◌≡◌ {A = ℕ} 0 1 = cc in omega arith
+no-line : (s : Site) (f : Result Unit Fault) (l : ℕ) → (judged_as s f).answer ≡ Err (BadLine l) → ⊥
+no-line s (Ok u) l e = let z : ◌≡◌ {A = ℕ} 0 1 = cc in omega arith
+no-line s (Err f) l e = let z : ◌≡◌ {A = ℕ} 0 1 = cc in omega arith
 
-judged-no-line : (s : Site) (l : ℕ) → (judged s).answer ≡ BadLine l → ⊥
-judged-no-line s l e = no-line-at s (fault_of s) refl l e
+judged-no-line : (s : Site) (l : ℕ) → (judged s).answer ≡ Err (BadLine l) → ⊥
+unfolding judged
+judged-no-line s l e = no-line s (fault_of s) l e
 
 -- a record that is accepted has no fault, and is the answer
-judged-at : (s : Site) (f : Fault) → fault_of s ≡ f → (judged s).answer ≡ Done → (f ≡ Fine) × ((judged s).site ≡ s)
-unfolding judged
-judged-at s Fine q e = (refl, rw q)
-judged-at s Size q e = let w = rw q at e in let z : ◌≡◌ {A = ℕ} 0 1 = cc in absurd (omega arith)
-judged-at s Rule q e = let w = rw q at e in let z : ◌≡◌ {A = ℕ} 0 1 = cc in absurd (omega arith)
-judged-at s (Load k) q e = let w = rw q at e in let z : ◌≡◌ {A = ℕ} 0 1 = cc in absurd (omega arith)
-judged-at s (Reach k) q e = let w = rw q at e in let z : ◌≡◌ {A = ℕ} 0 1 = cc in absurd (omega arith)
-judged-at s (Blocked k) q e = let w = rw q at e in let z : ◌≡◌ {A = ℕ} 0 1 = cc in absurd (omega arith)
+judged-at : (s : Site) (f : Result Unit Fault) → (judged_as s f).answer ≡ Ok tt → (f ≡ Ok tt) × ((judged_as s f).site ≡ s)
+judged-at s (Ok u) e = (refl, refl)
+judged-at s (Err f) e = let z : ◌≡◌ {A = ℕ} 0 1 = cc in absurd (omega arith)
 
-zeros-at : (s : Site) (f : Fault) → fault_of s ≡ f → ((judged s).answer ≡ Done → ⊥) → (judged s).site ≡ zero_site
+judged_done : (s : Site) → (judged s).answer ≡ Ok tt → (fault_of s ≡ Ok tt) × ((judged s).site ≡ s)
 unfolding judged
-zeros-at s Fine q n = absurd (n (rw q))
-zeros-at s Size q n = rw q
-zeros-at s Rule q n = rw q
-zeros-at s (Load k) q n = rw q
-zeros-at s (Reach k) q n = rw q
-zeros-at s (Blocked k) q n = rw q
+judged_done s e = judged-at s (fault_of s) e
+
+zeros-at : (s : Site) (f : Result Unit Fault) → ((judged_as s f).answer ≡ Ok tt → ⊥) → (judged_as s f).site ≡ zero_site
+zeros-at s (Ok u) n = absurd (n refl)
+zeros-at s (Err f) n = refl
+
+judged-zeros : (s : Site) → ((judged s).answer ≡ Ok tt → ⊥) → (judged s).site ≡ zero_site
+unfolding judged
+judged-zeros s n = zeros-at s (fault_of s) n
 
 -- ---- any bytes: the first bad line is told, or the record is judged
 
@@ -177,18 +173,18 @@ module _ (b : List ℕ) (slots channels : ℕ) (blocked : List ℕ) (rule : ℕ)
   -- ---- 17
 
   -- "17, sheet malformed, with its first bad line (from 1; missing and extra lines count)": with that line, and only then
-  pub bad-first : (l : ℕ) → (read_sheet b slots channels blocked rule).answer ≡ BadLine l → FirstBadOfSheet b l
+  pub bad-first : (l : ℕ) → (read_sheet b slots channels blocked rule).answer ≡ Err (BadLine l) → FirstBadOfSheet b l
   unfolding bad_sheet
   bad-first l e = go came
     where
       go : Came b slots channels blocked rule → FirstBadOfSheet b l
       go (told m f q) =
-          let is : BadLine m ≡ BadLine l = sym (ap (λ (x : SheetRead). x.answer) q) ∙ e in
+          let is : ◌≡◌ {A = Result Unit SheetError} (Err (BadLine m)) (Err (BadLine l)) = sym (ap (λ (x : SheetRead). x.answer) q) ∙ e in
           let same : m ≡ l = cc in
           rw (← same) f
       go (was s w q) = absurd (judged-no-line s l (sym (ap (λ (x : SheetRead). x.answer) q) ∙ e))
 
-  pub first-told : (l : ℕ) → FirstBadOfSheet b l → (read_sheet b slots channels blocked rule).answer ≡ BadLine l
+  pub first-told : (l : ℕ) → FirstBadOfSheet b l → (read_sheet b slots channels blocked rule).answer ≡ Err (BadLine l)
   unfolding read_sheet bad_sheet sheet_bytes
   first-told l (no_first_line e none) =
       let h : head_ok b ≡ false = refute _ (λ t. none (cells_of_line b) _ ((head-is b t).0, cells-few b) (head-is b t).1) in
@@ -200,12 +196,12 @@ module _ (b : List ℕ) (slots channels : ℕ) (blocked : List ℕ) (rule : ℕ)
       (refute _ (λ t. let w = line-there s.cells k rest t in
       none (load_of_line k rest) (row_of_line s.cells k rest) (drop (length (line_in s.cells k rest)) rest) w.0
       (rw (line-content s.cells k rest) w.1))))
-      ∙ ap BadLine (sym e)
+      ∙ ap (λ (k : ℕ). Err (BadLine k)) (sym e)
   first-told l (one_too_many s x rest e fits is) =
       ap (λ (y : SheetRead). y.answer)
       (ap (λ (y : List ℕ). read_sheet y slots channels blocked rule) (is ∙ append_assoc (header s.cells) (lines_from s 0 s.cells) (x ∷ rest))
       ∙ extra-after s fits (x ∷ rest) slots channels blocked rule (omega arith))
-      ∙ ap BadLine (sym e)
+      ∙ ap (λ (k : ℕ). Err (BadLine k)) (sym e)
 
   -- where no line is bad, the bytes are the sheet of a record
   pub no-bad-line : ((l : ℕ) → FirstBadOfSheet b l → ⊥) → (s : Site) × SheetOf b slots channels blocked rule s
@@ -220,38 +216,38 @@ module _ (b : List ℕ) (slots channels : ℕ) (blocked : List ℕ) (rule : ℕ)
   sheet-read s w = rw (← w.bytes, ← w.slots_are, ← w.channels_are, ← w.blocked_are, ← w.rule_is) (sheet-judged s w.fits)
 
   -- "each gives a site of zeros"
-  pub refused-zeros : ((read_sheet b slots channels blocked rule).answer ≡ Done → ⊥) → (read_sheet b slots channels blocked rule).site ≡ zero_site
+  pub refused-zeros : ((read_sheet b slots channels blocked rule).answer ≡ Ok tt → ⊥) → (read_sheet b slots channels blocked rule).site ≡ zero_site
   unfolding bad_sheet
   refused-zeros n = go came
     where
       go : Came b slots channels blocked rule → (read_sheet b slots channels blocked rule).site ≡ zero_site
       go (told l f q) = ap (λ (x : SheetRead). x.site) q
-      go (was s w q) = ap (λ (x : SheetRead). x.site) q ∙ zeros-at s (fault_of s) refl (λ e. n (ap (λ (x : SheetRead). x.answer) q ∙ e))
+      go (was s w q) = ap (λ (x : SheetRead). x.site) q ∙ judged-zeros s (λ e. n (ap (λ (x : SheetRead). x.answer) q ∙ e))
 
   -- ---- the accepted sheets
 
   -- what is accepted is the sheet of the site that is read, and that has no fault
-  pub accepted-is : (read_sheet b slots channels blocked rule).answer ≡ Done
+  pub accepted-is : (read_sheet b slots channels blocked rule).answer ≡ Ok tt
       → SheetOf b slots channels blocked rule (read_sheet b slots channels blocked rule).site ×
-      (fault_of (read_sheet b slots channels blocked rule).site ≡ Fine)
+      (fault_of (read_sheet b slots channels blocked rule).site ≡ Ok tt)
   unfolding bad_sheet
   accepted-is e = go came
     where
       go : Came b slots channels blocked rule
           → SheetOf b slots channels blocked rule (read_sheet b slots channels blocked rule).site
-          × (fault_of (read_sheet b slots channels blocked rule).site ≡ Fine)
+          × (fault_of (read_sheet b slots channels blocked rule).site ≡ Ok tt)
       go (told l f q) =
-          let is : BadLine l ≡ Done = sym (ap (λ (x : SheetRead). x.answer) q) ∙ e in
+          let is : ◌≡◌ {A = Result Unit SheetError} (Err (BadLine l)) (Ok tt) = sym (ap (λ (x : SheetRead). x.answer) q) ∙ e in
           let z : ◌≡◌ {A = ℕ} 0 1 = cc in
           absurd (omega arith)
       go (was s w q) =
-          let k = judged-at s (fault_of s) refl (sym (ap (λ (x : SheetRead). x.answer) q) ∙ e) in
+          let k = judged_done s (sym (ap (λ (x : SheetRead). x.answer) q) ∙ e) in
           let is : (read_sheet b slots channels blocked rule).site ≡ s = ap (λ (x : SheetRead). x.site) q ∙ k.1 in
           rw is (w, k.0)
 
   -- exactly the sheets of the format are accepted, each as the site whose sheet it is
-  pub sheet-accepted : (s : Site) → SheetOf b slots channels blocked rule s → fault_of s ≡ Fine
-      → read_sheet b slots channels blocked rule ≡ record { site = s; answer = Done }
+  pub sheet-accepted : (s : Site) → SheetOf b slots channels blocked rule s → fault_of s ≡ Ok tt
+      → read_sheet b slots channels blocked rule ≡ record { site = s; answer = Ok tt }
   unfolding judged
   sheet-accepted s w fine = sheet-read s w ∙ rw fine
 
@@ -294,7 +290,8 @@ module _ (s : Site) (fits : FitsSheet s) where
           each j (yes h) high m = own j h ∙ first-before mine 0 s.cells j (omega arith) (omega arith)
           each j (no h) high m = other j (omega arith) m
 
-  choose : (t : Bool) (k : ℕ) (f : Fault) → (t ≡ true → k < 32) → pick (ltb (pick t k 32) 32) (Reach (pick t k 32 + 1)) f ≡ pick t (Reach (k + 1)) f
+  choose : (t : Bool) (k : ℕ) (f : Result Unit Fault) → (t ≡ true → k < 32)
+      → pick (ltb (pick t k 32) 32) (Err (Reach (pick t k 32 + 1))) f ≡ pick t (Err (Reach (k + 1))) f
   choose true k f h = rw (lt-ltb k 32 (h refl))
   choose false k f h = refl
 
@@ -303,19 +300,24 @@ module _ (s : Site) (fits : FitsSheet s) where
   size_is = rw (up-to-is 32 s.cells fits.cells)
 
   -- what follows 3
-  abbrev after : Fault
-  after = pick (ltb (extra_blocked s) most_positions) (Blocked (extra_blocked s)) Fine
+  abbrev after : Result Unit Fault
+  after = pick (ltb (extra_blocked s) most_positions) (Err (Blocked (extra_blocked s))) (Ok tt)
+
+  -- the choices of `sheet_fault`
+  abbrev choices : (t o u v : Bool) → Result Unit Fault
+  choices t o u v =
+      pick t (pick o (pick u (Err (Reach (own_mark s + 1))) (pick v (Err (Blocked (extra_blocked s))) (Ok tt))) (Err Rule)) (Err Size)
 
   -- 1 for slots or channels out of range, then 24, then 3 with the lowest cell that marks itself, and then 20
   pub fault-is : fault_of s ≡ sheet_fault s
   unfolding fault_of sheet_fault
   fault-is =
       rw (size_is, no_load, bad-row-is)
-      (ap (λ (f : Fault). pick (up_to 128 s.slots && up_to 16 s.channels) (pick (rule_ok s.rule) f Rule) Size)
+      (ap (λ (f : Result Unit Fault). pick (up_to 128 s.slots && up_to 16 s.channels) (pick (rule_ok s.rule) f (Err Rule)) (Err Size))
       (choose (ltb (own_mark s) s.cells) (own_mark s) after (λ e. let low : own_mark s < s.cells = ltb-true _ _ e in omega (arith, fits.cells))))
 
   -- so 1 exactly where slots or channels are out of range
-  pub fault-one : fault_of s ≡ Size ↔ ((UpTo 128 s.slots × UpTo 16 s.channels) → ⊥)
+  pub fault-one : fault_of s ≡ Err Size ↔ ((UpTo 128 s.slots × UpTo 16 s.channels) → ⊥)
   unfolding sheet_fault
   fault-one = (
     λ e u. not-size (rule_ok s.rule) (ltb (own_mark s) s.cells) (ltb (extra_blocked s) most_positions)
@@ -323,14 +325,14 @@ module _ (s : Site) (fits : FitsSheet s) where
     λ n. fault-is ∙ rw (refute (up_to 128 s.slots && up_to 16 s.channels) (λ t. let w = both _ _ t in n (up-to 128 _ w.0, up-to 16 _ w.1))),
   )
     where
-      not-size : (o t u : Bool) → pick o (pick t (Reach (own_mark s + 1)) (pick u (Blocked (extra_blocked s)) Fine)) Rule ≡ Size → ⊥
+      not-size : (o t u : Bool) → choices true o t u ≡ Err Size → ⊥
       not-size false t u e = let z : ◌≡◌ {A = ℕ} 0 1 = cc in omega arith
       not-size true true u e = let z : ◌≡◌ {A = ℕ} 0 1 = cc in omega arith
       not-size true false true e = let z : ◌≡◌ {A = ℕ} 0 1 = cc in omega arith
       not-size true false false e = let z : ◌≡◌ {A = ℕ} 0 1 = cc in omega arith
 
   -- and then 24 exactly where the rule is neither 1 nor 2
-  pub fault-twenty-four : fault_of s ≡ Rule ↔ (UpTo 128 s.slots × UpTo 16 s.channels × ((s.rule ≡ 1) ⊎ (s.rule ≡ 2) → ⊥))
+  pub fault-twenty-four : fault_of s ≡ Err Rule ↔ (UpTo 128 s.slots × UpTo 16 s.channels × ((s.rule ≡ 1) ⊎ (s.rule ≡ 2) → ⊥))
   unfolding sheet_fault
   fault-twenty-four = (
     λ e. to-rule (up_to 128 s.slots && up_to 16 s.channels) (rule_ok s.rule) (ltb (own_mark s) s.cells) (ltb (extra_blocked s) most_positions) refl refl
@@ -339,7 +341,7 @@ module _ (s : Site) (fits : FitsSheet s) where
   )
     where
       to-rule : (t o u v : Bool) → (up_to 128 s.slots && up_to 16 s.channels) ≡ t → rule_ok s.rule ≡ o →
-          pick t (pick o (pick u (Reach (own_mark s + 1)) (pick v (Blocked (extra_blocked s)) Fine)) Rule) Size ≡ Rule →
+          choices t o u v ≡ Err Rule →
           UpTo 128 s.slots × UpTo 16 s.channels × ((s.rule ≡ 1) ⊎ (s.rule ≡ 2) → ⊥)
       to-rule false o u v p q e = let z : ◌≡◌ {A = ℕ} 0 1 = cc in absurd (omega arith)
       to-rule true true true v p q e = let z : ◌≡◌ {A = ℕ} 0 1 = cc in absurd (omega arith)
@@ -350,7 +352,7 @@ module _ (s : Site) (fits : FitsSheet s) where
           (up-to 128 _ w.0, up-to 16 _ w.1, λ r. true≢false (sym (ruled-is s.rule r) ∙ q))
 
   -- and else 3 exactly where a cell marks itself, with the lowest one
-  pub fault-three : (k : ℕ) → fault_of s ≡ Reach (k + 1) ↔ MarksItself s k
+  pub fault-three : (k : ℕ) → fault_of s ≡ Err (Reach (k + 1)) ↔ MarksItself s k
   unfolding sheet_fault own_mark
   fault-three k = (
     λ e. to-mark (up_to 128 s.slots && up_to 16 s.channels) (rule_ok s.rule) (ltb (own_mark s) s.cells) (ltb (extra_blocked s) most_positions)
@@ -368,7 +370,7 @@ module _ (s : Site) (fits : FitsSheet s) where
   )
     where
       to-mark : (t o u v : Bool) → (up_to 128 s.slots && up_to 16 s.channels) ≡ t → rule_ok s.rule ≡ o → ltb (own_mark s) s.cells ≡ u →
-          pick t (pick o (pick u (Reach (own_mark s + 1)) (pick v (Blocked (extra_blocked s)) Fine)) Rule) Size ≡ Reach (k + 1) → MarksItself s k
+          choices t o u v ≡ Err (Reach (k + 1)) → MarksItself s k
       to-mark false o u v p y q e = let z : ◌≡◌ {A = ℕ} 0 1 = cc in absurd (omega arith)
       to-mark true false u v p y q e = let z : ◌≡◌ {A = ℕ} 0 1 = cc in absurd (omega arith)
       to-mark true true false true p y q e = let z : ◌≡◌ {A = ℕ} 0 1 = cc in absurd (omega arith)
@@ -388,7 +390,7 @@ module _ (s : Site) (fits : FitsSheet s) where
           }
 
   -- and then 20 exactly where a position past the site's is blocked, with the lowest one
-  pub fault-twenty : (k : ℕ) → fault_of s ≡ Blocked k ↔ BlockedPast s k
+  pub fault-twenty : (k : ℕ) → fault_of s ≡ Err (Blocked k) ↔ BlockedPast s k
   unfolding sheet_fault own_mark extra_blocked
   fault-twenty k = (
     λ e. to-past (up_to 128 s.slots && up_to 16 s.channels) (rule_ok s.rule) (ltb (own_mark s) s.cells) (ltb (extra_blocked s) most_positions)
@@ -410,7 +412,7 @@ module _ (s : Site) (fits : FitsSheet s) where
     where
       to-past : (t o u v : Bool) → (up_to 128 s.slots && up_to 16 s.channels) ≡ t → rule_ok s.rule ≡ o → ltb (own_mark s) s.cells ≡ u
           → ltb (extra_blocked s) most_positions ≡ v
-          → pick t (pick o (pick u (Reach (own_mark s + 1)) (pick v (Blocked (extra_blocked s)) Fine)) Rule) Size ≡ Blocked k → BlockedPast s k
+          → choices t o u v ≡ Err (Blocked k) → BlockedPast s k
       to-past false o u v p y q r e = let z : ◌≡◌ {A = ℕ} 0 1 = cc in absurd (omega arith)
       to-past true false u v p y q r e = let z : ◌≡◌ {A = ℕ} 0 1 = cc in absurd (omega arith)
       to-past true true true v p y q r e = let z : ◌≡◌ {A = ℕ} 0 1 = cc in absurd (omega arith)

@@ -16,7 +16,8 @@ use Rattle.site.specs.declared.Site.{Site}
 use Rattle.site.specs.declared.Fault.TheVariants.{Size, Rule, Reach, Blocked}
 use Rattle.sheet.specs.Sheet.{line_of, lines_from, sheet_bytes}
 use Rattle.sheet.specs.Read.{from, loads_of_sheet, rows_of_sheet, site_of_sheet, bad_sheet, judged, bad_cell, cells_read, body, read_sheet}
-use Rattle.sheet.specs.declared.SheetAnswer.TheVariants.{Done, Refused}
+use Rattle.sheet.specs.declared.SheetError.TheVariants.{Record}
+use Rattle.std.specs.Prelude.{Ok, Err}
 
 -- ---- written
 
@@ -78,11 +79,11 @@ pub sheets-read :
     ∷ read_sheet (alone ++ (49 ∷ 44 ∷ 48 ∷ 48 ∷ 44 ∷ 48 ∷ 13 ∷ 10 ∷ [])) 1 1 empty_set 1
     ∷ read_sheet (alone ++ (48 ∷ 49 ∷ 44 ∷ 48 ∷ 44 ∷ 48 ∷ 13 ∷ 10 ∷ [])) 1 1 empty_set 1
     ∷ []
-    ≡ record { site = p1; answer = Done }
-    ∷ record { site = zero_site; answer = Refused (Blocked 6) }
-    ∷ record { site = zero_site; answer = Refused (Reach 2) }
-    ∷ record { site = zero_site; answer = Refused Size }
-    ∷ record { site = zero_site; answer = Refused Rule }
+    ≡ record { site = p1; answer = Ok tt }
+    ∷ record { site = zero_site; answer = Err (Record (Blocked 6)) }
+    ∷ record { site = zero_site; answer = Err (Record (Reach 2)) }
+    ∷ record { site = zero_site; answer = Err (Record Size) }
+    ∷ record { site = zero_site; answer = Err (Record Rule) }
     ∷ bad_sheet 1
     ∷ bad_sheet 2
     ∷ bad_sheet 3

@@ -16,7 +16,6 @@ use Rattle.laws.proofs.Search.{first-none, first-is}
 use Rattle.site.specs.Record.{site_of, load_at, row_of, fault_of}
 use Rattle.site.specs.Means.{UpTo}
 use Rattle.site.specs.declared.Site.{Site}
-use Rattle.site.specs.declared.Fault.TheVariants.{Fine}
 use Rattle.site.proofs.Accepted.{fine-sound, fine-loads, fine-rows-past, fine-rows}
 use Rattle.site.proofs.Faults.{sizes}
 use Rattle.lines.specs.Format.{header, bits_of, line_number}
@@ -27,7 +26,7 @@ use Rattle.site.specs.Held.{Held}
 use Rattle.sheet.specs.Sheet.{line_of, lines_from, sheet_bytes}
 use Rattle.sheet.specs.Read.{from, loads_of_sheet, rows_of_sheet, bad_cell, body, site_of_sheet, judged, bad_sheet, cells_read, read_sheet}
 use Rattle.sheet.specs.Means.{BlockedHeld, FitsSheet}
-use Rattle.sheet.specs.declared.SheetAnswer.TheVariants.{Done}
+use Rattle.std.specs.Prelude.{Ok}
 use Rattle.sheet.proofs.Fill.{fill-long, fill-past, fill-at, fill_is, loads-fill, rows_fill}
 
 pub bits-two : (x b : ℕ) → bits_of x b < 2
@@ -150,7 +149,7 @@ module _ (s : Site) (fits : FitsSheet s) where
       ∙ all-judged [] s.slots s.channels s.blocked s.rule refl
 
 -- a fine record can be held
-pub fine-fits : (s : Site) → Held s → fault_of s ≡ Fine → FitsSheet s
+pub fine-fits : (s : Site) → Held s → fault_of s ≡ Ok tt → FitsSheet s
 fine-fits s held fine =
     let r = sizes _ _ _ (fine-sound s fine).sizes in
     record {
@@ -162,8 +161,8 @@ fine-fits s held fine =
     }
 
 -- "Reading a written sheet gives the site"
-pub written_then_read : (s : Site) → FitsSheet s → fault_of s ≡ Fine
-    → read_sheet (sheet_bytes s) s.slots s.channels s.blocked s.rule ≡ record { site = s; answer = Done }
+pub written_then_read : (s : Site) → FitsSheet s → fault_of s ≡ Ok tt
+    → read_sheet (sheet_bytes s) s.slots s.channels s.blocked s.rule ≡ record { site = s; answer = Ok tt }
 unfolding judged
 written_then_read s fits fine = sheet-judged s fits ∙ rw fine
 

@@ -12,9 +12,15 @@ use Rattle.text.specs.Decimal.{decimal}
 use Rattle.lines.specs.Format.{crlf, bits_of, column, columns, header, label, cell_line}
 use Rattle.putlines.proofs.Steps as putlines
 use Rattle.lines.proofs.Lines.{marks-long}
-use Rattle.site.specs.Record.{site_of, load_at}
+use Rattle.std.specs.Prelude.{Ok}
+use Rattle.site.specs.Record.{site_of, load_at, fault_of}
+use Rattle.site.proofs.Faults.{fine-sized}
 use Rattle.site.specs.declared.Site.{Site}
 use Rattle.sheet.specs.Sheet.{line_of, lines_from, sheet_bytes}
+
+-- what the code asks of an accepted record
+pub few_cells : (s : Site) → fault_of s ≡ Ok tt → s.cells ≤ 32
+few_cells s e = (fine-sized s e).cells_most
 
 -- ---- lengths
 

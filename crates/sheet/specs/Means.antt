@@ -1,6 +1,6 @@
 -- What the reader's answer means, said a second time over the format alone: no word of how the reader goes.
 -- proofs/Answers shows that the answer says this and nothing else.
-use Rattle.std.specs.Prelude.{ℕ, ◌+◌, ◌*◌, ◌^◌, ◌<◌, ◌≤◌, ◌≡◌, true, false, ◌&&◌, List, ◌∷◌, ◌++◌, ◌⊎◌, ltb, length, get_or}
+use Rattle.std.specs.Prelude.{ℕ, ◌+◌, ◌*◌, ◌^◌, ◌<◌, ◌≤◌, ◌≡◌, true, false, ◌&&◌, List, ◌∷◌, ◌++◌, ◌⊎◌, ltb, length, get_or, Result, Ok, Err}
 use Rattle.laws.specs.Choice.{pick}
 use Rattle.laws.specs.Search.{first}
 use Rattle.text.specs.Decimal.{decimal}
@@ -11,7 +11,7 @@ use Rattle.site.specs.Reach.{reaches}
 use Rattle.site.specs.Means.{UpTo}
 use Rattle.site.specs.declared.Site.{Site}
 use Rattle.site.specs.declared.Fault.{Fault}
-use Rattle.site.specs.declared.Fault.TheVariants.{Fine, Size, Rule, Reach, Blocked}
+use Rattle.site.specs.declared.Fault.TheVariants.{Size, Rule, Reach, Blocked}
 use Rattle.site.specs.Held.{Held}
 use Rattle.sheet.specs.Sheet.{lines_from, sheet_bytes}
 
@@ -54,14 +54,14 @@ own_mark s = first (λ k. reaches s.reach k k) 0 s.cells
 
 -- "after it 1, then 3 for a mark on oneself": slots or channels out of range, then the lowest row that marks itself; never 2.
 -- W8: "20, blocked bit at or past FT (the lowest), after 3". W11: "24, rule not 1 or 2 in a record, .. after 1"
-unfoldable pub sheet_fault : Site → Fault
+unfoldable pub sheet_fault : Site → Result Unit Fault
 sheet_fault s =
     pick (up_to 128 s.slots && up_to 16 s.channels)
     (pick (rule_ok s.rule)
-    (pick (ltb (own_mark s) s.cells) (Reach (own_mark s + 1))
-    (pick (ltb (extra_blocked s) most_positions) (Blocked (extra_blocked s)) Fine))
-    Rule)
-    Size
+    (pick (ltb (own_mark s) s.cells) (Err (Reach (own_mark s + 1)))
+    (pick (ltb (extra_blocked s) most_positions) (Err (Blocked (extra_blocked s))) (Ok tt)))
+    (Err Rule))
+    (Err Size)
 
 -- when it is 3, word for word: slots, channels and rule are in range, and the cell at index k is the lowest that marks itself
 pub record MarksItself (s : Site) (k : ℕ) : Type 0 where

@@ -1,13 +1,14 @@
 -- What reading a sheet answers, over its lines: the first bad line, then what is wrong with the record that the lines make.
-use Rattle.std.specs.Prelude.{ℕ, zero, suc, not, List, length, drop, set, replicate, ltb}
+use Rattle.std.specs.Prelude.{ℕ, zero, suc, not, List, length, drop, set, replicate, ltb, Result, Ok, Err}
 use Rattle.laws.specs.Choice.{pick}
 use Rattle.laws.specs.Search.{first}
 use Rattle.lines.specs.Format.{header, line_number}
 use Rattle.lines.specs.Content.{cells_of_line, head_ok, load_of_line, row_of_line, line_in, line_ok}
-use Rattle.site.specs.Record.{site_of, zero_site, fault_of, is_fine}
+use Rattle.site.specs.Record.{site_of, zero_site, fault_of}
 use Rattle.site.specs.declared.Site.{Site}
-use Rattle.sheet.specs.declared.SheetAnswer.{SheetAnswer}
-use Rattle.sheet.specs.declared.SheetAnswer.TheVariants.{Done, BadLine, Refused}
+use Rattle.site.specs.declared.Fault.{Fault}
+use Rattle.sheet.specs.declared.SheetError.{SheetError}
+use Rattle.sheet.specs.declared.SheetError.TheVariants.{BadLine, Record}
 use Rattle.sheet.specs.declared.SheetRead.{SheetRead}
 
 -- ---- the lines of n cells, in r, which is what stands after the first line
@@ -35,18 +36,22 @@ site_of_sheet n r slots channels blocked rule = site_of n slots channels (loads_
 
 -- a site that is read; and of every refusal: "each gives a site of zeros"
 abbrev pub sheet_done : Site → SheetRead
-sheet_done s = record { site = s; answer = Done }
+sheet_done s = record { site = s; answer = Ok tt }
 
-abbrev pub refused_sheet : SheetAnswer → SheetRead
-refused_sheet answer = record { site = zero_site; answer = answer }
+abbrev pub refused_sheet : SheetError → SheetRead
+refused_sheet e = record { site = zero_site; answer = Err e }
 
 -- "17, sheet malformed, with its first bad line"
 unfoldable pub bad_sheet : ℕ → SheetRead
 bad_sheet line = refused_sheet (BadLine line)
 
 -- "after it 1, then 3 for a mark on oneself", W8's 20 after 3 and W11's 24 after 1: the record's own fault
+abbrev pub judged_as : Site → Result Unit Fault → SheetRead
+judged_as s (Ok u) = sheet_done s
+judged_as s (Err f) = refused_sheet (Record f)
+
 unfoldable pub judged : Site → SheetRead
-judged s = pick (is_fine (fault_of s)) (sheet_done s) (refused_sheet (Refused (fault_of s)))
+judged s = judged_as s (fault_of s)
 
 -- the index of the first line that is not good; n where all are
 unfoldable pub bad_cell : ℕ → List ℕ → ℕ

@@ -13,22 +13,21 @@ ghost use Rattle.sheet.specs.Read.{bad_sheet, judged, cells_read, read_sheet};
 
 use lines::{Head, Line, NOWHERE, read_head, read_line};
 use putlines::{put_cell, put_header};
-use records::Written;
+use records::WriteError;
 use site::{Fault, Site};
 
-// What a sheet's reader answers: the site is read; the first bad line, from 1; or what is wrong with the record.
+// Why a sheet is refused: its first bad line, from 1; or what is wrong with the record.
 #[derive(Clone, Copy)]
-pub enum SheetAnswer {
-    Done,
+pub enum SheetError {
     BadLine(usize),
-    Refused(Fault),
+    Record(Fault),
 }
 
 // The site, or a site of zeros beside the refusal.
 #[derive(Clone, Copy)]
 pub struct SheetRead {
     pub site: Site,
-    pub answer: SheetAnswer,
+    pub answer: Result<(), SheetError>,
 }
 
 // A malformed sheet.
@@ -37,24 +36,24 @@ fn bad_at(line: usize) -> SheetRead
 {
     SheetRead {
         site: Site::zeros(),
-        answer: SheetAnswer::BadLine(line),
+        answer: Err(SheetError::BadLine(line)),
     }
 }
 
 // The site of a well formed sheet, unless its record is at fault.
+#[tactic(auto, unfolding(crate::specs::Read::judged))]
 fn judge(site: Site) -> SheetRead
     ensures { result ≡ judged site }
 {
-    let f = site.fault_in();
-    let Fault::Fine = f else {
-        return SheetRead {
+    match site.accepted() {
+        Ok(()) => SheetRead {
+            site,
+            answer: Ok(()),
+        },
+        Err(f) => SheetRead {
             site: Site::zeros(),
-            answer: SheetAnswer::Refused(f),
-        };
-    };
-    SheetRead {
-        site,
-        answer: SheetAnswer::Done,
+            answer: Err(SheetError::Record(f)),
+        },
     }
 }
 
@@ -74,8 +73,7 @@ fn read_cells(
     let mut loads = [0u16; 32];
     let mut reach = [0u32; 32];
     let mut p = at;
-    let mut k: usize = 0;
-    while k < n {
+    for k in 0..n {
         let line = read_line(s, p, n, k);
         let next = line.next;
         if next == NOWHERE {
@@ -84,7 +82,6 @@ fn read_cells(
         loads[k] = line.load;
         reach[k] = line.row;
         p = next;
-        k += 1;
     }
     if p < s.len() {
         return bad_at(n + 2);
@@ -145,10 +142,8 @@ fn header_len(n: usize) -> usize
     ensures upper_bound { result ≤ 300 }
 {
     let mut need: usize = 11;
-    let mut k: usize = 0;
-    while k < n {
+    for k in 0..n {
         need += 1 + digits((k + 1) as u16);
-        k += 1;
     }
     need
 }
@@ -172,10 +167,8 @@ fn sheet_len(s: Site) -> usize
     let n = s.cells as usize;
     let loads = s.loads;
     let mut need = header_len(n);
-    let mut k: usize = 0;
-    while k < n {
+    for k in 0..n {
         need += line_len(n, k, loads[k]);
-        k += 1;
     }
     need
 }
@@ -189,36 +182,32 @@ fn put_lines(out: &mut [u8], at: usize, s: Site)
     let loads = s.loads;
     let reach = s.reach;
     let mut p = at;
-    let mut k: usize = 0;
-    while k < n {
+    for k in 0..n {
         p = put_cell(out, p, n, k, loads[k] as usize, reach[k]);
-        k += 1;
     }
 }
 
 // The sheet of a site whose record is in order.
-fn put_sheet(s: Site, out: &mut [u8]) -> Written
+fn put_sheet(s: Site, out: &mut [u8]) -> Result<usize, WriteError>
     requires { s.cells ≤ 32 }
     ensures value { result ≡ written (sheet_bytes s) out.old }
     ensures out_after { out.new ≡ laid_over (sheet_bytes s) out.old }
 {
     let need = sheet_len(s);
     if out.len() < need {
-        return Written::OutShort(need);
+        return Err(WriteError::OutShort(need));
     }
     let at = put_header(out, s.cells as usize);
     put_lines(out, at, s);
-    Written::Done(need)
+    Ok(need)
 }
 
 // Writes the sheet of a site: 1, 24, 2, 3, 20, then 13.
-pub fn write_sheet(site: Site, out: &mut [u8]) -> Written
+#[tactic(auto, using(crate::proofs::WriteLaws::few_cells), unfolding(crate::specs::Write::sheet_written, crate::specs::Write::sheet_out))]
+pub fn write_sheet(site: Site, out: &mut [u8]) -> Result<usize, WriteError>
     ensures value { result ≡ sheet_written site out.old }
     ensures out_after { out.new ≡ sheet_out site out.old }
 {
-    let fault = site.fault_in();
-    let Fault::Fine = fault else {
-        return Written::Refused(fault);
-    };
+    site.accepted()?;
     put_sheet(site, out)
 }

@@ -40,6 +40,7 @@ fn taken_by(held: &[u64; 32], near: u32, i: usize) -> u64
 {
     let mut taken: u64 = 0;
     let mut left = near;
+    // From member to member of a word: no index is counted.
     while left != 0 {
         let j = u32::trailing_zeros(left) as usize;
         taken = either(taken, word_of(held, j));
@@ -111,10 +112,8 @@ fn lay_row(row: &mut [u8], taken: u64)
     let n = row.len();
     let m = n / 4;
     lay_fours(row, m, taken);
-    let mut p = 4 * m;
-    while p < n {
+    for p in 4 * m..n {
         row[p] = byte_at(taken, p);
-        p += 1;
     }
 }
 
@@ -142,11 +141,10 @@ fn fill_short(row: &mut [u8], slots: usize, channels: usize, free: u64, load: us
     ensures within { result.to ≤ length row.old }
 {
     let mut left = load;
-    let mut slot: usize = 0;
+    // The place is counted: computed from slot and channel, it took 6 to 8 in a hundred longer.
     let mut at: usize = 0;
-    'slots: while slot < slots {
-        let mut channel: usize = 0;
-        while channel < channels {
+    'slots: for _slot in 0..slots {
+        for _channel in 0..channels {
             if left == 0 {
                 break 'slots;
             }
@@ -155,9 +153,7 @@ fn fill_short(row: &mut [u8], slots: usize, channels: usize, free: u64, load: us
             row[at] = byte + taken;
             left -= taken as usize;
             at += 1;
-            channel += 1;
         }
-        slot += 1;
     }
     ShortFilled { left: left, to: at }
 }

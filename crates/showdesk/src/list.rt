@@ -8,9 +8,7 @@ ghost use Rattle.say_faults.specs.Said.{judgeable};
 
 use arguments::{NUMBERS, THIRD_NAME, is, number};
 use changelines::put_all_changes;
-use checker::CheckAnswer;
-use infiles::{read_pair, read_plan_of, refuse};
-use records::ReadAnswer;
+use infiles::{read_pair, read_plan_of, site_of};
 use reply::{no, result, yes};
 use say_faults::Piece;
 use site::Site;
@@ -32,11 +30,7 @@ fn put_all_clashes(rt: &HostRuntime, site: Site, text: &mut [u8]) -> bool
 fn clashes(rt: &HostRuntime, input: &[u8], text: &mut [u8])
     requires { 65536 ≤ length text.old }
 {
-    let read = sitefile::read_site(input);
-    let answer = read.answer;
-    let site = read.site;
-    let ReadAnswer::Done = answer else {
-        refuse(rt, text, input, answer);
+    let Some(site) = site_of(rt, input, text) else {
         return;
     };
     if !put_all_clashes(rt, site, text) {
@@ -140,14 +134,12 @@ fn put_faults(rt: &HostRuntime, site: Site, table: &[u8], text: &mut [u8]) -> bo
 fn check_all(rt: &HostRuntime, input: &[u8], second: &[u8], table: &mut [u8], text: &mut [u8])
     requires { 65536 ≤ length text.old }
 {
-    let pair = read_pair(rt, input, second, table, text);
-    if !pair.good {
+    let Some(site) = read_pair(rt, input, second, table, text) else {
         return;
-    }
-    let site = pair.site;
+    };
     let verdict = checker::check(site, table);
     let end = say_verdicts::put_check(text, 0, site, verdict);
-    if let CheckAnswer::Valid = verdict {
+    if verdict.is_ok() {
         yes(rt, text, end);
         return;
     }
@@ -181,11 +173,9 @@ fn diff(
 )
     requires { 65536 ≤ length text.old }
 {
-    let pair = read_pair(rt, input, second, old, text);
-    if !pair.good {
+    let Some(site) = read_pair(rt, input, second, old, text) else {
         return;
-    }
-    let site = pair.site;
+    };
     if !read_plan_of(rt, site, THIRD_NAME, third, new, text) {
         return;
     }

@@ -7,12 +7,9 @@ ghost use Rattle.site.specs.Reach.{clash_of, net_of};
 ghost use Rattle.drawing.specs.Loads.{bar_scale};
 ghost use Rattle.say_slots.specs.Code.{Drawn};
 
+use crate::show::end_shown;
 use arguments::{NUMBERS, is, number};
-use checker::CheckAnswer;
-use heaviest::HeaviestAnswer;
-use infiles::{read_pair, refuse};
-use planner::PlanAnswer;
-use records::ReadAnswer;
+use infiles::{read_pair, site_of};
 use reply::result;
 use site::Site;
 
@@ -21,13 +18,11 @@ fn put_reach(rt: &HostRuntime, site: Site, clash: [u32; 32], text: &mut [u8]) ->
     requires { (65536 ≤ length text.old) × Sized site × (bit_in clash ≡ clash_of site) }
 {
     let cells = site.cells as usize;
-    let mut a = 0;
-    while a < cells {
+    for a in 0..cells {
         let end = say_range::put_lines(text, 0, site, clash, a);
         if !result(rt, text, end) {
             return false;
         }
-        a += 1;
     }
     true
 }
@@ -49,12 +44,10 @@ fn put_cells(rt: &HostRuntime, site: Site, heavy: u32, text: &mut [u8]) -> bool
     requires { (65536 ≤ length text.old) × Sized site }
 {
     let cells = site.cells as usize;
-    let mut i = 0;
-    while i < cells {
+    for i in 0..cells {
         if !put_cell_ring(rt, site, heavy, i, text) {
             return false;
         }
-        i += 1;
     }
     true
 }
@@ -71,13 +64,11 @@ fn put_marks(
 ) -> bool
     requires { (65536 ≤ length text.old) × Drawn site table.now clash × Sized site × (i < site.cells) × (channel < site.channels) }
 {
-    let mut mark = 0;
-    while mark < 4 {
+    for mark in 0..4 {
         let end = say_slots::put_marks(text, 0, site, table, clash, mark, i, channel);
         if !result(rt, text, end) {
             return false;
         }
-        mark += 1;
     }
     true
 }
@@ -113,12 +104,10 @@ fn put_channels(
     requires { (65536 ≤ length text.old) × Drawn site table.now clash × Sized site × (i < site.cells) }
 {
     let channels = site.channels as usize;
-    let mut channel = 0;
-    while channel < channels {
+    for channel in 0..channels {
         if !put_channel(rt, site, table, clash, i, channel, text) {
             return false;
         }
-        channel += 1;
     }
     true
 }
@@ -150,12 +139,10 @@ fn put_bands(rt: &HostRuntime, site: Site, table: &[u8], clash: [u32; 32], text:
     requires { (65536 ≤ length text.old) × Drawn site table.now clash × Sized site }
 {
     let cells = site.cells as usize;
-    let mut i = 0;
-    while i < cells {
+    for i in 0..cells {
         if !put_whole_band(rt, site, table, clash, i, text) {
             return false;
         }
-        i += 1;
     }
     true
 }
@@ -173,13 +160,11 @@ fn put_bars(
     requires free_value { (free ≡ room (net_of site)) × (scale ≡ bar_scale site) × (scale ≤ 4294967295) }
 {
     let cells = site.cells as usize;
-    let mut i = 0;
-    while i < cells {
+    for i in 0..cells {
         let end = say_loads::put_bar(text, 0, site, clash, free, scale, i);
         if !result(rt, text, end) {
             return false;
         }
-        i += 1;
     }
     true
 }
@@ -263,8 +248,7 @@ pub fn draw(rt: &HostRuntime, site: Site, table: &[u8], heavy: u32, text: &mut [
 
 // The word of the heaviest clash; none of a site at fault.
 fn heaviest_word(site: Site) -> u32 {
-    let found = heaviest::heaviest(site);
-    let HeaviestAnswer::Done(_, cells) = found else {
+    let Ok((_, cells)) = heaviest::heaviest(site) else {
         return 0;
     };
     cells
@@ -282,34 +266,21 @@ fn put_picture(rt: &HostRuntime, site: Site, table: &[u8], text: &mut [u8]) -> b
 fn picture_given(rt: &HostRuntime, input: &[u8], second: &[u8], table: &mut [u8], text: &mut [u8])
     requires { 65536 ≤ length text.old }
 {
-    let pair = read_pair(rt, input, second, table, text);
-    if !pair.good {
+    let Some(site) = read_pair(rt, input, second, table, text) else {
         return;
-    }
-    let site = pair.site;
+    };
     if !put_picture(rt, site, table, text) {
         reply::unwritten(rt);
         return;
     }
-    let verdict = checker::check(site, table);
-    let end = say_verdicts::put_check(text, 0, site, verdict);
-    let CheckAnswer::Valid = verdict else {
-        reply::message(rt, text, end);
-        reply::fine(rt);
-        return;
-    };
-    reply::fine(rt);
+    end_shown(rt, site, table, text);
 }
 
 // A site and the plan that the command plan makes of it. Where it finds no room the table is idle, and its words are said besides: the range map shows why.
 fn picture_plan(rt: &HostRuntime, input: &[u8], table: &mut [u8], text: &mut [u8])
     requires { 65536 ≤ length text.old }
 {
-    let read = sitefile::read_site(input);
-    let answer = read.answer;
-    let site = read.site;
-    let ReadAnswer::Done = answer else {
-        refuse(rt, text, input, answer);
+    let Some(site) = site_of(rt, input, text) else {
         return;
     };
     let planned = planner::plan(site, table);
@@ -318,7 +289,7 @@ fn picture_plan(rt: &HostRuntime, input: &[u8], table: &mut [u8], text: &mut [u8
         return;
     }
     let end = say_verdicts::put_plan(text, 0, site, planned);
-    let PlanAnswer::Done = planned else {
+    let Ok(()) = planned else {
         reply::message(rt, text, end);
         reply::fine(rt);
         return;

@@ -4,8 +4,7 @@ ghost use Rattle.std.specs.Prelude.{◌≤◌, ◌<◌, length};
 
 use arguments::{NUMBERS, is, number};
 use escaping::{put_escaped, whole_part};
-use infiles::refuse;
-use records::ReadAnswer;
+use infiles::site_of;
 use reply::result;
 
 // Of a part, the row before its text and the row after it; 0 for none.
@@ -37,6 +36,7 @@ fn put_pieces(rt: &HostRuntime, input: &[u8], text: &mut [u8]) -> bool
     requires { 65536 ≤ length text.old }
 {
     let mut from = 0;
+    // Where a piece ends depends on the text.
     while from < input.len() {
         let rest = &input[from..];
         let n = next_piece(rest);
@@ -77,11 +77,7 @@ fn put_part(rt: &HostRuntime, input: &[u8], text: &mut [u8]) -> bool
 fn head(rt: &HostRuntime, input: &[u8], text: &mut [u8])
     requires { 65536 ≤ length text.old }
 {
-    let read = sitefile::read_site(input);
-    let answer = read.answer;
-    let site = read.site;
-    let ReadAnswer::Done = answer else {
-        refuse(rt, text, input, answer);
+    let Some(site) = site_of(rt, input, text) else {
         return;
     };
     let mut name = [0u8; NAME];

@@ -3,10 +3,7 @@
 ghost use Rattle.std.specs.Prelude.{◌≤◌, length};
 
 use arguments::{NUMBERS, is, number};
-use checker::CheckAnswer;
-use infiles::{read_pair, refuse};
-use planner::PlanAnswer;
-use records::ReadAnswer;
+use infiles::{read_pair, site_of};
 use reply::{no, result};
 use say_cells::SentAs;
 use site::Site;
@@ -51,6 +48,7 @@ fn put_grid(rt: &HostRuntime, site: Site, table: &[u8], width: usize, text: &mut
     }
     let slots = site.slots as usize;
     let mut from = 0;
+    // How many slots fit differs from piece to piece.
     while from < slots {
         let many = say_grid::piece_slots(site, table, width, from);
         if many == 0 {
@@ -127,43 +125,42 @@ fn put_shown(rt: &HostRuntime, site: Site, table: &[u8], text: &mut [u8]) -> boo
     put_grid(rt, site, table, number(rt, NUMBERS) as usize, text)
 }
 
+// Ends a command that has shown a plan. Where the plan is not valid, the first thing that is wrong is said besides.
+pub fn end_shown(rt: &HostRuntime, site: Site, table: &[u8], text: &mut [u8])
+    requires { 65536 ≤ length text.old }
+{
+    let verdict = checker::check(site, table);
+    let end = say_verdicts::put_check(text, 0, site, verdict);
+    if verdict.is_err() {
+        reply::message(rt, text, end);
+    }
+    reply::fine(rt);
+}
+
 // A plan that was given, valid or not. Where it is not, the first thing that is wrong is said besides.
 fn show_given(rt: &HostRuntime, input: &[u8], second: &[u8], table: &mut [u8], text: &mut [u8])
     requires { 65536 ≤ length text.old }
 {
-    let pair = read_pair(rt, input, second, table, text);
-    if !pair.good {
+    let Some(site) = read_pair(rt, input, second, table, text) else {
         return;
-    }
-    let site = pair.site;
+    };
     if !put_shown(rt, site, table, text) {
         reply::unwritten(rt);
         return;
     }
-    let verdict = checker::check(site, table);
-    let end = say_verdicts::put_check(text, 0, site, verdict);
-    let CheckAnswer::Valid = verdict else {
-        reply::message(rt, text, end);
-        reply::fine(rt);
-        return;
-    };
-    reply::fine(rt);
+    end_shown(rt, site, table, text);
 }
 
 // The plan of a site, as the command plan makes it.
 fn show_plan(rt: &HostRuntime, input: &[u8], table: &mut [u8], text: &mut [u8])
     requires { 65536 ≤ length text.old }
 {
-    let read = sitefile::read_site(input);
-    let answer = read.answer;
-    let site = read.site;
-    let ReadAnswer::Done = answer else {
-        refuse(rt, text, input, answer);
+    let Some(site) = site_of(rt, input, text) else {
         return;
     };
     let planned = planner::plan(site, table);
     let end = say_verdicts::put_plan(text, 0, site, planned);
-    let PlanAnswer::Done = planned else {
+    let Ok(()) = planned else {
         no(rt, text, end);
         return;
     };

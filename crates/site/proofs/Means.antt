@@ -5,7 +5,7 @@ use Prim.Native.Nat.{ℕ, zero, suc, ◌+◌, ◌-◌, ◌^◌, ◌≤◌, ◌<�
 use mathlib.Core.Bool.{Bool, true, false, not, ◌||◌, ◌&&◌, true≢false}
 use mathlib.Core.List.{[], ◌∷◌}
 use mathlib.Core.Logic.{◌⊎◌, inl, inr, ⊎_elim}
-use mathlib.Core.Path.{◌≡◌, refl, sym, ap, ◌∙◌}
+use mathlib.Core.Path.{◌≡◌, refl, sym, ◌∙◌}
 use native.Mathlib.Omega.{arith}
 use native.Mathlib.Nat.{two-pow-succ, lt_of_lt_of_le}
 use borrow.Author.Tests.{ltb-true, ltb-false, lt-ltb, le-ltb, eqb-true, eqb-false, eq-eqb, ne_eqb, not-true}
@@ -20,13 +20,13 @@ use Rattle.positions.specs.Blocked.{blocked_at}
 use Rattle.reachrows.proofs.Rules.{ThirdCell, both_some, both-here}
 use Rattle.site.specs.Record.{zero_site, load_at, row_of, positions, up_to, size_ok, rule_ok, row_bad, extra_load, bad_row, extra_blocked, is_fine, fault_of}
 use Rattle.site.specs.Reach.{reaches, reached_by_both, clash_in, clash_of, clash_named, clash_answer}
-use Rattle.site.specs.Edit.{or_else, load_edit_fault, reach_edit_fault, answered, set_load_of, reach_edited, set_reach_of, clear_reach_of}
+use Rattle.site.specs.Edit.{load_edit_fault, reach_edit_fault, answered, set_load_of, reach_edited, set_reach_of, clear_reach_of}
 use Rattle.site.specs.Means.{UpTo, Sized, LoadBeyond, BlockedBeyond, RowGood, FaultMeans, Reaches, Third, Clashing, ClashMeans, EditMeans, Two}
 use Rattle.site.specs.declared.Site.{Site}
 use Rattle.site.specs.declared.Fault.{Fault}
-use Rattle.site.specs.declared.Fault.TheVariants.{Fine, Size, Rule, Load, Reach, Blocked}
-use Rattle.site.specs.declared.ClashAnswer.{ClashAnswer}
-use Rattle.site.specs.declared.ClashAnswer.TheVariants.{Clear, Clash, Refused}
+use Rattle.site.specs.declared.Fault.TheVariants.{Size, Rule, Load, Reach, Blocked}
+use Rattle.std.specs.Prelude.{Result, Ok, Err}
+use Rattle.std.specs.Result.{result_and}
 use Rattle.site.proofs.Faults.{fine-is, up-to, up-to-is, sized, sizes-is, fine-sized, few-positions, ruled, ruled-is}
 use Rattle.site.proofs.Accepted.{row_ok, ok-row, row-none, fine-reach}
 use Rattle.site.proofs.PassedOn.{clash-refused}
@@ -132,9 +132,13 @@ module _ (s : Site) where
   unfolding extra_blocked
   found-blocked few l = (first-least blocked-at (positions s) 2048, l, eqb-true _ _ (first_passes blocked-at (positions s) 2048 few l))
 
+  -- what is said where the sizes and the rule are in order, and the loads
+  abbrev past_loads : (v w : Bool) → Result Unit Fault
+  past_loads v w = pick v (Err (Reach (bad_row s + 1))) (pick w (Err (Blocked (extra_blocked s))) (Ok tt))
+
   means-at : (t o u v w : Bool) → size_ok s.cells s.slots s.channels ≡ t → rule_ok s.rule ≡ o → ltb (extra_load s) 32 ≡ u → ltb (bad_row s) 32 ≡ v
       → ltb (extra_blocked s) 2048 ≡ w
-      → FaultMeans s (pick t (pick o (pick u (Load (extra_load s + 1)) (pick v (Reach (bad_row s + 1)) (pick w (Blocked (extra_blocked s)) Fine))) Rule) Size)
+      → FaultMeans s (pick t (pick o (pick u (Err (Load (extra_load s + 1))) (past_loads v w)) (Err Rule)) (Err Size))
   means-at false o u v w p y q r x = λ z. true≢false (sym (sizes-is _ _ _ z) ∙ p)
   means-at true false u v w p y q r x = (sized s p, λ z. true≢false (sym (ruled-is _ z) ∙ y))
   means-at true true true v w p y q r x =
@@ -193,16 +197,16 @@ module _ (s : Site) where
   no_row good = first-none row-bad 0 32 (omega arith) (λ j l h. good-at j (good (j + 1) (omega arith, omega arith)))
 
   -- .. and the one that means what is the case is the one that it has
-  pub fault-only : (f : Fault) → FaultMeans s f → fault_of s ≡ f
+  pub fault-only : (f : Result Unit Fault) → FaultMeans s f → fault_of s ≡ f
   unfolding fault_of extra_load bad_row extra_blocked
-  fault-only Size n = rw (refute (size_ok s.cells s.slots s.channels) (λ e. n (sized s e)))
-  fault-only Rule (z, n) = simp (sizes-is _ _ _ z, refute (rule_ok s.rule) (λ e. n (ruled _ e)))
-  fault-only (Load c) (z, o, (past, most, set), low) =
+  fault-only (Err Size) n = rw (refute (size_ok s.cells s.slots s.channels) (λ e. n (sized s e)))
+  fault-only (Err Rule) (z, n) = simp (sizes-is _ _ _ z, refute (rule_ok s.rule) (λ e. n (ruled _ e)))
+  fault-only (Err (Load c)) (z, o, (past, most, set), low) =
       let e : extra_load s ≡ c - 1 = first-is load_set s.cells (c - 1) 32 (omega arith) (omega arith) (lt-ltb 0 (load_at s (c - 1)) (omega arith))
       (λ j l h. le-ltb _ _ (at_least _ _ (λ q. low (j + 1) (omega arith) (omega arith, omega arith, rw (back j) q)))) in
       let n : c - 1 + 1 ≡ c = omega arith in
       simp (sizes-is _ _ _ z, ruled-is _ o, e, lt-ltb (c - 1) 32 (omega arith), n)
-  fault-only (Reach r) (z, o, none, (some, most), bad, low) =
+  fault-only (Err (Reach r)) (z, o, none, (some, most), bad, low) =
       let e : bad_row s ≡ r - 1 = first-is row-bad 0 (r - 1) 32 (omega arith) (omega arith)
       (is_true _ (λ q. bad (row-good s r some q)))
       (λ j l h. good-at j (low (j + 1) (omega arith) (omega arith))) in
@@ -212,19 +216,18 @@ module _ (s : Site) where
       is_true : (b : Bool) → (b ≡ false → ⊥) → b ≡ true
       is_true true h = refl
       is_true false h = absurd (h refl)
-  fault-only (Blocked k) (z, o, none, good, (past, most, set), low) =
+  fault-only (Err (Blocked k)) (z, o, none, good, (past, most, set), low) =
       let e : extra_blocked s ≡ k = first-is blocked-at (positions s) k 2048 past most (eq-eqb _ _ set)
       (λ j l h. refute (blocked-at j) (λ q. low j h (l, omega arith, eqb-true _ _ q))) in
       simp (sizes-is _ _ _ z, ruled-is _ o, no_load z none, no_row good, e, lt-ltb k 2048 most)
-  fault-only Fine (z, o, none, good, free) =
+  fault-only (Ok u) (z, o, none, good, free) =
       let e : extra_blocked s ≡ 2048 = first-none blocked-at (positions s) 2048 (few-positions z)
       (λ j l h. refute (blocked-at j) (λ q. free j (l, h, eqb-true _ _ q))) in
       simp (sizes-is _ _ _ z, ruled-is _ o, no_load z none, no_row good, e)
 
 -- ---- clash
 
--- a fault is not Fine
-pub no-fine : (f : Fault) → (f ≡ Fine → ⊥) → is_fine f ≡ false
+pub no-fine : (f : Result Unit Fault) → (f ≡ Ok tt → ⊥) → is_fine f ≡ false
 no-fine f n = refute (is_fine f) (λ e. n (fine-is f e))
 
 -- a bit of a row, by numbers and by index
@@ -259,7 +262,7 @@ clash-why s i j n h =
     (⊎_elim inl (λ q. inr (either_is (reaches s.reach j i) (eqb s.rule 2 && reached_by_both s.reach i j)
     (⊎_elim inl (λ r. inr (both_is _ _ (eq-eqb s.rule 2 r.0) (both-here s.reach i j r.1.0 r.1.1))) q))) h))
 
-module _ (s : Site) (a b : ℕ) (fine : fault_of s ≡ Fine) where
+module _ (s : Site) (a b : ℕ) (fine : fault_of s ≡ Ok tt) where
   -- the third cell, by its number: whoever reaches it is a cell of the site, and so is it
   third-named : (c : ℕ) → a - 1 < 32 → ThirdCell s.reach (a - 1) (b - 1) c → 1 ≤ a → 1 ≤ b → Third s a b (c + 1)
   third-named c l t one two =
@@ -310,35 +313,34 @@ module _ (s : Site) (a b : ℕ) (fine : fault_of s ≡ Fine) where
       (λ r. inr (r.0, (r.1.0 - 1, named-third r.1.0 (fine-sized s fine).cells_most i.0 j.0 r.1.1))) q)) c.why))
 
 module _ (s : Site) (a b : ℕ) where
-  clash-at : (f : Fault) (t : Bool) → fault_of s ≡ f → clash_named s a b ≡ t → ClashMeans s a b (pick (is_fine f) (pick t Clash Clear) (Refused f))
-  clash-at Fine true p q = (p, is-clashing s a b p q)
-  clash-at Fine false p q = (p, λ c. true≢false (sym (clashing-is s a b p c) ∙ q))
-  clash-at Rule t p q = (p, λ e. true≢false (sym (ap is_fine e)))
-  clash-at Size t p q = (p, λ e. true≢false (sym (ap is_fine e)))
-  clash-at (Load k) t p q = (p, λ e. true≢false (sym (ap is_fine e)))
-  clash-at (Reach k) t p q = (p, λ e. true≢false (sym (ap is_fine e)))
-  clash-at (Blocked k) t p q = (p, λ e. true≢false (sym (ap is_fine e)))
+  clash-at : (f : Result Unit Fault) (t : Bool) → fault_of s ≡ f → clash_named s a b ≡ t → ClashMeans s a b (result_and f (Ok t))
+  clash-at (Ok u) true p q = (p, is-clashing s a b p q)
+  clash-at (Ok u) false p q = (p, λ c. true≢false (sym (clashing-is s a b p c) ∙ q))
+  clash-at (Err f) t p q = p
 
   pub clash-means : ClashMeans s a b (clash_answer s a b)
   unfolding clash_answer
   clash-means = clash-at (fault_of s) (clash_named s a b) refl refl
 
-  pub clash-only : (r : ClashAnswer) → ClashMeans s a b r → clash_answer s a b ≡ r
+  pub clash-only : (r : Result Bool Fault) → ClashMeans s a b r → clash_answer s a b ≡ r
   unfolding clash_answer
-  clash-only Clash (p, c) = simp (p, clashing-is s a b p c)
-  clash-only Clear (p, n) = simp (p, refute (clash_named s a b) (λ e. n (is-clashing s a b p e)))
-  clash-only (Refused f) (p, n) = (clash-refused s a b f).1 (sym p, no-fine f n)
+  clash-only (Ok true) (p, c) = simp (p, clashing-is s a b p c)
+  clash-only (Ok false) (p, n) = simp (p, refute (clash_named s a b) (λ e. n (is-clashing s a b p e)))
+  clash-only (Err f) p = (clash-refused s a b f).1 p
 
 -- ---- edits
 
 edit-means : (s : Site) (Named : Type 0) (own : Fault) (t : Bool) → (Named → t ≡ true) → (t ≡ true → Named)
-    → EditMeans s Named own (or_else (fault_of s) (pick t Fine own))
-unfolding or_else
+    → EditMeans s Named own (result_and (fault_of s) (pick t (Ok tt) (Err own)))
 edit-means s Named own t does named = record {
-  faulty = λ n. rw (no-fine (fault_of s) n);
+  faulty = λ n. refused-by (fault_of s) _ n;
   done = λ e h. simp (e, does h);
   refused = λ e n. simp (e, refute t (λ q. n (named q)));
 }
+  where
+    refused-by : (f g : Result Unit Fault) → (f ≡ Ok tt → ⊥) → result_and f g ≡ f
+    refused-by (Ok u) g n = absurd (n refl)
+    refused-by (Err f) g n = refl
 
 pub set-load-answer : (s : Site) (cell v : ℕ) → EditMeans s (UpTo s.cells cell) (Load cell) (set_load_of s cell v).answer
 unfolding set_load_of answered load_edit_fault

@@ -1,6 +1,6 @@
 -- The clash rows of an accepted record state the clash relation, everywhere: within the cells a bit is the definition's,
 -- and beyond them nobody reaches and nobody is reached. So whoever is lent the rows may speak of the relation. Assumes nothing.
-use Prim.Native.Nat.{ℕ, ◌-◌, ◌≤◌, ◌<◌}
+use Prim.Native.Nat.{ℕ, min, ◌-◌, ◌≤◌, ◌<◌}
 use mathlib.Core.Bool.{Bool, true, false, ◌&&◌, and-false}
 use mathlib.Core.Logic.{⊎_elim}
 use mathlib.Core.Path.{◌≡◌, refl, sym, ap, ap₂, ◌∙◌, fun_ext}
@@ -14,13 +14,12 @@ use Rattle.laws.specs.Part.{list_of}
 use Rattle.laws.proofs.Choice.{cases}
 use Rattle.laws.proofs.Bits.{none_in}
 use Rattle.laws.proofs.Words.{word-bit, word-past, word-eq, word-within, none-word}
-use Rattle.laws.specs.Choice.{pick}
 use Rattle.laws.proofs.Stores.{length-list, list_at, list-eq, sets-zeros}
 use Rattle.reachrows.proofs.Rules.{both-none}
 use Rattle.site.specs.Record.{fault_of}
 use Rattle.site.specs.Reach.{reaches, clash_in, clash_of, clash_within, clash_rows}
 use Rattle.site.specs.declared.Site.{Site}
-use Rattle.site.specs.declared.Fault.TheVariants.{Fine}
+use Rattle.std.specs.Prelude.{Ok}
 use Rattle.site.proofs.Faults.{fine-sized}
 use Rattle.site.proofs.Reach.{clash-sym}
 use Rattle.site.proofs.Accepted.{fine-reach}
@@ -50,13 +49,15 @@ module _ (s : Site) where
       word-eq (clash_of s a) (clash_within s a) 32 (λ b m. rw (lt-ltb a s.cells (omega arith), lt-ltb b s.cells (omega arith)))))
       ∙ sets-zeros row 32 32 (omega arith) (λ a l m. absurd (omega arith))
 
-  made_at : (n : ℕ) (t : Bool) → ltb 32 s.cells ≡ t → n ≡ pick t 32 s.cells
+  made_at : (n : ℕ) (t : Bool) → ltb 32 s.cells ≡ t → n ≡ min s.cells 32
       → sets (replicate 32 0) 0 (list_of (λ a. word_of (clash_of s a) n) n) ≡ clash_rows s
-  made_at n true q e = rw e (long (ltb-true 32 s.cells q))
-  made_at n false q e = let most : s.cells ≤ 32 = ltb-false 32 s.cells q in short n e (omega arith)
+  made_at n true q e = let past : 32 < s.cells = ltb-true 32 s.cells q in
+      let all : n ≡ 32 = omega arith in
+      rw all (long past)
+  made_at n false q e = let most : s.cells ≤ 32 = ltb-false 32 s.cells q in short n (omega arith) (omega arith)
 
   -- by the relation of the site's rule, whatever it is called
-  pub rows_made : (clash : ℕ → ℕ → Bool) (n : ℕ) → clash ≡ clash_of s → n ≡ pick (ltb 32 s.cells) 32 s.cells
+  pub rows_made : (clash : ℕ → ℕ → Bool) (n : ℕ) → clash ≡ clash_of s → n ≡ min s.cells 32
       → sets (replicate 32 0) 0 (list_of (λ a. word_of (clash a) n) n) ≡ clash_rows s
   rows_made clash n same e =
       ap (λ (f : ℕ → ℕ → Bool). sets (replicate 32 0) 0 (list_of (λ a. word_of (f a) n) n)) same ∙ made_at n (ltb 32 s.cells) refl e
@@ -96,7 +97,7 @@ module _ (s : Site) (few : s.cells ≤ 32) (none : (a b : ℕ) → s.cells ≤ a
   relation : bit_in (clash_rows s) ≡ clash_of s
   relation = fun_ext (λ a. fun_ext (λ b. rows-bit a b))
 
-module _ (s : Site) (fine : fault_of s ≡ Fine) (long : length s.reach ≡ 32) where
+module _ (s : Site) (fine : fault_of s ≡ Ok tt) (long : length s.reach ≡ 32) where
   -- nobody reaches from beyond I, nor to beyond I
   outside : (a b : ℕ) → (a < s.cells → b < s.cells → ⊥) → reaches s.reach a b ≡ false
   unfolding reaches

@@ -1,14 +1,12 @@
 -- What the definitions of this crate mean, said a second time: over bare numbers and bits, with cells and rows numbered from 1 where the document numbers them.
 -- proofs/ shows that each definition says this and nothing else.
-use Rattle.std.specs.Prelude.{ℕ, ◌-◌, ◌*◌, ◌/◌, ◌%◌, ◌^◌, ◌≤◌, ◌<◌, Bool, ◌&&◌, ◌⊎◌, ◌≡◌, eqb, get_or}
+use Rattle.std.specs.Prelude.{ℕ, ◌-◌, ◌*◌, ◌/◌, ◌%◌, ◌^◌, ◌≤◌, ◌<◌, Bool, ◌&&◌, ◌⊎◌, ◌≡◌, eqb, get_or, true, false, Result, Ok, Err}
 use Rattle.laws.specs.Choice.{pick}
 use Rattle.site.specs.Record.{load_at, fault_of}
 use Rattle.site.specs.Reach.{reaches}
 use Rattle.site.specs.declared.Site.{Site}
 use Rattle.site.specs.declared.Fault.{Fault}
-use Rattle.site.specs.declared.Fault.TheVariants.{Fine, Size, Rule, Load, Reach, Blocked}
-use Rattle.site.specs.declared.ClashAnswer.{ClashAnswer}
-use Rattle.site.specs.declared.ClashAnswer.TheVariants.{Clear, Clash, Refused}
+use Rattle.site.specs.declared.Fault.TheVariants.{Size, Rule, Load, Reach, Blocked}
 
 -- from 1 to the most
 abbrev pub UpTo : ℕ → ℕ → Type 0
@@ -51,16 +49,16 @@ abbrev pub BlockedBeyond : Site → ℕ → Type 0
 BlockedBeyond s k = (s.slots * s.channels ≤ k) × (k < 2048) × (get_or s.blocked (k / 64) 0 / 2 ^ (k % 64) % 2 ≡ 1)
 
 -- which fault is a record's: 1, then 24, then 2 with the "lowest such cell", then 3 with the "lowest row", then 20 with the lowest position
-abbrev pub FaultMeans : Site → Fault → Type 0
-FaultMeans s Size = Sized s → ⊥
-FaultMeans s Rule = Sized s × (Ruled s → ⊥)
-FaultMeans s (Load cell) = Sized s × Ruled s × LoadBeyond s cell × ((k : ℕ) → k < cell → LoadBeyond s k → ⊥)
-FaultMeans s (Reach row) =
+abbrev pub FaultMeans : Site → Result Unit Fault → Type 0
+FaultMeans s (Err Size) = Sized s → ⊥
+FaultMeans s (Err Rule) = Sized s × (Ruled s → ⊥)
+FaultMeans s (Err (Load cell)) = Sized s × Ruled s × LoadBeyond s cell × ((k : ℕ) → k < cell → LoadBeyond s k → ⊥)
+FaultMeans s (Err (Reach row)) =
     Sized s × Ruled s × ((k : ℕ) → LoadBeyond s k → ⊥) × UpTo 32 row × (RowGood s row → ⊥) × ((k : ℕ) → 1 ≤ k → k < row → RowGood s k)
-FaultMeans s (Blocked k) =
+FaultMeans s (Err (Blocked k)) =
     Sized s × Ruled s × ((j : ℕ) → LoadBeyond s j → ⊥) × ((j : ℕ) → UpTo 32 j → RowGood s j)
     × BlockedBeyond s k × ((j : ℕ) → j < k → BlockedBeyond s j → ⊥)
-FaultMeans s Fine =
+FaultMeans s (Ok u) =
     Sized s × Ruled s × ((k : ℕ) → LoadBeyond s k → ⊥) × ((k : ℕ) → UpTo 32 k → RowGood s k) × ((k : ℕ) → BlockedBeyond s k → ⊥)
 
 -- ---- clash
@@ -81,18 +79,18 @@ pub record Clashing (s : Site) (a b : ℕ) : Type 0 where
   pub why : Reaches s a b ⊎ (Reaches s b a ⊎ ((s.rule ≡ 2) × ((c : ℕ) × Third s a b c)))
 
 -- which answer is the clash call's; a record's fault is passed on
-abbrev pub ClashMeans : Site → ℕ → ℕ → ClashAnswer → Type 0
-ClashMeans s a b Clash = (fault_of s ≡ Fine) × Clashing s a b
-ClashMeans s a b Clear = (fault_of s ≡ Fine) × (Clashing s a b → ⊥)
-ClashMeans s a b (Refused f) = (fault_of s ≡ f) × (f ≡ Fine → ⊥)
+abbrev pub ClashMeans : Site → ℕ → ℕ → Result Bool Fault → Type 0
+ClashMeans s a b (Ok true) = (fault_of s ≡ Ok tt) × Clashing s a b
+ClashMeans s a b (Ok false) = (fault_of s ≡ Ok tt) × (Clashing s a b → ⊥)
+ClashMeans s a b (Err f) = fault_of s ≡ Err f
 
 -- ---- edits
 
 -- "record 1, 2, 3, then an edit's own 2 or 3", with 24 and 20 of the record: the answer f of an edit that may be done where Named holds, with its own refusal
-pub record EditMeans (s : Site) (Named : Type 0) (own f : Fault) : Type 0 where
-  pub faulty : (fault_of s ≡ Fine → ⊥) → f ≡ fault_of s
-  pub done : fault_of s ≡ Fine → Named → f ≡ Fine
-  pub refused : fault_of s ≡ Fine → (Named → ⊥) → f ≡ own
+pub record EditMeans (s : Site) (Named : Type 0) (own : Fault) (f : Result Unit Fault) : Type 0 where
+  pub faulty : (fault_of s ≡ Ok tt → ⊥) → f ≡ fault_of s
+  pub done : fault_of s ≡ Ok tt → Named → f ≡ Ok tt
+  pub refused : fault_of s ≡ Ok tt → (Named → ⊥) → f ≡ Err own
 
 -- two different cells of the site
 abbrev pub Two : Site → ℕ → ℕ → Type 0

@@ -1,15 +1,12 @@
 // The commands of the desk on flows: the share of one, and which of a sheet of them to take.
 ghost use Rattle.std.specs.Prelude.{◌≤◌, length};
 
-use admission::{AdmitAnswer, BesideAnswer};
 use arguments::{NUMBERS, SECOND_NAME, is, number};
 use flowlist::FlowList;
-use flowsheet::FlowsAnswer;
-use infiles::refuse;
+use infiles::site_of;
 use inputs::Input;
-use records::ReadAnswer;
 use reply::{no, yes};
-use shares::{Fragments, Repeats, ShareAnswer, Slots};
+use shares::{Fragments, Repeats, ShareError, Slots};
 use site::Site;
 
 // Whether no repeats were given.
@@ -18,7 +15,12 @@ fn none_given(rt: &HostRuntime) -> bool {
 }
 
 // The share of a flow; one that says nothing of repeats has the default.
-fn share_of(rt: &HostRuntime, slots: u16, burst: u16, period: u16) -> ShareAnswer {
+fn share_of(
+    rt: &HostRuntime,
+    slots: u16,
+    burst: u16,
+    period: u16,
+) -> Result<(Fragments, Fragments, Slots), ShareError> {
     let t = Slots(slots as u32);
     let c = Fragments(burst as u32);
     let p = Slots(period as u32);
@@ -33,7 +35,7 @@ fn share(rt: &HostRuntime, slots: u16, burst: u16, period: u16, text: &mut [u8])
     requires { 65536 ≤ length text.old }
 {
     let answer = share_of(rt, slots, burst, period);
-    let ShareAnswer::Done(_, _, _) = answer else {
+    let Ok(_) = answer else {
         let end = say_verdicts::put_share(text, 0, burst as usize, period as usize, answer);
         no(rt, text, end);
         return;
@@ -55,7 +57,7 @@ fn decide(rt: &HostRuntime, site: Site, flows: FlowList, text: &mut [u8])
     let count = flows.count;
     let answer = admission::decide(site, flows, count);
     let end = say_flows::put_admit(text, 0, site, flows, count, answer);
-    let AdmitAnswer::Admitted(_) = answer else {
+    let Ok(_) = answer else {
         no(rt, text, end);
         return;
     };
@@ -69,11 +71,7 @@ fn decide_beside(rt: &HostRuntime, site: Site, flows: FlowList, text: &mut [u8])
     let count = flows.count;
     let answer = admission::decide_beside(site, flows, count);
     let end = say_flows::put_beside(text, 0, site, flows, count, answer);
-    let BesideAnswer::Answered(a) = answer else {
-        no(rt, text, end);
-        return;
-    };
-    let AdmitAnswer::Admitted(_) = a else {
+    let Ok(_) = answer else {
         no(rt, text, end);
         return;
     };
@@ -85,16 +83,12 @@ fn decide_beside(rt: &HostRuntime, site: Site, flows: FlowList, text: &mut [u8])
 fn admit(rt: &HostRuntime, input: &[u8], second: &[u8], ended: bool, beside: bool, text: &mut [u8])
     requires { 65536 ≤ length text.old }
 {
-    let read = sitefile::read_site(input);
-    let answer = read.answer;
-    let site = read.site;
-    let ReadAnswer::Done = answer else {
-        refuse(rt, text, input, answer);
+    let Some(site) = site_of(rt, input, text) else {
         return;
     };
     let flows = flowsheet::read_flows(second);
     let said = flows.answer;
-    let FlowsAnswer::Done = said else {
+    let Ok(()) = said else {
         reply::named(rt, SECOND_NAME, second, Input::FlowSheet);
         let end = say_flowsheet::put_flow_sheet(text, 0, said);
         no(rt, text, end);

@@ -3,20 +3,12 @@
 ghost use Rattle.std.specs.Prelude.{◌≤◌, length};
 
 use arguments::{NUMBERS, is};
-use blocklist::ListAnswer;
-use editlist::{EditRead, Kind};
-use infiles::refuse;
-use records::{ReadAnswer, Written};
+use blocklist::BadList;
+use editlist::{EditError, EditRead, Kind};
+use infiles::site_of;
 use reply::{no, yes};
 use say_edits::Part;
-use site::{Edited, Fault, Site};
-
-// A site after an edit, and whether it was made; where it was not, the text is said.
-#[derive(Clone, Copy)]
-struct Outcome {
-    site: Site,
-    good: bool,
-}
+use site::{Edited, Site};
 
 // A part of a line, as words.
 fn say(rt: &HostRuntime, text: &mut [u8], part: Part)
@@ -57,7 +49,7 @@ fn no_word(rt: &HostRuntime, name: usize, kind: Kind, text: &mut [u8])
     say(rt, text, Part::After);
     say_word(rt, name);
     say(rt, text, Part::Nothing);
-    say_wrong(rt, text, Part::Takes(kind));
+    say_wrong(rt, text, Part::Takes(Some(kind)));
 }
 
 // An edit's name with a word that it does not take.
@@ -69,7 +61,7 @@ fn bad_word(rt: &HostRuntime, name: usize, word: usize, kind: Kind, text: &mut [
     say(rt, text, Part::Stands);
     say_word(rt, word);
     say(rt, text, Part::Closed);
-    say_wrong(rt, text, Part::Takes(kind));
+    say_wrong(rt, text, Part::Takes(Some(kind)));
 }
 
 // Whether two arguments are an edit; where they are not, the text is said.
@@ -78,11 +70,10 @@ fn edit_good(rt: &HostRuntime, name: usize, word: usize, count: usize, text: &mu
 {
     let mut first = [0u8; 65536];
     let n = arguments::put(rt, name, &mut first);
-    let kind = editlist::kind_of(&first[..n]);
-    if let Kind::Unknown = kind {
+    let Some(kind) = editlist::kind_of(&first[..n]) else {
         no_edit(rt, name, text);
         return false;
-    }
+    };
     if count <= word {
         no_word(rt, name, kind, text);
         return false;
@@ -90,7 +81,7 @@ fn edit_good(rt: &HostRuntime, name: usize, word: usize, count: usize, text: &mu
     let mut second = [0u8; 65536];
     let m = arguments::put(rt, word, &mut second);
     let read = editlist::read_edit(&first[..n], &second[..m]);
-    if let EditRead::Bad = read {
+    if let Err(EditError::Bad) = read {
         bad_word(rt, name, word, kind, text);
         return false;
     }
@@ -101,16 +92,10 @@ fn edit_good(rt: &HostRuntime, name: usize, word: usize, count: usize, text: &mu
 fn edits_good(rt: &HostRuntime, count: usize, text: &mut [u8]) -> bool
     requires { 65536 ≤ length text.old }
 {
-    let mut name = NUMBERS;
-    while name < count {
-        let word = name + 1;
-        if !edit_good(rt, name, word, count, text) {
+    for name in (NUMBERS..count).step_by(2) {
+        if !edit_good(rt, name, name + 1, count, text) {
             return false;
         }
-        if count <= word {
-            return true;
-        }
-        name = word + 1;
     }
     true
 }
@@ -125,23 +110,21 @@ fn say_edit(rt: &HostRuntime, name: usize, word: usize, text: &mut [u8])
     say(rt, text, Part::Colon);
 }
 
-// An edit that is made, or its refusal.
-fn made(rt: &HostRuntime, edited: Edited, name: usize, word: usize, text: &mut [u8]) -> Outcome
+// The site after an edit; where it is refused, none, and the refusal is said.
+fn made(rt: &HostRuntime, edited: Edited, name: usize, word: usize, text: &mut [u8]) -> Option<Site>
     requires { 65536 ≤ length text.old }
 {
-    let answer = edited.answer;
-    let site = edited.site;
-    let Fault::Fine = answer else {
+    if let Err(fault) = edited.answer {
         say_edit(rt, name, word, text);
-        let end = say_verdicts::put_fault(text, 0, answer);
+        let end = say_verdicts::put_fault(text, 0, fault);
         no(rt, text, end);
-        return Outcome { site, good: false };
-    };
-    Outcome { site, good: true }
+        return None;
+    }
+    Some(edited.site)
 }
 
 // A place counted from 1. No list has one past its 65,536 bytes.
-fn from_one(at: usize) -> usize {
+pub fn from_one(at: usize) -> usize {
     if 65536 < at {
         return at;
     }
@@ -156,22 +139,21 @@ fn listed(
     name: usize,
     word: usize,
     text: &mut [u8],
-) -> Outcome
+) -> Option<Site>
     requires { 65536 ≤ length text.old }
 {
     let read = blocklist::read_list(list, site.slots, site.channels);
-    let answer = read.answer;
     let blocked = read.blocked;
-    if let ListAnswer::Bad(at) = answer {
+    if let Err(BadList(at)) = read.answer {
         say_edit(rt, name, word, text);
         say_wrong(rt, text, Part::BadList(from_one(at)));
-        return Outcome { site, good: false };
+        return None;
     }
     made(rt, resize::set_blocked(site, blocked), name, word, text)
 }
 
-// The site with one edit made. Words that are none were found before.
-fn edit(rt: &HostRuntime, site: Site, name: usize, word: usize, text: &mut [u8]) -> Outcome
+// The site with one edit made; none where the edit is refused, and that is said. Words that are none were found before.
+fn edit(rt: &HostRuntime, site: Site, name: usize, word: usize, text: &mut [u8]) -> Option<Site>
     requires { 65536 ≤ length text.old }
 {
     let mut first = [0u8; 65536];
@@ -179,35 +161,21 @@ fn edit(rt: &HostRuntime, site: Site, name: usize, word: usize, text: &mut [u8])
     let mut second = [0u8; 65536];
     let m = arguments::put(rt, word, &mut second);
     match editlist::read_edit(&first[..n], &second[..m]) {
-        EditRead::Done(edit) => made(rt, editlist::make_edit(site, edit), name, word, text),
-        EditRead::Listed => listed(rt, site, &second[..m], name, word, text),
-        EditRead::NoEdit => Outcome { site, good: false },
-        EditRead::Bad => Outcome { site, good: false },
+        Ok(EditRead::Done(edit)) => made(rt, editlist::make_edit(site, edit), name, word, text),
+        Ok(EditRead::Listed) => listed(rt, site, &second[..m], name, word, text),
+        Err(_) => None,
     }
 }
 
-// The site with all edits made, one after the other.
-fn edits(rt: &HostRuntime, site: Site, count: usize, text: &mut [u8]) -> Outcome
+// The site with all edits made, one after the other; none where one is refused.
+fn edits(rt: &HostRuntime, site: Site, count: usize, text: &mut [u8]) -> Option<Site>
     requires { 65536 ≤ length text.old }
 {
     let mut now = site;
-    let mut name = NUMBERS;
-    while name < count {
-        let word = name + 1;
-        let next = edit(rt, now, name, word, text);
-        if !next.good {
-            return next;
-        }
-        now = next.site;
-        if count <= word {
-            return next;
-        }
-        name = word + 1;
+    for name in (NUMBERS..count).step_by(2) {
+        now = edit(rt, now, name, name + 1, text)?;
     }
-    Outcome {
-        site: now,
-        good: true,
-    }
+    Some(now)
 }
 
 // Edits a site.
@@ -222,19 +190,13 @@ fn set(rt: &HostRuntime, input: &[u8], out: &mut [u8], text: &mut [u8])
     if !edits_good(rt, count, text) {
         return;
     }
-    let read = sitefile::read_site(input);
-    let answer = read.answer;
-    let site = read.site;
-    let ReadAnswer::Done = answer else {
-        refuse(rt, text, input, answer);
+    let Some(site) = site_of(rt, input, text) else {
         return;
     };
-    let last = edits(rt, site, count, text);
-    if !last.good {
+    let Some(last) = edits(rt, site, count, text) else {
         return;
-    }
-    let written = sitefile::write_site(last.site, out);
-    let Written::Done(size) = written else {
+    };
+    let Ok(size) = sitefile::write_site(last, out) else {
         reply::unwritten(rt);
         return;
     };

@@ -1,15 +1,14 @@
 // The commands of the desk on range sheets: a site as a sheet, the site of a sheet, and a sheet tidied.
 ghost use Rattle.std.specs.Prelude.{◌≤◌, length};
 
+use crate::set::from_one;
 use arguments::{FIRST_NAME, NUMBERS, is, number};
-use blocklist::{ListAnswer, ListRead};
-use infiles::refuse;
+use blocklist::{BadList, ListRead};
+use infiles::site_of;
 use inputs::Input;
-use records::{ReadAnswer, Written};
 use reply::{no, yes};
-use sheet::SheetAnswer;
+use sheet::SheetError;
 use site::Fault;
-use tidying::TidyAnswer;
 
 // After the slots, the channels and the rule, the list of blocked positions.
 const LIST: usize = 7;
@@ -18,39 +17,20 @@ const LIST: usize = 7;
 fn sheet(rt: &HostRuntime, input: &[u8], out: &mut [u8], text: &mut [u8])
     requires { 65536 ≤ length text.old }
 {
-    let read = sitefile::read_site(input);
-    let answer = read.answer;
-    let site = read.site;
-    let ReadAnswer::Done = answer else {
-        refuse(rt, text, input, answer);
+    let Some(site) = site_of(rt, input, text) else {
         return;
     };
-    let written = sheet::write_sheet(site, out);
-    let Written::Done(size) = written else {
+    let Ok(size) = sheet::write_sheet(site, out) else {
         reply::unwritten(rt);
         return;
     };
     yes(rt, out, size);
 }
 
-// Whether a fault is one of the size or of the rule.
-fn of_size(fault: Fault) -> bool {
-    match fault {
-        Fault::Fine => false,
-        Fault::Size => true,
-        Fault::Rule => true,
-        Fault::Load(_) => false,
-        Fault::Reach(_) => false,
-        Fault::Blocked(_) => false,
-    }
-}
-
 // The name of a range sheet that is refused. Of a size or a rule the sheet has no part: slots, channels and rule stand beside it, and its cells are 1 to 32.
-fn name_sheet(rt: &HostRuntime, input: &[u8], answer: SheetAnswer) {
-    if let SheetAnswer::Refused(fault) = answer {
-        if of_size(fault) {
-            return;
-        }
+fn name_sheet(rt: &HostRuntime, input: &[u8], refused: SheetError) {
+    if matches!(refused, SheetError::Record(Fault::Size | Fault::Rule)) {
+        return;
     }
     reply::named(rt, FIRST_NAME, input, Input::RangeSheet);
 }
@@ -60,20 +40,12 @@ fn listed(rt: &HostRuntime, slots: u16, channels: u16) -> ListRead {
     if arguments::count(rt) <= LIST {
         return ListRead {
             blocked: [0u64; 32],
-            answer: ListAnswer::Fine,
+            answer: Ok(()),
         };
     }
     let mut list = [0u8; 65536];
     let n = arguments::put(rt, LIST, &mut list);
     blocklist::read_list(&list[..n], slots, channels)
-}
-
-// A place counted from 1. No list has one past its 65,536 bytes.
-fn from_one(at: usize) -> usize {
-    if 65536 < at {
-        return at;
-    }
-    at + 1
 }
 
 // A range sheet as a site file, with slots, channels, blocked positions and rule.
@@ -90,16 +62,14 @@ fn sheet_site(
     requires { 65536 ≤ length text.old }
 {
     let read = sheet::read_sheet(input, slots, channels, blocked, rule);
-    let answer = read.answer;
     let site = read.site;
-    let SheetAnswer::Done = answer else {
-        name_sheet(rt, input, answer);
-        let end = say_sheets::put_sheet_refused(text, 0, input, answer);
+    if let Err(refused) = read.answer {
+        name_sheet(rt, input, refused);
+        let end = say_sheets::put_sheet_refused(text, 0, input, read.answer);
         no(rt, text, end);
         return;
-    };
-    let written = sitefile::write_site(site, out);
-    let Written::Done(size) = written else {
+    }
+    let Ok(size) = sitefile::write_site(site, out) else {
         reply::unwritten(rt);
         return;
     };
@@ -125,9 +95,8 @@ fn site(
     requires { 65536 ≤ length text.old }
 {
     let list = listed(rt, slots, channels);
-    let answer = list.answer;
     let blocked = list.blocked;
-    if let ListAnswer::Bad(at) = answer {
+    if let Err(BadList(at)) = list.answer {
         let end = say_verdicts::put_bad_list(text, 0, from_one(at));
         reply::wrong(rt, text, end);
         return;
@@ -141,7 +110,7 @@ fn tidy(rt: &HostRuntime, input: &[u8], out: &mut [u8], text: &mut [u8])
 {
     let answer = tidying::tidy(input, out);
     let end = say_sheets::put_tidy(text, 0, input, answer);
-    let TidyAnswer::Done(size) = answer else {
+    let Ok(size) = answer else {
         reply::named(rt, FIRST_NAME, input, Input::RangeSheet);
         no(rt, text, end);
         return;

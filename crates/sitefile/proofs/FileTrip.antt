@@ -21,12 +21,13 @@ use Rattle.records.specs.Bytes.{Bytes, le16, two_bytes_each, numbers_in}
 use Rattle.records.specs.Layout.{record_of, body_at, record_end}
 use Rattle.records.specs.Reasons.{first_reason, record_reasons, NoneApply}
 use Rattle.records.specs.Head.{cells_of_head, slots_of_head, channels_of_head}
-use Rattle.records.specs.declared.ReadAnswer.{ReadAnswer}
-use Rattle.records.specs.declared.ReadAnswer.TheVariants.{Done, Refused}
+use Rattle.records.specs.declared.Refusal.{Refusal}
+use Rattle.std.specs.Prelude.{Result, Ok, Err}
 use Rattle.records.specs.declared.Length.TheVariants.{Exact, Pairs}
 use Rattle.records.proofs.Laws.{Opening, record-open, exact, even, exact-true, pairs-true, length-least}
 use Rattle.records.proofs.Bytes.{bytes_drop, bytes_take, two-bytes-length, numbers-length, numbers-trip, bytes-trip}
-use Rattle.records.proofs.Reasons.{and_then, both-done, done_none, none_done}
+use Rattle.std.specs.Result.{result_and}
+use Rattle.records.proofs.Reasons.{both-done, done_none, none_done}
 use Rattle.records.proofs.RecordTrip.{record-body, rest_back, record-back, body-length, record-again}
 use Rattle.site.specs.Record.{positions, site_of}
 use Rattle.site.specs.declared.Site.{Site}
@@ -85,11 +86,11 @@ loads-back n loads h size unused =
     (λ k a b. unused k a ∙ sym (get_or-replicate {A = ℕ} 32 k 0 0 (omega arith)))
 
 -- rows that were read
-rows_of : (r rows : List ℕ) (a : ReadAnswer) → pairs_read_of r a ≡ rows_read rows → (a ≡ Done) × (r ≡ rows)
+rows_of : (r rows : List ℕ) (a : Result Unit Refusal) → pairs_read_of r a ≡ rows_read rows → (a ≡ Ok tt) × (r ≡ rows)
 unfolding pairs_read_of
-rows_of r rows Done e = (refl, ap (λ (x : PairsRead). x.reach) e)
-rows_of r rows (Refused n at) e =
-    let y : ◌≡◌ {A = ReadAnswer} (Refused n at) Done = ap (λ (x : PairsRead). x.answer) e in
+rows_of r rows (Ok u) e = (refl, ap (λ (x : PairsRead). x.reach) e)
+rows_of r rows (Err f) e =
+    let y : ◌≡◌ {A = Result Unit Refusal} (Err f) (Ok tt) = ap (λ (x : PairsRead). x.answer) e in
     let z : ◌≡◌ {A = ℕ} 0 1 = cc in
     absurd (omega arith)
 
@@ -140,19 +141,19 @@ module _ (s : Site) (good : GoodSite s) where
   channels-back = omega arith
 
   -- each record has no reason to be refused
-  head-told : (site_head_answer B ≡ Done) × (rule_of_head B ≡ s.rule)
+  head-told : (site_head_answer B ≡ Ok tt) × (rule_of_head B ≡ s.rule)
   head-told = head-written B (record_of 2 L ++ (record_of 3 P ++ E)) s.cells s.slots s.channels good.range s.rule good.rule-in head-here
 
-  head-good : site_head_answer B ≡ Done
+  head-good : site_head_answer B ≡ Ok tt
   head-good = head-told.0
 
-  loads-good : first_reason (loads_reasons B (loads_at B) (cells_of_head B)) ≡ Done
+  loads-good : first_reason (loads_reasons B (loads_at B) (cells_of_head B)) ≡ Ok tt
   loads-good =
       let n : 2 + length L ≡ 2 + 2 * cells_of_head B = omega (arith, l-length, cells-back) in
       record-back B (loads_at B) 2 L (record_of 3 P ++ E) loads-here (Exact (2 + 2 * cells_of_head B))
       (rw n (exact-true (2 + 2 * cells_of_head B) (omega arith)))
 
-  pairs-back : (at : ℕ) → (first_reason (pair_reasons s.cells at 0 0 P) ≡ Done) × (reach_of_body P ≡ s.reach)
+  pairs-back : (at : ℕ) → (first_reason (pair_reasons s.cells at 0 0 P) ≡ Ok tt) × (reach_of_body P ≡ s.reach)
   unfolding pairs_read
   pairs-back at =
       rows_of (reach_of_body P) s.reach (first_reason (pair_reasons s.cells at 0 0 P))
@@ -161,14 +162,14 @@ module _ (s : Site) (good : GoodSite s) where
   reach-body : body_at B (reach_at B) ≡ P
   reach-body = record-body B (reach_at B) 3 P E reach_here
 
-  reach-good : first_reason (reach_reasons B (reach_at B) (cells_of_head B)) ≡ Done
+  reach-good : first_reason (reach_reasons B (reach_at B) (cells_of_head B)) ≡ Ok tt
   reach-good =
       let fits = pairs-true (2 + length P) (omega arith) (omega (arith, pair-bytes-even s.reach)) in
       let open-3 = record-back B (reach_at B) 3 P E reach_here Pairs fits in
-      let pairs : first_reason (pair_reasons (cells_of_head B) (reach_at B) 0 0 (body_at B (reach_at B))) ≡ Done =
+      let pairs : first_reason (pair_reasons (cells_of_head B) (reach_at B) 0 0 (body_at B (reach_at B))) ≡ Ok tt =
       (λ j. first_reason (pair_reasons (cells-back j) (reach_at B) 0 0 (reach-body j))) ∙ (pairs-back (reach_at B)).0 in
       reach-parts B (reach_at B) (cells_of_head B)
-      ∙ ap (λ (a : ReadAnswer). and_then a (first_reason (pair_reasons (cells_of_head B) (reach_at B) 0 0 (body_at B (reach_at B))))) open-3
+      ∙ ap (λ (a : Result Unit Refusal). result_and a (first_reason (pair_reasons (cells_of_head B) (reach_at B) 0 0 (body_at B (reach_at B))))) open-3
       ∙ pairs
 
   -- kind 6: absent where nothing is blocked, and else in order
@@ -179,12 +180,12 @@ module _ (s : Site) (good : GoodSite s) where
   positions-back = ap₂ (λ (x y : ℕ). x * y) slots-back channels-back
 
   abbrev as_read : BlocksRead
-  as_read = record { blocked = s.blocked; answer = Done }
+  as_read = record { blocked = s.blocked; answer = Ok tt }
 
   none-back : nothing_in s.blocked ≡ true → as_read ≡ blocks_read B (last_at B) (positions_of_head B)
   none-back e =
       let ended : length B - last_at B ≡ 0 = sym (length-drop (last_at B) B) ∙ ap length (last-here ∙ block_none s.blocked (positions s) e) in
-      (λ j. record { blocked = empty-is s.blocked (positions s) good.blocked e j; answer = Done })
+      (λ j. record { blocked = empty-is s.blocked (positions s) good.blocked e j; answer = Ok tt })
       ∙ last_none B (last_at B) (positions_of_head B) (omega arith)
 
   module _ (some : nothing_in s.blocked ≡ false) where
@@ -203,7 +204,7 @@ module _ (s : Site) (good : GoodSite s) where
         let d : length B - last_at B ≡ 4 + length Q = sym (length-drop (last_at B) B) ∙ ap length block_here ∙ n in
         omega arith
 
-    block-open : first_reason (record_reasons B (last_at B) 6 (Exact (2 + bytes_for (positions_of_head B)))) ≡ Done
+    block-open : first_reason (record_reasons B (last_at B) 6 (Exact (2 + bytes_for (positions_of_head B)))) ≡ Ok tt
     block-open =
         let n : 2 + length Q ≡ 2 + bytes_for (positions_of_head B) =
         ap (λ (k : ℕ). 2 + k) (bytes-length s.blocked (positions s) ∙ ap bytes_for (sym positions-back)) in
@@ -224,23 +225,23 @@ module _ (s : Site) (good : GoodSite s) where
 
     some_back : as_read ≡ blocks_read B (last_at B) (positions_of_head B)
     some_back =
-        (λ j. record { blocked = sym block-set j; answer = Done })
+        (λ j. record { blocked = sym block-set j; answer = Ok tt })
         ∙ blocks-done B (last_at B) (positions_of_head B) block-due block-open block-left (ap (λ (l : List ℕ). nothing_in l) block-set ∙ some) block-whole
 
   blocks-back : as_read ≡ blocks_read B (last_at B) (positions_of_head B)
   blocks-back = ⊎_elim none-back some_back (cases (nothing_in s.blocked))
 
-  last-good : first_reason (last_reasons B (last_at B) (positions_of_head B)) ≡ Done
+  last-good : first_reason (last_reasons B (last_at B) (positions_of_head B)) ≡ Ok tt
   last-good = blocks-told B (last_at B) (positions_of_head B) as_read blocks-back
 
-  pub written-accepted : site_answer B ≡ Done
+  pub written-accepted : site_answer B ≡ Ok tt
   written-accepted =
       site-parts B
-      ∙ ap (λ (a : ReadAnswer). and_then a (and_then (first_reason (loads_reasons B (loads_at B) (cells_of_head B)))
-      (and_then (first_reason (reach_reasons B (reach_at B) (cells_of_head B))) (first_reason (last_reasons B (last_at B) (positions_of_head B)))))) head-good
-      ∙ ap (λ (a : ReadAnswer). and_then a (and_then (first_reason (reach_reasons B (reach_at B) (cells_of_head B)))
+      ∙ ap (λ (a : Result Unit Refusal). result_and a (result_and (first_reason (loads_reasons B (loads_at B) (cells_of_head B)))
+      (result_and (first_reason (reach_reasons B (reach_at B) (cells_of_head B))) (first_reason (last_reasons B (last_at B) (positions_of_head B)))))) head-good
+      ∙ ap (λ (a : Result Unit Refusal). result_and a (result_and (first_reason (reach_reasons B (reach_at B) (cells_of_head B)))
       (first_reason (last_reasons B (last_at B) (positions_of_head B))))) loads-good
-      ∙ ap (λ (a : ReadAnswer). and_then a (first_reason (last_reasons B (last_at B) (positions_of_head B)))) reach-good
+      ∙ ap (λ (a : Result Unit Refusal). result_and a (first_reason (last_reasons B (last_at B) (positions_of_head B)))) reach-good
       ∙ last-good
 
   loads-stated : loads_of_body (body_at B (loads_at B)) ≡ s.loads
@@ -263,10 +264,10 @@ pub record Accepted (b : List ℕ) : Type 0 where
   pub head : SiteHeadGood b
   pub loads : Opening b (loads_at b) 2 (Exact (2 + 2 * cells_of_head b)) (loads_at b + 4) (le16 b (loads_at b) - 2)
   pub reach : Opening b (reach_at b) 3 Pairs (reach_at b + 4) (le16 b (reach_at b) - 2)
-  pub pairs : first_reason (pair_reasons (cells_of_head b) (reach_at b) 0 0 (body_at b (reach_at b))) ≡ Done
-  pub last : first_reason (last_reasons b (last_at b) (positions_of_head b)) ≡ Done
+  pub pairs : first_reason (pair_reasons (cells_of_head b) (reach_at b) 0 0 (body_at b (reach_at b))) ≡ Ok tt
+  pub last : first_reason (last_reasons b (last_at b) (positions_of_head b)) ≡ Ok tt
 
-pub accepted : (b : List ℕ) → site_answer b ≡ Done → Accepted b
+pub accepted : (b : List ℕ) → site_answer b ≡ Ok tt → Accepted b
 accepted b e =
     let h = both-done _ _ (sym (site-parts b) ∙ e) in
     let l = both-done _ _ h.1 in
@@ -280,7 +281,7 @@ accepted b e =
       last = k.1;
     }
 
-module _ (b : List ℕ) (bytes : Bytes b) (done : site_answer b ≡ Done) where
+module _ (b : List ℕ) (bytes : Bytes b) (done : site_answer b ≡ Ok tt) where
   a : Accepted b
   a = accepted b done
 

@@ -11,7 +11,7 @@ use lib.Pow.{pow_pos}
 use borrow.Author.Tests.{le-ltb, eqb-false, ne_eqb}
 use Rattle.site.specs.Record.{row_bad, row_of, fault_of}
 use Rattle.site.specs.declared.Site.{Site}
-use Rattle.site.specs.declared.Fault.TheVariants.{Fine}
+use Rattle.std.specs.Prelude.{Ok}
 use Rattle.site.proofs.Accepted.{fine-sound, sound-fine, row_ok, ok-row, row-none}
 use Rattle.site.specs.Held.{Held}
 use Rattle.reachpairs.proofs.PairLaws.{PairOk, pair_ok-law, pair_is}
@@ -38,7 +38,7 @@ past : (n x k : ℕ) → n ≤ k → x ≡ 0 → row_bad n x k ≡ false
 unfolding row_bad
 past n x k l e = rw (e, le-ltb k n l)
 
-module _ (s : Site) (held : Held s) (fine : fault_of s ≡ Fine) where
+module _ (s : Site) (held : Held s) (fine : fault_of s ≡ Ok tt) where
   no_load : (k : ℕ) → s.cells ≤ k → get_or s.loads k 0 ≡ 0
   no_load k h = go (dec_lt k 32)
     where
@@ -91,7 +91,7 @@ module _ (s : Site) (good : GoodSite s) where
           no_bits (row_of s k) 0 32 (good.rows.fits k l) (λ t a b h. let p = named-bit k t l b h in omega arith) in
           past s.cells (row_of s k) k (omega arith) (omega arith)
 
-  pub good-fine : fault_of s ≡ Fine
+  pub good-fine : fault_of s ≡ Ok tt
   good-fine =
       sound-fine s (record {
         sizes = sizes-is s.cells s.slots s.channels good.range;

@@ -7,10 +7,11 @@ use Rattle.records.specs.Layout.{body_at}
 use Rattle.records.specs.Reasons.{first_reason}
 use Rattle.records.specs.Head.{cells_of_head}
 use Rattle.records.specs.declared.Length.TheVariants.{Pairs}
-use Rattle.records.specs.declared.ReadAnswer.{ReadAnswer}
-use Rattle.records.specs.declared.ReadAnswer.TheVariants.{Done, Refused}
+use Rattle.records.specs.declared.Refusal.{Refusal}
+use Rattle.std.specs.Prelude.{Result, Ok, Err}
 use Rattle.records.proofs.Laws.{Opening, record-open}
-use Rattle.records.proofs.Reasons.{and_then, both-done}
+use Rattle.std.specs.Result.{result_and}
+use Rattle.records.proofs.Reasons.{both-done}
 use Rattle.sitehead.specs.Head.{site_head_answer}
 use Rattle.reachpairs.specs.Reasons.{reach_reasons}
 use Rattle.reachpairs.specs.Pairs.{reach_of_body}
@@ -26,40 +27,40 @@ use Rattle.blockbits.specs.declared.BlocksRead.{BlocksRead}
 
 -- the whole file
 module _ (s : List ℕ) where
-  abbrev L : ReadAnswer
+  abbrev L : Result Unit Refusal
   L = first_reason (loads_reasons s (loads_at s) (cells_of_head s))
 
-  abbrev K : ReadAnswer
+  abbrev K : Result Unit Refusal
   K = first_reason (reach_reasons s (reach_at s) (cells_of_head s))
 
-  abbrev Z : ReadAnswer
+  abbrev Z : Result Unit Refusal
   Z = first_reason (last_reasons s (last_at s) (positions_of_head s))
 
-  pub head-stop : (n k : ℕ) → site_head_answer s ≡ Refused n k → site_answer s ≡ Refused n k
-  head-stop n k e = site-parts s ∙ ap (λ (x : ReadAnswer). and_then x (and_then L (and_then K Z))) e
+  pub head-stop : (r : Refusal) → site_head_answer s ≡ Err r → site_answer s ≡ Err r
+  head-stop r e = site-parts s ∙ ap (λ (x : Result Unit Refusal). result_and x (result_and L (result_and K Z))) e
 
-  module _ (head : site_head_answer s ≡ Done) where
-    past_head : site_answer s ≡ and_then L (and_then K Z)
-    past_head = site-parts s ∙ ap (λ (x : ReadAnswer). and_then x (and_then L (and_then K Z))) head
+  module _ (head : site_head_answer s ≡ Ok tt) where
+    past_head : site_answer s ≡ result_and L (result_and K Z)
+    past_head = site-parts s ∙ ap (λ (x : Result Unit Refusal). result_and x (result_and L (result_and K Z))) head
 
-    pub loads-stop : (n k : ℕ) → L ≡ Refused n k → site_answer s ≡ Refused n k
-    loads-stop n k e = past_head ∙ ap (λ (x : ReadAnswer). and_then x (and_then K Z)) e
+    pub loads-stop : (r : Refusal) → L ≡ Err r → site_answer s ≡ Err r
+    loads-stop r e = past_head ∙ ap (λ (x : Result Unit Refusal). result_and x (result_and K Z)) e
 
     -- past the loads, what kind 3 gives decides
-    module _ (loads : L ≡ Done) (p : PairsRead) (reach : p ≡ reach_read s (reach_at s) (cells_of_head s)) where
-      past-loads : site_answer s ≡ and_then K Z
-      past-loads = past_head ∙ ap (λ (x : ReadAnswer). and_then x (and_then K Z)) loads
+    module _ (loads : L ≡ Ok tt) (p : PairsRead) (reach : p ≡ reach_read s (reach_at s) (cells_of_head s)) where
+      past-loads : site_answer s ≡ result_and K Z
+      past-loads = past_head ∙ ap (λ (x : Result Unit Refusal). result_and x (result_and K Z)) loads
 
       reach-told : p.answer ≡ K
       unfolding reach_read
       reach-told = ap (λ (x : PairsRead). x.answer) reach ∙ pairs-answer (reach_of_body (body_at s (reach_at s))) K
 
-      pub rows-stop : (n k : ℕ) → p.answer ≡ Refused n k → site_answer s ≡ Refused n k
-      rows-stop n k e = past-loads ∙ ap (λ (x : ReadAnswer). and_then x Z) (sym reach-told ∙ e)
+      pub rows-stop : (r : Refusal) → p.answer ≡ Err r → site_answer s ≡ Err r
+      rows-stop r e = past-loads ∙ ap (λ (x : Result Unit Refusal). result_and x Z) (sym reach-told ∙ e)
 
       -- and past that, what kind 6 gives
-      module _ (done : p.answer ≡ Done) where
-        reach-found : K ≡ Done
+      module _ (done : p.answer ≡ Ok tt) where
+        reach-found : K ≡ Ok tt
         reach-found = sym reach-told ∙ done
 
         pub rows_are : p.reach ≡ reach_of_body (body_at s (reach_at s))
@@ -70,4 +71,4 @@ module _ (s : List ℕ) where
         reach-open = record-open s (reach_at s) 3 Pairs (both-done _ _ (sym (reach-parts s (reach_at s) (cells_of_head s)) ∙ reach-found)).0
 
         pub site-is : (q : BlocksRead) → q ≡ blocks_read s (last_at s) (positions_of_head s) → site_answer s ≡ q.answer
-        site-is q e = past-loads ∙ ap (λ (x : ReadAnswer). and_then x Z) reach-found ∙ blocks-told s (last_at s) (positions_of_head s) q e
+        site-is q e = past-loads ∙ ap (λ (x : Result Unit Refusal). result_and x Z) reach-found ∙ blocks-told s (last_at s) (positions_of_head s) q e

@@ -9,9 +9,11 @@ use Rattle.laws.specs.Choice.{pick}
 use Rattle.records.specs.Layout.{body_at, record_end}
 use Rattle.records.specs.Reasons.{Reason, first_reason, First}
 use Rattle.records.specs.Head.{cells_of_head}
-use Rattle.records.specs.declared.ReadAnswer.{ReadAnswer}
-use Rattle.records.specs.declared.ReadAnswer.TheVariants.{Done, Refused}
-use Rattle.records.proofs.Reasons.{and_then, first-append, refused-first, Some, some-append, some_first}
+use Rattle.records.specs.declared.Refusal.{Refusal}
+use Rattle.std.specs.Prelude.{Result, Ok, Err}
+use Rattle.records.specs.Reasons.{refusal}
+use Rattle.std.specs.Result.{result_and}
+use Rattle.records.proofs.Reasons.{first-append, refused-first, Some, some-append, some_first}
 use Rattle.site.specs.declared.Site.{Site}
 use Rattle.sitehead.specs.Head.{is_ruled, site_head_reasons, site_head_answer}
 use Rattle.reachpairs.specs.Reasons.{pair_reasons, reach_reasons}
@@ -25,29 +27,30 @@ use Rattle.blockbits.proofs.Reasons.{last-numbers, last-offsets, some-last}
 module _ (s : List ℕ) where
   pub site-parts :
       site_answer s
-      ≡ and_then (site_head_answer s) (and_then (first_reason (loads_reasons s (loads_at s) (cells_of_head s)))
-      (and_then (first_reason (reach_reasons s (reach_at s) (cells_of_head s))) (first_reason (last_reasons s (last_at s) (positions_of_head s)))))
+      ≡ result_and (site_head_answer s) (result_and (first_reason (loads_reasons s (loads_at s) (cells_of_head s)))
+      (result_and (first_reason (reach_reasons s (reach_at s) (cells_of_head s))) (first_reason (last_reasons s (last_at s) (positions_of_head s)))))
   unfolding site_answer site_reasons site_head_answer
   site-parts =
       let loads = loads_reasons s (loads_at s) (cells_of_head s) in
       let reach = reach_reasons s (reach_at s) (cells_of_head s) in
       let last = last_reasons s (last_at s) (positions_of_head s) in
       first-append (site_head_reasons s) (loads ++ (reach ++ last))
-      ∙ ap (and_then (first_reason (site_head_reasons s))) (first-append loads (reach ++ last) ∙ ap (and_then (first_reason loads)) (first-append reach last))
+      ∙ ap (result_and (first_reason (site_head_reasons s)))
+      (first-append loads (reach ++ last) ∙ ap (result_and (first_reason loads)) (first-append reach last))
 
   -- what a read gives, by its answer
-  pub refuse : (n at : ℕ) → site_answer s ≡ Refused n at → refused_site (Refused n at) ≡ read_site s
+  pub refuse : (r : Refusal) → site_answer s ≡ Err r → refused_site (Err r) ≡ read_site s
   unfolding read_site site_read_of
-  refuse n at e = rw e refl
+  refuse r e = rw e refl
 
-  pub accept : site_answer s ≡ Done → site_done (site_of_file s) ≡ read_site s
+  pub accept : site_answer s ≡ Ok tt → site_done (site_of_file s) ≡ read_site s
   unfolding read_site site_read_of
   accept e = rw e refl
 
-answer-of : (x : Site) (a : ReadAnswer) → (site_read_of x a).answer ≡ a
+answer-of : (x : Site) (a : Result Unit Refusal) → (site_read_of x a).answer ≡ a
 unfolding site_read_of refused_site
-answer-of x Done = refl
-answer-of x (Refused n at) = refl
+answer-of x (Ok u) = refl
+answer-of x (Err r) = refl
 
 -- a site read is refused for the first reason that applies, and is done where none does
 pub first-refused : (s : List ℕ) → (read_site s).answer ≡ site_answer s
@@ -90,7 +93,7 @@ offsets s =
     ∙ ap (λ (l : List ℕ). map (λ (r : Reason). r.offset) pairs ++ l) (last-offsets s (last_at s) (positions_of_head s)))
 
 -- so the reason given stands in the list, it applies, and none before it does
-pub site-refused : (s : List ℕ) (n at : ℕ) → (read_site s).answer ≡ Refused n at → First (site_reasons s) n at
+pub site-refused : (s : List ℕ) (n at : ℕ) → (read_site s).answer ≡ Err (refusal n at) → First (site_reasons s) n at
 unfolding site_answer
 site-refused s n at e = refused-first (site_reasons s) n at (sym (first-refused s) ∙ e)
 
@@ -106,6 +109,6 @@ some-site s =
     (omega arith, (omega arith, (omega arith, (omega arith, r)))) in
     some-append (site_head_reasons s) (rest s) (some-head s) l
 
-pub refused-some : (s : List ℕ) (n at : ℕ) → (read_site s).answer ≡ Refused n at → 1 ≤ n
+pub refused-some : (s : List ℕ) (n at : ℕ) → (read_site s).answer ≡ Err (refusal n at) → 1 ≤ n
 unfolding site_answer
 refused-some s n at e = some_first (site_reasons s) (some-site s) n at (sym (first-refused s) ∙ e)

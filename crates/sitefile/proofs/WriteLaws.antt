@@ -1,19 +1,20 @@
--- The writer's definitions: a turn of the loads' loop, the file's length, and its parts stored one after the other.
--- Assumes nothing.
-use Prim.Native.Nat.{ℕ, suc, ◌+◌, ◌*◌, ◌≤◌, ◌<◌}
+-- The writer's definitions: the file's length, and its parts stored one after the other. Assumes nothing.
+use Prim.Native.Nat.{ℕ, ◌+◌, ◌*◌, ◌≤◌}
 use mathlib.Core.Path.{◌≡◌, refl, sym, ap, ap₂, ◌∙◌}
 use mathlib.Core.List.{List, [], ◌∷◌, ◌++◌}
 use native.Mathlib.Nat.{zero-add}
-use native.Mathlib.Numerals.{add-one}
 use native.Mathlib.Omega.{arith}
-use lib.ListN.{length, get_or, take, drop, length-append, length-take, drop_of_length-le}
-use lib.Seq.{sets, drop-cons, get_or-take, length-take-le}
+use lib.ListN.{length, take, length-append}
+use lib.Seq.{sets, length-take-le}
 use Rattle.laws.proofs.Stores.{sets-append}
 use Rattle.records.specs.Bytes.{two_bytes_each}
 use Rattle.records.specs.Layout.{record_of}
 use Rattle.records.proofs.Write.{record-put}
 use Rattle.records.proofs.Bytes.{two-bytes-length}
-use Rattle.site.specs.Record.{positions}
+use Rattle.site.specs.Record.{positions, fault_of}
+use Rattle.site.proofs.Faults.{fine-sized, few-positions}
+use Rattle.positions.specs.Blocked.{most_positions}
+use Rattle.std.specs.Prelude.{Ok}
 use Rattle.sitehead.specs.Head.{site_head, head_length}
 use Rattle.reachpairs.specs.Pairs.{pair_bytes}
 use Rattle.blockbits.specs.Blocks.{block_record}
@@ -21,17 +22,9 @@ use Rattle.sitefile.specs.Write.{site_bytes}
 use Rattle.sitehead.proofs.Head.{head-long}
 use Rattle.site.specs.declared.Site.{Site}
 
--- a turn of the loads' loop, and its end
-pub put_step :
-    (out : List ℕ) (at i n : ℕ) (loads : List ℕ) → i < n → n ≤ length loads →
-    sets (sets out (at + 2 * i) (two_bytes_each (get_or loads i 0 ∷ []))) (at + 2 * (i + 1)) (two_bytes_each (drop (i + 1) (take n loads)))
-    ≡ sets out (at + 2 * i) (two_bytes_each (drop i (take n loads)))
-put_step out at i n loads h m =
-    let e : at + 2 * (i + 1) ≡ suc (suc (at + 2 * i)) = omega arith in
-    rw (e, add-one i, drop-cons (take n loads) i 0 (simp length-take (omega arith)), get_or-take n loads i 0 h)
-
-pub put-end : (out : List ℕ) (at i n : ℕ) (loads : List ℕ) → n ≤ i → sets out (at + 2 * i) (two_bytes_each (drop i (take n loads))) ≡ out
-put-end out at i n loads h = rw (drop_of_length-le (take n loads) {i = i} (simp length-take (omega arith)))
+-- what the code asks of an accepted record
+pub writer_sized : (s : Site) → fault_of s ≡ Ok tt → (s.cells ≤ 32) × (positions s ≤ most_positions)
+writer_sized s e = let z = fine-sized s e in (z.cells_most, few-positions z)
 
 module _ (s : Site) (cells : s.cells ≤ 32) (size : length s.loads ≡ 32) where
   loads-length : length (two_bytes_each (take s.cells s.loads)) ≡ 2 * s.cells

@@ -1,12 +1,12 @@
 -- The file of a site, and what its writer answers and leaves.
-use Rattle.std.specs.Prelude.{ℕ, List, ◌++◌, take}
+use Rattle.std.specs.Prelude.{ℕ, List, ◌++◌, take, Result}
 use Rattle.laws.specs.Choice.{pick}
 use Rattle.records.specs.Bytes.{two_bytes_each}
 use Rattle.records.specs.Layout.{record_of}
 use Rattle.records.specs.Write.{written, laid_over}
-use Rattle.records.specs.declared.Written.{Written}
-use Rattle.records.specs.declared.Written.TheVariants.{Refused}
-use Rattle.site.specs.Record.{positions, fault_of, is_fine}
+use Rattle.records.specs.declared.WriteError.{WriteError}
+use Rattle.records.specs.declared.WriteError.TheVariants.{Record}
+use Rattle.site.specs.Record.{positions, fault_of, is_fine, answer_with}
 use Rattle.site.specs.declared.Site.{Site}
 use Rattle.sitehead.specs.Head.{site_head}
 use Rattle.reachpairs.specs.Pairs.{pair_bytes}
@@ -22,8 +22,8 @@ site_bytes s =
     ++ block_record s.blocked (positions s)))
 
 -- "Writers: 1, 2, 3, .. 13"; W8: 20 after 3; W11: 24 after 1
-unfoldable pub site_written : Site → List ℕ → Written
-site_written s out = pick (is_fine (fault_of s)) (written (site_bytes s) out) (Refused (fault_of s))
+unfoldable pub site_written : Site → List ℕ → Result ℕ WriteError
+site_written s out = answer_with Record (fault_of s) (written (site_bytes s) out)
 
 -- "no other refusal writes"
 unfoldable pub site_out : Site → List ℕ → List ℕ

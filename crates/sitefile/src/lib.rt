@@ -14,16 +14,16 @@ ghost use Rattle.sitefile.specs.Write.{site_bytes, site_written, site_out};
 use blockbits::{blocks_len, put_blocks, read_blocks};
 use reachpairs::{pairs_len, put_pairs, read_reach};
 use records::{
-    Length, Opened, ReadAnswer, Written, open, opened_answer, put_start, put_two_bytes, two_bytes,
+    Length, Refusal, WriteError, open, opened_answer, put_start, put_two_bytes, two_bytes,
 };
-use site::{Fault, Site};
+use site::Site;
 use sitehead::{head_len, put_site_head, rule_of, site_head};
 
 // What a site read gives: the site, or a site of zeros beside the refusal.
 #[derive(Clone, Copy)]
 pub struct SiteRead {
     pub site: Site,
-    pub answer: ReadAnswer,
+    pub answer: Result<(), Refusal>,
 }
 
 // The loads of a kind 2 body.
@@ -32,18 +32,14 @@ fn loads_of(body: &[u8]) -> [u16; 32]
     ensures { result ≡ loads_of_body body.now }
 {
     let mut loads = [0u16; 32];
-    let n = body.len() / 2;
-    let mut i = 0;
-    while i < n {
-        let v = two_bytes(body, 2 * i);
-        loads[i] = v;
-        i += 1;
+    for i in 0..body.len() / 2 {
+        loads[i] = two_bytes(body, 2 * i);
     }
     loads
 }
 
 // A refused read: a site of zeros beside the refusal.
-fn refused(answer: ReadAnswer) -> SiteRead
+fn refused(answer: Result<(), Refusal>) -> SiteRead
     ensures { result ≡ refused_site answer }
 {
     SiteRead {
@@ -59,7 +55,7 @@ fn read_rest(bytes: &[u8], at: usize, cells: u16, loads: [u16; 32]) -> SiteRead
 {
     let mut reach = [0u32; 32];
     let first = read_reach(bytes, at, cells, &mut reach);
-    let ReadAnswer::Done = first else {
+    let Ok(()) = first else {
         return refused(first);
     };
     let slots = two_bytes(bytes, 6);
@@ -68,7 +64,7 @@ fn read_rest(bytes: &[u8], at: usize, cells: u16, loads: [u16; 32]) -> SiteRead
     let last = read_blocks(bytes, end, slots as usize * channels as usize);
     let blocked = last.blocked;
     let answer = last.answer;
-    let ReadAnswer::Done = answer else {
+    let Ok(()) = answer else {
         return refused(answer);
     };
     let rule = rule_of(bytes);
@@ -88,14 +84,14 @@ pub fn read_site(bytes: &[u8]) -> SiteRead
     ensures { result ≡ read_site bytes.now }
 {
     let head = site_head(bytes);
-    let ReadAnswer::Done = head else {
+    let Ok(()) = head else {
         return refused(head);
     };
     let cells = two_bytes(bytes, 4);
     let at = 2 + two_bytes(bytes, 0) as usize;
     let length = 2 + 2 * cells;
     let o = open(bytes, at, 2, Length::Exact(length));
-    let Opened::Body(start, len) = o else {
+    let Ok((start, len)) = o else {
         return refused(opened_answer(o));
     };
     let end = start + len;
@@ -108,15 +104,13 @@ fn put_loads(out: &mut [u8], at: usize, loads: [u16; 32], n: usize)
     requires { (n ≤ 32) × (at + 2 * n ≤ length out.old) }
     ensures { out.new ≡ sets out.old at (two_bytes_each (take n loads)) }
 {
-    let mut i = 0;
-    while i < n {
+    for i in 0..n {
         put_two_bytes(out, at + 2 * i, loads[i]);
-        i += 1;
     }
 }
 
 // The site file of a site whose record is in order.
-fn put_site(s: Site, out: &mut [u8]) -> Written
+fn put_site(s: Site, out: &mut [u8]) -> Result<usize, WriteError>
     requires { (s.cells ≤ 32) × (positions s ≤ most_positions) }
     ensures value { result ≡ written (site_bytes s) out.old }
     ensures out_after { out.new ≡ laid_over (site_bytes s) out.old }
@@ -136,7 +130,7 @@ fn put_site(s: Site, out: &mut [u8]) -> Written
     let end = at + 4 + m;
     let need = end + last;
     if out.len() < need {
-        return Written::OutShort(need);
+        return Err(WriteError::OutShort(need));
     }
     put_site_head(out, cells, s.slots, s.channels, rule);
     put_start(out, first, 2 + 2 * cells, 2);
@@ -144,17 +138,16 @@ fn put_site(s: Site, out: &mut [u8]) -> Written
     put_start(out, at, (2 + m) as u16, 3);
     put_pairs(out, at + 4, &reach, end);
     put_blocks(out, end, &blocked, all, last);
-    Written::Done(need)
+    Ok(need)
 }
 
 // Writes the site file of a site: 1, 24, 2, 3, 20, then 13.
-pub fn write_site(site: Site, out: &mut [u8]) -> Written
+// `sheet::write_sheet` and `whytext::why_text` only look like this: each asks the record first, and then writes a text of its own.
+#[tactic(auto, unfolding(crate::specs::Write::site_written, crate::specs::Write::site_out))]
+pub fn write_site(site: Site, out: &mut [u8]) -> Result<usize, WriteError>
     ensures value { result ≡ site_written site out.old }
     ensures out_after { out.new ≡ site_out site out.old }
 {
-    let fault = site.fault_in();
-    let Fault::Fine = fault else {
-        return Written::Refused(fault);
-    };
+    site.accepted()?;
     put_site(site, out)
 }

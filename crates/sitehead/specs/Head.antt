@@ -1,6 +1,6 @@
 -- The head of a site file: kind 1, or kind 5. W11: "A rule 2 site file begins with kind 5 in place of kind 1: the same body, then a two-byte rule, length 10,
 -- the rule always 2."
-use Rattle.std.specs.Prelude.{ℕ, ◌+◌, Bool, not, List, [], ◌∷◌, ◌++◌, eqb}
+use Rattle.std.specs.Prelude.{ℕ, ◌+◌, Bool, not, List, [], ◌∷◌, ◌++◌, eqb, Result}
 use Rattle.laws.specs.Choice.{pick}
 use Rattle.site.specs.Record.{size_ok}
 use Rattle.records.specs.Bytes.{le16, two_bytes_each}
@@ -8,7 +8,7 @@ use Rattle.records.specs.Layout.{record_of}
 use Rattle.records.specs.Reasons.{Reason, reason, first_reason, record_reasons}
 use Rattle.records.specs.Head.{cells_of_head, slots_of_head, channels_of_head, head_reasons}
 use Rattle.records.specs.declared.Length.TheVariants.{Exact}
-use Rattle.records.specs.declared.ReadAnswer.{ReadAnswer}
+use Rattle.records.specs.declared.Refusal.{Refusal}
 
 -- the first record says that it is of kind 5
 abbrev pub is_ruled : List ℕ → Bool
@@ -34,7 +34,7 @@ ruled_reasons s =
 unfoldable pub site_head_reasons : List ℕ → List Reason
 site_head_reasons s = pick (is_ruled s) (ruled_reasons s) (head_reasons s)
 
-unfoldable pub site_head_answer : List ℕ → ReadAnswer
+unfoldable pub site_head_answer : List ℕ → Result Unit Refusal
 site_head_answer s = first_reason (site_head_reasons s)
 
 -- ---- written

@@ -1,15 +1,14 @@
 // The head of a site file: kind 1, or kind 5 with the rule, read and written.
 #![tactic(auto)]
 
-ghost use Rattle.std.specs.Prelude.{◌≡◌, ◌≤◌, length};
+ghost use Rattle.std.specs.Prelude.{◌≡◌, ◌≤◌, length, Ok};
 ghost use Rattle.std.proofs.lemmas.List.Edits.{sets};
 ghost use Rattle.records.specs.Reasons.{first_reason};
-ghost use Rattle.records.specs.declared.ReadAnswer.TheVariants.{Done};
 ghost use Rattle.sitehead.specs.Head.{rule_of_head, ruled_reasons, site_head_answer, site_head, head_length};
 
 use records::{
-    AFTER_HEAD, Length, Opened, ReadAnswer, head_answer, open, opened_answer, put_head, put_start,
-    put_two_bytes, two_bytes,
+    AFTER_HEAD, Length, Refusal, head_answer, open, put_head, put_start, put_two_bytes, refuse,
+    two_bytes,
 };
 use site::size_ok;
 
@@ -21,33 +20,29 @@ const RULED_LENGTH: u16 = 10;
 const AFTER_RULED: usize = 2 + RULED_LENGTH as usize;
 
 // A head of kind 5: its record at the start of the file, I, T and F in range, and rule 2.
-fn ruled_head(s: &[u8]) -> ReadAnswer
+#[tactic(auto, using(crate::proofs::Head::ruled_refused, crate::proofs::Head::ruled_long, crate::proofs::Head::ruled_sized, crate::proofs::Head::ruled_other, crate::proofs::Head::ruled_oversized))]
+fn ruled_head(s: &[u8]) -> Result<(), Refusal>
     ensures { result ≡ first_reason (ruled_reasons s.now) }
 {
-    let o = open(s, 0, RULED_KIND, Length::Exact(RULED_LENGTH));
-    let Opened::Body(_, _) = o else {
-        return opened_answer(o);
-    };
+    open(s, 0, RULED_KIND, Length::Exact(RULED_LENGTH))?;
     let cells = two_bytes(s, 4);
     let slots = two_bytes(s, 6);
     let channels = two_bytes(s, 8);
     if !size_ok(cells, slots, channels) {
-        return ReadAnswer::Refused(1, 0);
+        return Err(refuse(1, 0));
     }
-    let rule = two_bytes(s, 10);
-    if rule == 2 {
-        ReadAnswer::Done
-    } else {
-        ReadAnswer::Refused(24, 0)
+    if two_bytes(s, 10) != 2 {
+        return Err(refuse(24, 0));
     }
+    Ok(())
 }
 
 // The head: of kind 5 where it says so, and else of kind 1.
-pub fn site_head(s: &[u8]) -> ReadAnswer
+pub fn site_head(s: &[u8]) -> Result<(), Refusal>
     ensures { result ≡ site_head_answer s.now }
 {
     if s.len() < 4 {
-        return ReadAnswer::Refused(8, 0);
+        return Err(refuse(8, 0));
     }
     let kind = two_bytes(s, 2);
     if kind == RULED_KIND {
@@ -58,7 +53,7 @@ pub fn site_head(s: &[u8]) -> ReadAnswer
 
 // The rule that a good head states.
 pub fn rule_of(s: &[u8]) -> u16
-    requires { site_head_answer s.now ≡ Done }
+    requires { site_head_answer s.now ≡ Ok tt }
     ensures { result ≡ rule_of_head s.now }
 {
     let kind = two_bytes(s, 2);

@@ -68,6 +68,7 @@ pub fn say(out: &mut [u8], at: usize, text: &[u8], a: usize, b: usize, c: usize,
 {
     let mut next = at;
     let mut i = 0;
+    // A mark is two bytes long and any other place one, so the step differs.
     while i < text.len() {
         if is_mark(text, i) {
             next = put_mark(out, next, a, b, c, d, text[i + 1]);

@@ -28,7 +28,7 @@ use Rattle.sets.specs.Sets.{set_in}
 use Rattle.sets.proofs.Sets.{set_before, set_there}
 use Rattle.standing.specs.Stand.{stood_of}
 use Rattle.standing.specs.Sets.{stands_in, free_in, short_count, turn_count, TwoWay, OldIn, Says}
-use Rattle.standing.specs.declared.Stood.TheVariants.{All}
+use Rattle.std.specs.Prelude.{Ok}
 use Rattle.site.specs.Reach.{is_open, net_by}
 use Rattle.standing.proofs.Within.{none-stands}
 
@@ -143,8 +143,8 @@ module _ (w cells n : ℕ) (loads clash blocked u : List ℕ) (two : TwoWay clas
         }
 
 -- every cell has had its turn
-pub stood-all : (s : Net) (u : List ℕ) (w : ℕ) (stands : List ℕ) (number : ℕ) → Standing s u w s.cells stands number → All number ≡ stood_of s u (mend s u)
-stood-all s u w stands number st = ap All st.all ∙ sym (ap (stood_of s u) st.runs)
+pub stood-all : (s : Net) (u : List ℕ) (w : ℕ) (stands : List ℕ) (number : ℕ) → Standing s u w s.cells stands number → Ok number ≡ stood_of s u (mend s u)
+stood-all s u w stands number st = ap Ok st.all ∙ sym (ap (stood_of s u) st.runs)
 
 pub stood-says : (cells n : ℕ) (loads clash blocked u : List ℕ) (w : ℕ) (stands old : List ℕ) (number : ℕ)
     → Standing (net_by cells n loads clash (is_open blocked)) u w cells stands number → n ≤ 64 * w → OldIn w cells n u old

@@ -9,7 +9,7 @@ use Prim.Native.Nat.{ℕ, zero, suc, ◌+◌, ◌-◌, ◌*◌, ◌/◌, ◌%◌
 use native.Mathlib.Nat.{eq-or-lt_of_le}
 use native.Mathlib.Numerals.{add-one}
 use native.Mathlib.Omega.{arith}
-use lib.ListN.{length, get_or, drop, take}
+use lib.ListN.{length, get_or, drop, take, length-replicate}
 use lib.Seq.{sets, sets-eq, length-sets}
 use Rattle.laws.specs.Bits.{bit_at}
 use Rattle.laws.specs.Part.{part, put}
@@ -22,8 +22,8 @@ use Rattle.positions.specs.Blocked.{word_in}
 use Rattle.mending.specs.Keep.{stand_at}
 use Rattle.sets.specs.Sets.{in_set, set_in}
 use Rattle.sets.specs.Pack.{in_cell}
-use Rattle.sets.proofs.Sets.{set_before, set_there}
-use Rattle.standing.specs.Sets.{free_in, OldIn}
+use Rattle.sets.proofs.Sets.{in-set, set_before, set_there}
+use Rattle.standing.specs.Sets.{free_in, stands_in, vacant_at, OpenIn, OldIn}
 use Rattle.standing.specs.Turns.{packed_rows, turn_sets}
 
 -- ---- a set among sets, lent
@@ -105,3 +105,13 @@ module _ (w n : ℕ) (loads clash blocked u stands : List ℕ) where
 pub bool-bit : (b : Bool) → bool_byte b ≡ bit b
 bool-bit true = refl
 bool-bit false = refl
+
+-- ---- what the turns are lent: the sets of the packed rows, and those of the open positions
+
+pub all_packed : (w n cells : ℕ) (u old new : List ℕ) → new ≡ packed_rows w n u old cells → cells * w ≤ length old → OldIn w cells n u new
+all_packed w n cells u old new e fits i k l h = ap (λ (z : List ℕ). stands_in w z i k) e ∙ packed-in w n u old cells fits i k l h
+
+pub all_open : (w n : ℕ) (blocked old new : List ℕ) → new ≡ sets old 0 (set_in (vacant_at n blocked) w) → w ≤ length old → OpenIn w n blocked new
+all_open w n blocked old new e fits k h = ap (λ (l : List ℕ). in_set l k) e ∙ in-set (vacant_at n blocked) w k old fits h
+
+pub ruleset lent_sets = (all_packed, all_open, length-replicate)

@@ -22,12 +22,9 @@ use sets::{
 use words::lowest;
 use wordturns::{free_word, word_turn};
 
-// What stands once every cell has had its turn: the number of changes, or a cell's number and how many of its fragments found no room.
+// A cell that could not have its load: its number, and how many of its fragments found no room.
 #[derive(Clone, Copy)]
-pub enum Stood {
-    All(usize),
-    Short(usize, usize),
-}
+pub struct Short(pub usize, pub usize);
 
 // Packs the rows of a table of n positions into sets of w words, one after the other.
 fn pack_rows(old: &mut [u64], table: &[u8], w: usize, n: usize, cells: usize)
@@ -58,6 +55,7 @@ fn free_set(free: &mut [u64], vacant: &[u64], stands: &[u64], w: usize, i: usize
 {
     meet_of(free, vacant, vacant, w);
     let mut a = lowest(row, 0, i);
+    // From cell to cell of a word: no index is counted.
     while a < i {
         take_away(free, stands, a * w, w);
         a = lowest(row, a + 1, i);
@@ -188,7 +186,7 @@ fn stand_turns(
     loads: &[u16; 32],
     clash: &[u32; 32],
     blocked: &[u64],
-) -> Stood
+) -> Result<usize, Short>
     requires cells_bound { (cells ≤ 32) × (w ≤ 32) × (n ≤ 64 * w) × (cells * w ≤ length stands.old) × (cells * w ≤ length old.now) }
     requires w_in_bounds { (w ≤ length free.old) × (w ≤ length here.old) × (w ≤ length vacant.now) }
     requires open_in { OpenIn w n blocked.now vacant.now × OldIn w cells n table.now old.now × TwoWay clash.now }
@@ -204,14 +202,15 @@ fn stand_turns(
         let turn = stand_cell(stands, free, here, vacant, old, w, i, load, clash[i]);
         let short = turn.short;
         if 0 < short {
-            return Stood::Short(i + 1, short);
+            return Err(Short(i + 1, short));
         }
         number += turn.changes;
     }
-    Stood::All(number)
+    Ok(number)
 }
 
 // Every cell's turn for at most 128 positions, none on a blocked one: the room is cleared for so many alone.
+#[tactic(auto, using(crate::proofs::Turns::lent_sets))]
 fn stand_small(
     stands: &mut [u64],
     old: &[u64],
@@ -222,7 +221,7 @@ fn stand_small(
     loads: &[u16; 32],
     clash: &[u32; 32],
     blocked: &[u64],
-) -> Stood
+) -> Result<usize, Short>
     requires cells_bound { (cells ≤ 32) × (w ≤ 2) × (n ≤ 64 * w) × (cells * w ≤ length stands.old) × (cells * w ≤ length old.now) }
     requires w_in_bounds { (w ≤ length blocked.now) × OldIn w cells n table.now old.now × TwoWay clash.now }
     ensures answer { result ≡ stood_by cells n loads.now clash.now blocked.now table.now }
@@ -241,6 +240,7 @@ fn stand_small(
 }
 
 // The same for more positions.
+#[tactic(auto, using(crate::proofs::Turns::lent_sets))]
 fn stand_large(
     stands: &mut [u64],
     old: &[u64],
@@ -251,7 +251,7 @@ fn stand_large(
     loads: &[u16; 32],
     clash: &[u32; 32],
     blocked: &[u64],
-) -> Stood
+) -> Result<usize, Short>
     requires cells_bound { (cells ≤ 32) × (w ≤ 32) × (n ≤ 64 * w) × (cells * w ≤ length stands.old) × (cells * w ≤ length old.now) }
     requires w_in_bounds { (w ≤ length blocked.now) × OldIn w cells n table.now old.now × TwoWay clash.now }
     ensures answer { result ≡ stood_by cells n loads.now clash.now blocked.now table.now }
@@ -269,7 +269,8 @@ fn stand_large(
     )
 }
 
-// Every cell's turn, none on a blocked position. The sets come back with who stands where, and who stood.
+// Every cell's turn, none on a blocked position: the number of changes. The sets come back with who stands where, and who stood.
+#[tactic(auto, using(crate::proofs::Turns::lent_sets))]
 pub fn stand_all(
     stands: &mut [u64],
     old: &mut [u64],
@@ -280,7 +281,7 @@ pub fn stand_all(
     loads: &[u16; 32],
     clash: &[u32; 32],
     blocked: &[u64],
-) -> Stood
+) -> Result<usize, Short>
     requires cells_bound { (cells ≤ 32) × (w ≤ 32) × (n ≤ 64 * w) × (cells * n ≤ length table.now) × (cells * w ≤ length stands.old)
         × (cells * w ≤ length old.old) }
     requires w_in_bounds { (w ≤ length blocked.now) × TwoWay clash.now }

@@ -18,9 +18,10 @@ use Rattle.theory.specs.Net.{Net}
 use Rattle.theory.specs.Greedy.{reserved, no_room, planned, greedy}
 use Rattle.theory.specs.Positions.{left_at, need_at, takes, short_cell}
 use Rattle.theory.proofs.Positions.{greedy-plans, greedy-short}
+use Rattle.std.specs.Prelude.{Ok, Err}
 use Rattle.words.specs.Words.{word_at, out_words}
 use Rattle.planner.specs.Plan.{answer_of}
-use Rattle.planner.specs.declared.PlanAnswer.TheVariants.{Done, NoRoom}
+use Rattle.planner.specs.declared.PlanError.TheVariants.{NoRoom}
 use Rattle.stretches.specs.Stretches.{laid_to, left_to}
 use Rattle.site.specs.Reach.{net_by}
 
@@ -43,9 +44,10 @@ module _ (usable : ℕ → Bool) (rows loads : List ℕ) (cells n : ℕ) (fits :
     no_room-law : greedy s ≡ no_room cell (left_at s n cell)
     no_room-law = greedy-short s (omega (arith, cell-is)) ∙ ap (λ c. no_room c (left_at s n c)) cell-is
 
-    pub refused : (m : ℕ) → m ≡ get_or left cell 0 → NoRoom (cell + 1) m ≡ answer_of (greedy (net_by cells n loads rows usable))
+    pub refused : (m : ℕ) → m ≡ get_or left cell 0 → Err (NoRoom (cell + 1) m) ≡ answer_of (greedy (net_by cells n loads rows usable))
     refused m e =
-        ap (NoRoom (cell + 1)) (e ∙ ap (λ x. get_or x cell 0) is-left ∙ sets-at (left_at s n) cells loads cell short fits) ∙ sym (ap answer_of no_room-law)
+        ap (λ k. Err (NoRoom (cell + 1) k)) (e ∙ ap (λ x. get_or x cell 0) is-left ∙ sets-at (left_at s n) cells loads cell short fits)
+        ∙ sym (ap answer_of no_room-law)
 
     pub cleared : (w : List ℕ) → w ≡ sets words 0 (list_of (λ _. 0) n) → w ≡ out_words cells n (greedy (net_by cells n loads rows usable)) ++ drop n words₀
     cleared w e =
@@ -57,7 +59,7 @@ module _ (usable : ℕ → Bool) (rows loads : List ℕ) (cells n : ℕ) (fits :
     abbrev plan : (t : List ℕ) × (greedy s ≡ planned t) × ((i k : ℕ) → i < cells → k < n → reserved n t i k ≡ takes s i k)
     plan = greedy-plans s (omega (arith, cell-is))
 
-    pub stood : Done ≡ answer_of (greedy (net_by cells n loads rows usable))
+    pub stood : Ok tt ≡ answer_of (greedy (net_by cells n loads rows usable))
     stood = sym (ap answer_of plan.1)
 
     pub laid-down : words ≡ out_words cells n (greedy (net_by cells n loads rows usable)) ++ drop n words₀

@@ -21,7 +21,7 @@ ghost use Rattle.stretches.specs.Stretches.{laid_to, left_to, gated, open_from, 
 ghost use Rattle.site.specs.Reach.{is_open, net_by};
 
 use loads::loaded_in;
-use planner::PlanAnswer;
+use planner::PlanError;
 use positions::{is_blocked, none_blocked};
 use words::{apart, has, lay, lowest};
 
@@ -30,17 +30,6 @@ use words::{apart, has, lay, lowest};
 struct Stretch {
     word: u32,
     run: usize,
-}
-
-// The run, or what a cell has left where that is less.
-fn least(run: usize, left: u16) -> usize
-    ensures { result ≡ min run left }
-{
-    let most = left as usize;
-    if most < run {
-        return most;
-    }
-    run
 }
 
 // The stretch that begins where these cells, of so many, are in need: the lowest is taken, then the lowest of those that do not clash with it, and so on.
@@ -54,13 +43,14 @@ fn stretch_of(need: u32, left: &[u16], clash: &[u32; 32], cells: usize, most: us
     let mut run = most;
     let mut met: u32 = 0;
     let mut rest = need;
+    // From member to member of a word: no index is counted. All that clash with one taken are dropped at once.
     while rest != 0 {
         let i = u32::trailing_zeros(rest) as usize;
         if has(met, i) {
             rest = apart(rest, met);
             continue;
         }
-        run = least(run, left[i]);
+        run = run.min(left[i] as usize);
         word = word | (1 << i);
         met = met | clash[i];
         rest = rest & (rest - 1);
@@ -69,14 +59,6 @@ fn stretch_of(need: u32, left: &[u16], clash: &[u32; 32], cells: usize, most: us
         word: word,
         run: run,
     }
-}
-
-// What is left after a run, which is no longer than that.
-fn less(left: u16, run: usize) -> u16
-    requires { run ≤ left }
-    ensures { result ≡ left - run }
-{
-    left - run as u16
 }
 
 // The bit of a cell that has nothing left, else 0.
@@ -99,9 +81,10 @@ fn subtract(left: &mut [u16], word: u32, run: usize, need: u32, cells: usize) ->
 {
     let mut still = need;
     let mut rest = word;
+    // From member to member of a word: no index is counted.
     while rest != 0 {
         let i = u32::trailing_zeros(rest) as usize;
-        let has = less(left[i], run);
+        let has = left[i] - run as u16;
         left[i] = has;
         still = apart(still, emptied(has, 1 << i));
         rest = rest & (rest - 1);
@@ -150,9 +133,8 @@ fn lay_open(
     ensures free { result.free ≡ open_from blocked.now from result.span }
     ensures words { words.new ≡ sets words.old from (list_of (gated blocked.now from word) result.span) }
 {
-    let mut span: usize = 0;
     let mut used: usize = 0;
-    while span < most {
+    for span in 0..most {
         if run <= used {
             return Piece {
                 span: span,
@@ -162,10 +144,9 @@ fn lay_open(
         let shut = is_blocked(blocked, from + span);
         words[from + span] = word_unless(shut, word);
         used += one_unless(shut);
-        span += 1;
     }
     Piece {
-        span: span,
+        span: most,
         free: used,
     }
 }
@@ -213,6 +194,7 @@ fn lay_all(
     let none = none_blocked(blocked);
     let mut need = loaded_in(left, cells);
     let mut k: usize = 0;
+    // A step goes over a whole piece, whose length differs from turn to turn.
     while k < n {
         let most = n - k;
         let s = stretch_of(need, left, clash, cells, most);
@@ -244,7 +226,7 @@ pub fn plan_stretches(
     cells: usize,
     n: usize,
     blocked: &[u64; 32],
-) -> PlanAnswer
+) -> Result<(), PlanError>
     requires { (cells ≤ 32) × (n ≤ length words.old) × (n ≤ most_positions) }
     ensures answer { result ≡ answer_of (greedy (net_by cells n loads clash.now (is_open blocked.now))) }
     ensures words { words.new
@@ -257,7 +239,7 @@ pub fn plan_stretches(
         lay(words, 0, n, 0);
         let short = left_of(&left, cell) as usize;
         let number = cell + 1;
-        return PlanAnswer::NoRoom(number, short);
+        return Err(PlanError::NoRoom(number, short));
     }
-    PlanAnswer::Done
+    Ok(())
 }

@@ -20,7 +20,7 @@ use Rattle.cleaning.specs.declared.Standing.{Standing}
 use Rattle.cleaning.specs.declared.Step.{Step}
 use Rattle.cleaning.specs.declared.Tidied.{Tidied}
 use Rattle.tidying.specs.Tidy.{most_bytes, tidied, bad_line_of, tidy_answer}
-use Rattle.tidying.specs.declared.TidyAnswer.TheVariants.{Done}
+use Rattle.std.specs.Prelude.{Ok}
 use Rattle.tidying.proofs.Copied.{plain_step, Through, none, more, sheet-through}
 use Rattle.tidying.proofs.Laws.{sheet-few, record_of-law, tidied-good}
 
@@ -259,7 +259,7 @@ no-quote (more {p = p} {q = q} {l = l} b n e t) = go (eqb b 34) refl (no-quote t
 
 -- ---- the sheet
 
-module _ (s out : List ℕ) (n : ℕ) (done : tidy_answer s out ≡ Done n) (unnamed : (kind : ℕ) → 1 ≤ kind → kind ≤ 8 → (changes_of s kind).times ≡ 0) where
+module _ (s out : List ℕ) (n : ℕ) (done : tidy_answer s out ≡ Ok n) (unnamed : (kind : ℕ) → 1 ≤ kind → kind ≤ 8 → (changes_of s kind).times ≡ 0) where
   good : bad_line_of (tidied s) ≡ 0
   good = tidied-good s out n done
 

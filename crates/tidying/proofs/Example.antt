@@ -15,7 +15,8 @@ use Rattle.cleaning.specs.Clean.{is_separator, separator_in, next_column, on_bla
 use Rattle.cleaning.specs.Clean.{on_separator}
 use Rattle.cleaning.specs.Clean.{on_cr, on_lf, after_cr, on_field, step_of, is_fresh, end_of, byte_out, out_of, clean_from, begins, cleaned}
 use Rattle.tidying.specs.Tidy.{tidied, bad_line_of, laid_answer, judged_answer, tidy_answer}
-use Rattle.tidying.specs.declared.TidyAnswer.TheVariants.{Done, OutShort, BadLine}
+use Rattle.std.specs.Prelude.{Ok, Err}
+use Rattle.tidying.specs.declared.TidyError.TheVariants.{OutShort, BadLine}
 
 -- the mark of the byte order, then "cell";"load";1;2 with LF alone
 abbrev first : List ℕ
@@ -38,7 +39,7 @@ pub sheets-tidied :
     ∷ tidy_answer (first ++ (49 ∷ 59 ∷ 53 ∷ 44 ∷ 48 ∷ 59 ∷ 59 ∷ 120 ∷ 10 ∷ [])) []
     ∷ tidy_answer [] []
     ∷ []
-    ≡ Done 33 ∷ OutShort 33 ∷ BadLine 3 ∷ BadLine 2 ∷ BadLine 1 ∷ []
+    ≡ Ok 33 ∷ Err (OutShort 33) ∷ Err (BadLine 3) ∷ Err (BadLine 2) ∷ Err (BadLine 1) ∷ []
 unfolding tidy_answer judged_answer laid_answer tidied bad_line_of
     cleaned clean_from begins starts separator_in is_separator next_column on_blank on_quote is_reach is_late on_content mend_of comma_change on_separator on_cr
     on_lf

@@ -25,14 +25,15 @@ use Rattle.site.specs.Record.{load_at}
 use Rattle.sheet.specs.Sheet.{line_of, lines_from, sheet_bytes}
 use Rattle.sheet.specs.Read.{read_sheet}
 use Rattle.sheet.specs.Means.{BlockedHeld, FitsSheet, FirstBadOfSheet, no_first_line, no_cell_line, one_too_many, SheetOf}
-use Rattle.sheet.specs.declared.SheetAnswer.{SheetAnswer}
-use Rattle.sheet.specs.declared.SheetAnswer.TheVariants as sheet
+use Rattle.sheet.specs.declared.SheetError.{SheetError}
+use Rattle.sheet.specs.declared.SheetError.TheVariants as sheet
 use Rattle.sheet.proofs.WriteLaws.{line-long, sheet-parts}
 use Rattle.sheet.proofs.Answers.{bad-first, first-told, no-bad-line}
 use Rattle.cleaning.specs.Clean.{line_spot, unchanged, first_spot, is_fresh, end_of, byte_out, out_of, clean_from, begins, cleaned, separator_in}
 use Rattle.cleaning.specs.Clean.{noted, changes_from, mark_change, changes_of}
 use Rattle.tidying.specs.Tidy.{most_bytes, tidied, answer_line as line_in, bad_line_of, laid_answer, judged_answer, tidy_answer}
-use Rattle.tidying.specs.declared.TidyAnswer.TheVariants.{Done, OutShort, BadLine}
+use Rattle.std.specs.Prelude.{Result, Ok, Err}
+use Rattle.tidying.specs.declared.TidyError.TheVariants.{OutShort, BadLine}
 use Rattle.tidying.proofs.Copied.{copied, not_made, unnamed, sheet-through, sheet-separator, sheet-begins}
 
 -- ---- how long a sheet is
@@ -113,13 +114,13 @@ from_one b l (no_cell_line s k rest e fits low is none) = omega arith
 from_one b l (one_too_many s x rest e fits is) = omega arith
 
 module _ (b : List ℕ) where
-  abbrev said : SheetAnswer
+  abbrev said : Result Unit SheetError
   said = (read_sheet b 1 1 empty_set 1).answer
 
-  line-is : (a : SheetAnswer) (l : ℕ) → line_in a ≡ l → 0 < l → a ≡ sheet.BadLine l
-  line-is sheet.Done l e h = absurd (omega arith)
-  line-is (sheet.BadLine m) l e h = ap sheet.BadLine e
-  line-is (sheet.Refused f) l e h = absurd (omega arith)
+  line-is : (a : Result Unit SheetError) (l : ℕ) → line_in a ≡ l → 0 < l → a ≡ Err (sheet.BadLine l)
+  line-is (Ok u) l e h = absurd (omega arith)
+  line-is (Err (sheet.BadLine m)) l e h = ap (λ (k : ℕ). Err (sheet.BadLine k)) e
+  line-is (Err (sheet.Record f)) l e h = absurd (omega arith)
 
   -- a line that is told is the first bad one
   pub line_first : (l : ℕ) → bad_line_of b ≡ l → 0 < l → FirstBadOfSheet b l
@@ -155,27 +156,27 @@ module _ (b : List ℕ) where
 
 module _ (s out : List ℕ) where
   -- what is done is good
-  pub tidied-good : (n : ℕ) → tidy_answer s out ≡ Done n → bad_line_of (tidied s) ≡ 0
+  pub tidied-good : (n : ℕ) → tidy_answer s out ≡ Ok n → bad_line_of (tidied s) ≡ 0
   unfolding tidy_answer judged_answer
   tidied-good n e = go (eqb (bad_line_of (tidied s)) 0) refl e
     where
-      go : (t : Bool) → eqb (bad_line_of (tidied s)) 0 ≡ t → pick t (laid_answer (tidied s) out) (BadLine (bad_line_of (tidied s))) ≡ Done n
+      go : (t : Bool) → eqb (bad_line_of (tidied s)) 0 ≡ t → pick t (laid_answer (tidied s) out) (Err (BadLine (bad_line_of (tidied s)))) ≡ Ok n
           → bad_line_of (tidied s) ≡ 0
       go true q h = eqb-true _ _ q
       go false q h = let z : ◌≡◌ {A = ℕ} 0 1 = cc in absurd (omega arith)
 
-  pub tidied-twice : (n : ℕ) → tidy_answer s out ≡ Done n → tidied (tidied s) ≡ tidied s
+  pub tidied-twice : (n : ℕ) → tidy_answer s out ≡ Ok n → tidied (tidied s) ≡ tidied s
   tidied-twice n e = good_left (tidied s) (tidied-good n e)
 
-  not-laid : (t : Bool) (m k l : ℕ) → pick t (Done m) (OutShort k) ≡ BadLine l → ⊥
+  not-laid : (t : Bool) (m k l : ℕ) → pick t (Ok m) (Err (OutShort k)) ≡ Err (BadLine l) → ⊥
   not-laid true m k l e = let z : ◌≡◌ {A = ℕ} 0 1 = cc in omega arith
   not-laid false m k l e = let z : ◌≡◌ {A = ℕ} 0 1 = cc in omega arith
 
-  pub refused-first : (l : ℕ) → tidy_answer s out ≡ BadLine l → FirstBadOfSheet (tidied s) l
+  pub refused-first : (l : ℕ) → tidy_answer s out ≡ Err (BadLine l) → FirstBadOfSheet (tidied s) l
   unfolding tidy_answer judged_answer laid_answer
   refused-first l e = go (eqb (bad_line_of (tidied s)) 0) refl e
     where
-      go : (t : Bool) → eqb (bad_line_of (tidied s)) 0 ≡ t → pick t (laid_answer (tidied s) out) (BadLine (bad_line_of (tidied s))) ≡ BadLine l
+      go : (t : Bool) → eqb (bad_line_of (tidied s)) 0 ≡ t → pick t (laid_answer (tidied s) out) (Err (BadLine (bad_line_of (tidied s)))) ≡ Err (BadLine l)
           → FirstBadOfSheet (tidied s) l
       go true q h = absurd (not-laid (leb (length (tidied s)) (length out)) (length (tidied s)) (length (tidied s)) l h)
       go false q h =

@@ -7,24 +7,16 @@ use lib.ListN.{length, take}
 use lib.Seq.{length-take-le, sets, length-sets}
 use borrow.Author.Tests.{le-leb, lt-leb}
 use Rattle.laws.proofs.Stores.{take-sets}
-use Rattle.positions.specs.Blocked.{empty_set}
-use Rattle.sheet.specs.Read.{read_sheet}
-use Rattle.sheet.specs.declared.SheetRead.{SheetRead}
-use Rattle.sheet.specs.declared.SheetAnswer.{SheetAnswer}
+use Rattle.std.specs.Prelude.{Ok, Err}
 use Rattle.cleaning.specs.Clean.{cleaned}
-use Rattle.tidying.specs.Tidy.{most_bytes, tidied, answer_line, bad_line_of, laid_answer}
-use Rattle.tidying.specs.declared.TidyAnswer.TheVariants.{Done, OutShort}
+use Rattle.tidying.specs.Tidy.{most_bytes, tidied, laid_answer}
+use Rattle.tidying.specs.declared.TidyError.TheVariants.{OutShort}
 
--- the line of the reader's answer
-pub line-told : (b : List ℕ) (r : SheetRead) → r ≡ read_sheet b 1 1 empty_set 1 → (a : SheetAnswer) → r.answer ≡ a → answer_line a ≡ bad_line_of b
-unfolding bad_line_of
-line-told b r e a h = ap answer_line (sym h ∙ ap (λ (x : SheetRead). x.answer) e)
-
-pub laid_out : (file out : List ℕ) → length file ≤ length out → Done (length file) ≡ laid_answer file out
+pub laid_out : (file out : List ℕ) → length file ≤ length out → Ok (length file) ≡ laid_answer file out
 unfolding laid_answer
 laid_out file out h = rw (le-leb (length file) (length out) h)
 
-pub not-laid-out : (file out : List ℕ) → length out < length file → OutShort (length file) ≡ laid_answer file out
+pub not-laid-out : (file out : List ℕ) → length out < length file → Err (OutShort (length file)) ≡ laid_answer file out
 unfolding laid_answer
 not-laid-out file out h = rw (lt-leb (length file) (length out) h)
 

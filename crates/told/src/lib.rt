@@ -1,8 +1,8 @@
 // Each answer of the product as a C caller gets it: document 01's number and its values.
 #![tactic(auto)]
 
-ghost use Rattle.std.specs.Prelude.{◌≡◌};
-ghost use Rattle.site.specs.Given.{fault_given, clash_given};
+ghost use Rattle.std.specs.Prelude.{◌≡◌, Err};
+ghost use Rattle.site.specs.Given.{fault_given, done_given, clash_given};
 ghost use Rattle.judges.specs.Given.{load_given, chain_given, class_given, least_given};
 ghost use Rattle.heaviest.specs.Given.{heaviest_given};
 ghost use Rattle.planner.specs.Given.{plan_given};
@@ -15,21 +15,28 @@ ghost use Rattle.mender.specs.Given.{mend_given};
 ghost use Rattle.numbering.specs.Given.{renumber_given, carry_given};
 ghost use Rattle.shares.specs.Given.{share_given};
 ghost use Rattle.admission.specs.Given.{admit_given, beside_given};
+ghost use Rattle.records.specs.Given.{read_given, written_given};
+ghost use Rattle.planfile.specs.Given.{plan_written_given};
+ghost use Rattle.sheet.specs.Given.{sheet_given};
+ghost use Rattle.tidying.specs.Given.{tidy_given};
 ghost use Rattle.told.specs.Told.{numbered, told, told_renumbered};
 
-use admission::{AdmitAnswer, BesideAnswer};
-use checker::CheckAnswer;
-use finder::{FindAnswer, OverFullAnswer};
-use handheld::ChangeAnswer;
-use heaviest::HeaviestAnswer;
-use judges::{ChainAnswer, ClassAnswer, LeastAnswer, LoadAnswer};
-use mender::MendAnswer;
-use numbering::{CarryAnswer, RenumberAnswer, Renumbered};
-use planner::PlanAnswer;
-use search::SearchAnswer;
-use shares::ShareAnswer;
-use site::{ClashAnswer, Fault, Site};
-use wordtable::FormAnswer;
+use admission::{AdmitError, BesideError};
+use checker::CheckError;
+use finder::{FindError, OverFull, Way};
+use handheld::ChangeError;
+use judges::{ChainVerdict, ClassVerdict, LeastVerdict, LoadVerdict};
+use mender::MendError;
+use numbering::{CarryError, RenumberError, Renumbered};
+use planfile::PlanWriteError;
+use planner::PlanError;
+use records::{Refusal, WriteError};
+use search::SearchError;
+use shares::{Fragments, ShareError, Slots};
+use sheet::SheetError;
+use site::{Fault, Site};
+use tidying::TidyError;
+use wordtable::FormError;
 
 // dugg_answer: the number given back, and the values that belong to it.
 #[repr(C)]
@@ -59,247 +66,397 @@ pub fn give(number: u64, a: usize, b: usize, c: usize) -> Answer
     }
 }
 
-// From here to `beside_answer`: an answer of the product as its number and values.
-pub fn fault_answer(said: Fault) -> Answer
-    ensures { result ≡ told (fault_given said) }
-{
-    match said {
-        Fault::Fine => give(0, 0, 0, 0),
-        Fault::Size => give(1, 0, 0, 0),
-        Fault::Rule => give(24, 0, 0, 0),
-        Fault::Load(cell) => give(2, cell, 0, 0),
-        Fault::Reach(row) => give(3, row, 0, 0),
-        Fault::Blocked(position) => give(20, position, 0, 0),
+// From here on: an answer of the product as its number and values.
+// What looks alike in these conversions is the shape of a `match`: each reads an answer type of its own, and has a law of its own.
+impl From<Fault> for Answer {
+    ghost from_gives = { λ said a. a ≡ told (fault_given said) };
+
+    #[tactic(auto, unfolding(crate::specs::Told::told))]
+    fn from(said: Fault) -> Answer {
+        match said {
+            Fault::Size => give(1, 0, 0, 0),
+            Fault::Rule => give(24, 0, 0, 0),
+            Fault::Load(cell) => give(2, cell, 0, 0),
+            Fault::Reach(row) => give(3, row, 0, 0),
+            Fault::Blocked(position) => give(20, position, 0, 0),
+        }
     }
 }
 
-pub fn clash_answer(said: ClashAnswer) -> Answer
-    ensures { result ≡ told (clash_given said) }
-{
-    match said {
-        ClashAnswer::Clear => give(0, 0, 0, 0),
-        ClashAnswer::Clash => give(0, 1, 0, 0),
-        ClashAnswer::Refused(f) => fault_answer(f),
+impl From<Result<(), Fault>> for Answer {
+    ghost from_gives = { λ said a. a ≡ told (done_given said) };
+
+    #[tactic(auto, unfolding(crate::specs::Told::told))]
+    fn from(said: Result<(), Fault>) -> Answer {
+        match said {
+            Ok(()) => give(0, 0, 0, 0),
+            Err(f) => Answer::from(f),
+        }
     }
 }
 
-pub fn load_answer(said: LoadAnswer) -> Answer
-    ensures { result ≡ told (load_given said) }
-{
-    match said {
-        LoadAnswer::Holds => give(0, 0, 0, 0),
-        LoadAnswer::Over(cell, excess) => give(0, cell, excess, 0),
-        LoadAnswer::Refused(f) => fault_answer(f),
+impl From<Result<bool, Fault>> for Answer {
+    ghost from_gives = { λ said a. a ≡ told (clash_given said) };
+
+    #[tactic(auto, unfolding(crate::specs::Told::told))]
+    fn from(said: Result<bool, Fault>) -> Answer {
+        match said {
+            Ok(false) => give(0, 0, 0, 0),
+            Ok(true) => give(0, 1, 0, 0),
+            Err(f) => Answer::from(f),
+        }
     }
 }
 
-pub fn chain_answer(said: ChainAnswer) -> Answer
-    ensures { result ≡ told (chain_given said) }
-{
-    match said {
-        ChainAnswer::Chained => give(0, 0, 0, 0),
-        ChainAnswer::Broken(a, b, c) => give(0, a, b, c),
-        ChainAnswer::Refused(f) => fault_answer(f),
+impl From<Result<LoadVerdict, Fault>> for Answer {
+    ghost from_gives = { λ said a. a ≡ told (load_given said) };
+
+    #[tactic(auto, unfolding(crate::specs::Told::told))]
+    fn from(said: Result<LoadVerdict, Fault>) -> Answer {
+        match said {
+            Ok(LoadVerdict::Holds) => give(0, 0, 0, 0),
+            Ok(LoadVerdict::Over(cell, excess)) => give(0, cell, excess, 0),
+            Err(f) => Answer::from(f),
+        }
     }
 }
 
-pub fn class_answer(said: ClassAnswer) -> Answer
-    ensures { result ≡ told (class_given said) }
-{
-    match said {
-        ClassAnswer::InClass => give(0, 0, 0, 0),
-        ClassAnswer::Outside(a, b, i) => give(0, a, b, i),
-        ClassAnswer::Refused(f) => fault_answer(f),
+impl From<Result<ChainVerdict, Fault>> for Answer {
+    ghost from_gives = { λ said a. a ≡ told (chain_given said) };
+
+    #[tactic(auto, unfolding(crate::specs::Told::told))]
+    fn from(said: Result<ChainVerdict, Fault>) -> Answer {
+        match said {
+            Ok(ChainVerdict::Chained) => give(0, 0, 0, 0),
+            Ok(ChainVerdict::Broken(a, b, c)) => give(0, a, b, c),
+            Err(f) => Answer::from(f),
+        }
     }
 }
 
-pub fn least_answer(said: LeastAnswer) -> Answer
-    ensures { result ≡ told (least_given said) }
-{
-    match said {
-        LeastAnswer::Least(n) => give(0, n, 0, 0),
-        LeastAnswer::Enough(n) => give(0, n, 1, 0),
-        LeastAnswer::Refused(f) => fault_answer(f),
+impl From<Result<ClassVerdict, Fault>> for Answer {
+    ghost from_gives = { λ said a. a ≡ told (class_given said) };
+
+    #[tactic(auto, unfolding(crate::specs::Told::told))]
+    fn from(said: Result<ClassVerdict, Fault>) -> Answer {
+        match said {
+            Ok(ClassVerdict::InClass) => give(0, 0, 0, 0),
+            Ok(ClassVerdict::Outside(a, b, i)) => give(0, a, b, i),
+            Err(f) => Answer::from(f),
+        }
     }
 }
 
-pub fn heaviest_answer(said: HeaviestAnswer) -> Answer
-    ensures { result ≡ told (heaviest_given said) }
-{
-    match said {
-        HeaviestAnswer::Done(load, cells) => give(0, load, cells as usize, 0),
-        HeaviestAnswer::Refused(f) => fault_answer(f),
+impl From<Result<LeastVerdict, Fault>> for Answer {
+    ghost from_gives = { λ said a. a ≡ told (least_given said) };
+
+    #[tactic(auto, unfolding(crate::specs::Told::told))]
+    fn from(said: Result<LeastVerdict, Fault>) -> Answer {
+        match said {
+            Ok(LeastVerdict::Least(n)) => give(0, n, 0, 0),
+            Ok(LeastVerdict::Enough(n)) => give(0, n, 1, 0),
+            Err(f) => Answer::from(f),
+        }
     }
 }
 
-pub fn plan_answer(said: PlanAnswer) -> Answer
-    ensures { result ≡ told (plan_given said) }
-{
-    match said {
-        PlanAnswer::Done => give(0, 0, 0, 0),
-        PlanAnswer::TableShort => give(4, 0, 0, 0),
-        PlanAnswer::NoRoom(cell, short) => give(5, cell, short, 0),
-        PlanAnswer::Refused(f) => fault_answer(f),
+impl From<Result<(usize, u32), Fault>> for Answer {
+    ghost from_gives = { λ said a. a ≡ told (heaviest_given said) };
+
+    #[tactic(auto, unfolding(crate::specs::Told::told))]
+    fn from(said: Result<(usize, u32), Fault>) -> Answer {
+        match said {
+            Ok((load, cells)) => give(0, load, cells as usize, 0),
+            Err(f) => Answer::from(f),
+        }
     }
 }
 
-pub fn search_answer(said: SearchAnswer) -> Answer
-    ensures { result ≡ told (search_given said) }
-{
-    match said {
-        SearchAnswer::Plan(tries) => give(0, 0, tries as usize, 0),
-        SearchAnswer::Full(tries) => give(0, 1, tries as usize, 0),
-        SearchAnswer::Limit(tries) => give(0, 2, tries as usize, 0),
-        SearchAnswer::TooMany => give(25, 0, 0, 0),
-        SearchAnswer::TableShort => give(4, 0, 0, 0),
-        SearchAnswer::Refused(f) => fault_answer(f),
+impl From<Result<(), PlanError>> for Answer {
+    ghost from_gives = { λ said a. a ≡ told (plan_given said) };
+
+    #[tactic(auto, unfolding(crate::specs::Told::told))]
+    fn from(said: Result<(), PlanError>) -> Answer {
+        match said {
+            Ok(()) => give(0, 0, 0, 0),
+            Err(PlanError::TableShort) => give(4, 0, 0, 0),
+            Err(PlanError::NoRoom(cell, short)) => give(5, cell, short, 0),
+            Err(PlanError::Record(f)) => Answer::from(f),
+        }
     }
 }
 
-pub fn find_answer(said: FindAnswer) -> Answer
-    ensures { result ≡ told (find_given said) }
-{
-    match said {
-        FindAnswer::Greedy => give(0, 0, 0, 0),
-        FindAnswer::Renumbered => give(0, 0, 2, 0),
-        FindAnswer::Searched(tries) => give(0, 0, 3, tries as usize),
-        FindAnswer::Full(cells) => give(0, 1, 1, cells as usize),
-        FindAnswer::FullInClass => give(0, 1, 2, 0),
-        FindAnswer::FullSearched(tries) => give(0, 1, 3, tries as usize),
-        FindAnswer::NotKnown(tries) => give(0, 2, 3, tries as usize),
-        FindAnswer::TableShort => give(4, 0, 0, 0),
-        FindAnswer::Refused(f) => fault_answer(f),
+impl From<Result<u64, SearchError>> for Answer {
+    ghost from_gives = { λ said a. a ≡ told (search_given said) };
+
+    #[tactic(auto, unfolding(crate::specs::Told::told))]
+    fn from(said: Result<u64, SearchError>) -> Answer {
+        match said {
+            Ok(tries) => give(0, 0, tries as usize, 0),
+            Err(SearchError::Full(tries)) => give(0, 1, tries as usize, 0),
+            Err(SearchError::Limit(tries)) => give(0, 2, tries as usize, 0),
+            Err(SearchError::TooMany) => give(25, 0, 0, 0),
+            Err(SearchError::TableShort) => give(4, 0, 0, 0),
+            Err(SearchError::Record(f)) => Answer::from(f),
+        }
     }
 }
 
-pub fn over_full_answer(said: OverFullAnswer) -> Answer
-    ensures { result ≡ told (over_full_given said) }
-{
-    match said {
-        OverFullAnswer::Over(load) => give(0, 1, load, 0),
-        OverFullAnswer::Within(load) => give(0, 0, load, 0),
-        OverFullAnswer::Refused(f) => fault_answer(f),
+impl From<Result<Way, FindError>> for Answer {
+    ghost from_gives = { λ said a. a ≡ told (find_given said) };
+
+    #[tactic(auto, unfolding(crate::specs::Told::told))]
+    fn from(said: Result<Way, FindError>) -> Answer {
+        match said {
+            Ok(Way::Greedy) => give(0, 0, 0, 0),
+            Ok(Way::Renumbered) => give(0, 0, 2, 0),
+            Ok(Way::Searched(tries)) => give(0, 0, 3, tries as usize),
+            Err(FindError::Full(cells)) => give(0, 1, 1, cells as usize),
+            Err(FindError::FullInClass) => give(0, 1, 2, 0),
+            Err(FindError::FullSearched(tries)) => give(0, 1, 3, tries as usize),
+            Err(FindError::NotKnown(tries)) => give(0, 2, 3, tries as usize),
+            Err(FindError::TableShort) => give(4, 0, 0, 0),
+            Err(FindError::Record(f)) => Answer::from(f),
+        }
     }
 }
 
-pub fn change_answer(said: ChangeAnswer) -> Answer
-    ensures { result ≡ told (change_given said) }
-{
-    match said {
-        ChangeAnswer::Done => give(0, 0, 0, 0),
-        ChangeAnswer::TableShort => give(4, 0, 0, 0),
-        ChangeAnswer::NotPlan => give(26, 0, 0, 0),
-        ChangeAnswer::NoRoom(cell, short) => give(5, cell, short, 0),
-        ChangeAnswer::Refused(f) => fault_answer(f),
+impl From<Result<OverFull, Fault>> for Answer {
+    ghost from_gives = { λ said a. a ≡ told (over_full_given said) };
+
+    #[tactic(auto, unfolding(crate::specs::Told::told))]
+    fn from(said: Result<OverFull, Fault>) -> Answer {
+        match said {
+            Ok(OverFull::Over(load)) => give(0, 1, load, 0),
+            Ok(OverFull::Within(load)) => give(0, 0, load, 0),
+            Err(f) => Answer::from(f),
+        }
     }
 }
 
-pub fn check_answer(said: CheckAnswer) -> Answer
-    ensures { result ≡ told (check_given said) }
-{
-    match said {
-        CheckAnswer::Valid => give(0, 0, 0, 0),
-        CheckAnswer::TableShort => give(4, 0, 0, 0),
-        CheckAnswer::Blocked(position, cell) => give(22, position, cell, 0),
-        CheckAnswer::Clash(position, a, c) => give(6, position, a, c),
-        CheckAnswer::Count(cell, count) => give(7, cell, count, 0),
-        CheckAnswer::Refused(f) => fault_answer(f),
+impl From<Result<(), ChangeError>> for Answer {
+    ghost from_gives = { λ said a. a ≡ told (change_given said) };
+
+    #[tactic(auto, unfolding(crate::specs::Told::told))]
+    fn from(said: Result<(), ChangeError>) -> Answer {
+        match said {
+            Ok(()) => give(0, 0, 0, 0),
+            Err(ChangeError::TableShort) => give(4, 0, 0, 0),
+            Err(ChangeError::NotPlan) => give(26, 0, 0, 0),
+            Err(ChangeError::NoRoom(cell, short)) => give(5, cell, short, 0),
+            Err(ChangeError::Record(f)) => Answer::from(f),
+        }
     }
 }
 
-pub fn form_answer(said: FormAnswer) -> Answer
-    ensures { result ≡ told (form_given said) }
-{
-    match said {
-        FormAnswer::Done => give(0, 0, 0, 0),
-        FormAnswer::TableShort => give(4, 0, 0, 0),
-        FormAnswer::Refused(f) => fault_answer(f),
+impl From<Result<(), CheckError>> for Answer {
+    ghost from_gives = { λ said a. a ≡ told (check_given said) };
+
+    #[tactic(auto, unfolding(crate::specs::Told::told))]
+    fn from(said: Result<(), CheckError>) -> Answer {
+        match said {
+            Ok(()) => give(0, 0, 0, 0),
+            Err(CheckError::TableShort) => give(4, 0, 0, 0),
+            Err(CheckError::Blocked(position, cell)) => give(22, position, cell, 0),
+            Err(CheckError::Clash(position, a, c)) => give(6, position, a, c),
+            Err(CheckError::Count(cell, count)) => give(7, cell, count, 0),
+            Err(CheckError::Record(f)) => Answer::from(f),
+        }
     }
 }
 
-pub fn mend_answer(said: MendAnswer) -> Answer
-    ensures { result ≡ told (mend_given said) }
-{
-    match said {
-        MendAnswer::Done(many) => give(0, many, 0, 0),
-        MendAnswer::TableShort => give(4, 0, 0, 0),
-        MendAnswer::NoRoom(cell, short) => give(5, cell, short, 0),
-        MendAnswer::ListShort(many) => give(13, many, 0, 0),
-        MendAnswer::Refused(f) => fault_answer(f),
+impl From<Result<(), FormError>> for Answer {
+    ghost from_gives = { λ said a. a ≡ told (form_given said) };
+
+    #[tactic(auto, unfolding(crate::specs::Told::told))]
+    fn from(said: Result<(), FormError>) -> Answer {
+        match said {
+            Ok(()) => give(0, 0, 0, 0),
+            Err(FormError::TableShort) => give(4, 0, 0, 0),
+            Err(FormError::Record(f)) => Answer::from(f),
+        }
     }
 }
 
-pub fn renumber_answer(said: RenumberAnswer) -> Answer
-    ensures { result ≡ told (renumber_given said) }
-{
-    match said {
-        RenumberAnswer::Done => give(0, 0, 0, 0),
-        RenumberAnswer::NoNumbering => give(23, 0, 0, 0),
-        RenumberAnswer::Refused(f) => fault_answer(f),
+impl From<Result<usize, MendError>> for Answer {
+    ghost from_gives = { λ said a. a ≡ told (mend_given said) };
+
+    #[tactic(auto, unfolding(crate::specs::Told::told))]
+    fn from(said: Result<usize, MendError>) -> Answer {
+        match said {
+            Ok(many) => give(0, many, 0, 0),
+            Err(MendError::TableShort) => give(4, 0, 0, 0),
+            Err(MendError::NoRoom(cell, short)) => give(5, cell, short, 0),
+            Err(MendError::ListShort(many)) => give(13, many, 0, 0),
+            Err(MendError::Record(f)) => Answer::from(f),
+        }
     }
 }
 
-pub fn carry_answer(said: CarryAnswer) -> Answer
-    ensures { result ≡ told (carry_given said) }
-{
-    match said {
-        CarryAnswer::Done => give(0, 0, 0, 0),
-        CarryAnswer::NoNumbering => give(23, 0, 0, 0),
-        CarryAnswer::TableShort => give(4, 0, 0, 0),
-        CarryAnswer::Refused(f) => fault_answer(f),
+impl From<Result<(), RenumberError>> for Answer {
+    ghost from_gives = { λ said a. a ≡ told (renumber_given said) };
+
+    #[tactic(auto, unfolding(crate::specs::Told::told))]
+    fn from(said: Result<(), RenumberError>) -> Answer {
+        match said {
+            Ok(()) => give(0, 0, 0, 0),
+            Err(RenumberError::NoNumbering) => give(23, 0, 0, 0),
+            Err(RenumberError::Record(f)) => Answer::from(f),
+        }
     }
 }
 
-pub fn share_answer(said: ShareAnswer) -> Answer
-    ensures { result ≡ told (share_given said) }
-{
-    match said {
-        ShareAnswer::Done(share, queue, delay) => give(
-            0,
-            share.0 as usize,
-            queue.0 as usize,
-            delay.0 as usize,
-        ),
-        ShareAnswer::OutOfRange => give(1, 0, 0, 0),
-        ShareAnswer::BadFlow => give(15, 0, 0, 0),
-        ShareAnswer::BigShare => give(16, 0, 0, 0),
+impl From<Result<(), CarryError>> for Answer {
+    ghost from_gives = { λ said a. a ≡ told (carry_given said) };
+
+    #[tactic(auto, unfolding(crate::specs::Told::told))]
+    fn from(said: Result<(), CarryError>) -> Answer {
+        match said {
+            Ok(()) => give(0, 0, 0, 0),
+            Err(CarryError::NoNumbering) => give(23, 0, 0, 0),
+            Err(CarryError::TableShort) => give(4, 0, 0, 0),
+            Err(CarryError::Record(f)) => Answer::from(f),
+        }
     }
 }
 
-pub fn admit_answer(said: AdmitAnswer) -> Answer
-    ensures { result ≡ told (admit_given said) }
-{
-    match said {
-        AdmitAnswer::Admitted(set) => give(0, set as usize, 0, 0),
-        AdmitAnswer::TooMany => give(18, 0, 0, 0),
-        AdmitAnswer::NotNested => give(19, 0, 0, 0),
-        AdmitAnswer::BadCell(flow) => give(2, flow, 0, 0),
-        AdmitAnswer::BadFlow(flow) => give(15, flow, 0, 0),
-        AdmitAnswer::BigShare(flow) => give(16, flow, 0, 0),
-        AdmitAnswer::Refused(f) => fault_answer(f),
+impl From<Result<(Fragments, Fragments, Slots), ShareError>> for Answer {
+    ghost from_gives = { λ said a. a ≡ told (share_given said) };
+
+    #[tactic(auto, unfolding(crate::specs::Told::told))]
+    fn from(said: Result<(Fragments, Fragments, Slots), ShareError>) -> Answer {
+        match said {
+            Ok((share, queue, delay)) => give(
+                0,
+                share.0 as usize,
+                queue.0 as usize,
+                delay.0 as usize,
+            ),
+            Err(ShareError::OutOfRange) => give(1, 0, 0, 0),
+            Err(ShareError::BadFlow) => give(15, 0, 0, 0),
+            Err(ShareError::BigShare) => give(16, 0, 0, 0),
+        }
     }
 }
 
-pub fn beside_answer(said: BesideAnswer) -> Answer
-    ensures { result ≡ told (beside_given said) }
-{
-    match said {
-        BesideAnswer::Answered(a) => admit_answer(a),
-        BesideAnswer::Over(cell, excess) => give(5, cell, excess, 0),
+impl From<AdmitError> for Answer {
+    ghost from_gives = { λ said a. a ≡ told (admit_given (Err said)) };
+
+    #[tactic(auto, unfolding(crate::specs::Told::told))]
+    fn from(said: AdmitError) -> Answer {
+        match said {
+            AdmitError::TooMany => give(18, 0, 0, 0),
+            AdmitError::NotNested => give(19, 0, 0, 0),
+            AdmitError::BadCell(flow) => give(2, flow, 0, 0),
+            AdmitError::BadFlow(flow) => give(15, flow, 0, 0),
+            AdmitError::BigShare(flow) => give(16, flow, 0, 0),
+            AdmitError::Record(f) => Answer::from(f),
+        }
     }
 }
 
-pub fn renumbered_site(e: Renumbered) -> RenumberedC
-    ensures { result ≡ told_renumbered e }
-{
-    let site = e.site;
-    let new = e.new;
-    let old = e.old;
-    let a = e.answer;
-    RenumberedC {
-        site,
-        new,
-        old,
-        answer: renumber_answer(a),
+impl From<Result<u32, AdmitError>> for Answer {
+    ghost from_gives = { λ said a. a ≡ told (admit_given said) };
+
+    #[tactic(auto, unfolding(crate::specs::Told::told))]
+    fn from(said: Result<u32, AdmitError>) -> Answer {
+        match said {
+            Ok(set) => give(0, set as usize, 0, 0),
+            Err(refused) => Answer::from(refused),
+        }
+    }
+}
+
+impl From<Result<u32, BesideError>> for Answer {
+    ghost from_gives = { λ said a. a ≡ told (beside_given said) };
+
+    #[tactic(auto, unfolding(crate::specs::Told::told))]
+    fn from(said: Result<u32, BesideError>) -> Answer {
+        match said {
+            Ok(set) => give(0, set as usize, 0, 0),
+            Err(BesideError::Over(cell, excess)) => give(5, cell, excess, 0),
+            Err(BesideError::Admit(refused)) => Answer::from(refused),
+        }
+    }
+}
+
+impl From<Result<(), Refusal>> for Answer {
+    ghost from_gives = { λ said a. a ≡ told (read_given said) };
+
+    #[tactic(auto, unfolding(crate::specs::Told::told))]
+    fn from(said: Result<(), Refusal>) -> Answer {
+        match said {
+            Ok(()) => give(0, 0, 0, 0),
+            Err(refusal) => give(refusal.number as u64, refusal.place, 0, 0),
+        }
+    }
+}
+
+impl From<Result<usize, WriteError>> for Answer {
+    ghost from_gives = { λ said a. a ≡ told (written_given said) };
+
+    #[tactic(auto, unfolding(crate::specs::Told::told))]
+    fn from(said: Result<usize, WriteError>) -> Answer {
+        match said {
+            Ok(n) => give(0, n, 0, 0),
+            Err(WriteError::OutShort(n)) => give(13, n, 0, 0),
+            Err(WriteError::Record(f)) => Answer::from(f),
+        }
+    }
+}
+
+impl From<Result<usize, PlanWriteError>> for Answer {
+    ghost from_gives = { λ said a. a ≡ told (plan_written_given said) };
+
+    #[tactic(auto, unfolding(crate::specs::Told::told))]
+    fn from(said: Result<usize, PlanWriteError>) -> Answer {
+        match said {
+            Ok(n) => give(0, n, 0, 0),
+            Err(PlanWriteError::TableShort) => give(4, 0, 0, 0),
+            Err(PlanWriteError::OutShort(n)) => give(13, n, 0, 0),
+            Err(PlanWriteError::Record(f)) => Answer::from(f),
+        }
+    }
+}
+
+impl From<Result<(), SheetError>> for Answer {
+    ghost from_gives = { λ said a. a ≡ told (sheet_given said) };
+
+    #[tactic(auto, unfolding(crate::specs::Told::told))]
+    fn from(said: Result<(), SheetError>) -> Answer {
+        match said {
+            Ok(()) => give(0, 0, 0, 0),
+            Err(SheetError::BadLine(line)) => give(17, line, 0, 0),
+            Err(SheetError::Record(f)) => Answer::from(f),
+        }
+    }
+}
+
+impl From<Result<usize, TidyError>> for Answer {
+    ghost from_gives = { λ said a. a ≡ told (tidy_given said) };
+
+    #[tactic(auto, unfolding(crate::specs::Told::told))]
+    fn from(said: Result<usize, TidyError>) -> Answer {
+        match said {
+            Ok(bytes) => give(0, bytes, 0, 0),
+            Err(TidyError::OutShort(bytes)) => give(13, bytes, 0, 0),
+            Err(TidyError::BadLine(line)) => give(17, line, 0, 0),
+        }
+    }
+}
+
+impl From<Renumbered> for RenumberedC {
+    ghost from_gives = { λ e a. a ≡ told_renumbered e };
+
+    #[tactic(auto, unfolding(crate::specs::Told::told_renumbered))]
+    fn from(e: Renumbered) -> RenumberedC {
+        let new = e.new;
+        let old = e.old;
+        RenumberedC {
+            site: e.site,
+            new,
+            old,
+            answer: Answer::from(e.answer),
+        }
     }
 }

@@ -1,5 +1,5 @@
 -- What a C caller is told of an edit and of a file that was read: the answer, and what comes beside it.
-use Rattle.site.specs.Given.{fault_given}
+use Rattle.site.specs.Given.{done_given}
 use Rattle.site.specs.declared.Edited.{Edited}
 use Rattle.handheld.specs.Given.{change_given}
 use Rattle.handheld.specs.declared.Changed.{Changed}
@@ -14,7 +14,7 @@ use Rattle.toldfiles.specs.declared.PlanReadC.{PlanReadC}
 
 -- the site as the edit gave it, and the answer as told
 unfoldable pub told_edited : Edited → EditedSite
-told_edited e = record { site = e.site; answer = told (fault_given e.answer) }
+told_edited e = record { site = e.site; answer = told (done_given e.answer) }
 
 -- the record as the change of a load left it, and the answer as told
 unfoldable pub told_changed : Changed → EditedSite

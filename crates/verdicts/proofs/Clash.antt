@@ -8,52 +8,39 @@
 --     any-clash-said, any-clash-sends, any-blocked-said, any-blocked-sends     the same of every clash and every blocked position, not of the first alone
 -- Assumes nothing.
 use Prim.Native.Nat.{ℕ, ◌+◌, ◌-◌, ◌*◌, ◌/◌, ◌%◌, ◌≤◌, ◌<◌}
-use mathlib.Core.Bool.{Bool, true, false, ◌&&◌, false≢true}
+use mathlib.Core.Bool.{Bool, true, false, ◌&&◌}
 use mathlib.Core.List.{List}
 use mathlib.Core.Logic.{◌⊎◌, inl, inr}
-use mathlib.Core.Path.{◌≡◌, refl, sym, ap, ◌∙◌}
+use mathlib.Core.Path.{◌≡◌, refl, sym}
 use native.Mathlib.Nat.{mod-lt, div-add-mod', div-lt_iff_lt-mul}
 use native.Mathlib.Omega.{arith}
 use borrow.Author.Tests.{eqb-true, eqb-false, lt-ltb}
 use lib.Dec.{ltb}
-use Rattle.laws.specs.Choice.{pick}
+use Rattle.std.specs.Prelude.{Result, Ok, Err}
 use Rattle.laws.proofs.Choice.{both_is}
 use Rattle.theory.specs.Greedy.{reserved}
 use Rattle.theory.specs.Named.{Barred, Clashes}
-use Rattle.site.specs.Record.{positions, is_fine, fault_of}
+use Rattle.site.specs.Record.{positions, fault_of, answer_with}
 use Rattle.site.specs.Reach.{reaches, clash_of, net_of}
 use Rattle.site.specs.Means.{Clashing}
 use Rattle.site.specs.declared.Site.{Site}
 use Rattle.site.specs.declared.Fault.{Fault}
-use Rattle.site.specs.declared.Fault.TheVariants.{Fine, Size, Rule, Load, Reach, Blocked}
 use Rattle.site.proofs.Faults.{fine-sized, few-positions, up-to-is}
 use Rattle.site.proofs.Means.{is-clashing}
 use Rattle.checker.specs.Check.{check_answer}
-use Rattle.checker.specs.declared.CheckAnswer.{CheckAnswer}
-use Rattle.checker.specs.declared.CheckAnswer.TheVariants as check
+use Rattle.checker.specs.declared.CheckError.{CheckError}
+use Rattle.checker.specs.declared.CheckError.TheVariants as check
 use Rattle.checker.proofs.Meaning.{clash-means, blocked-means}
 use Rattle.say_refusals.specs.Sentences.{sentence}
 use Rattle.verdicts.specs.Lines.{verdict_lines}
 use Rattle.verdicts.specs.Said.{way_sentence, reach_named, clash_sentence, blocked_sentence, check_said, blocked_sends}
 use Rattle.verdicts.specs.Means.{WaySaid, SlotAt, BothSend, SendsBlocked}
 
--- an answer that names a position
-abbrev names : CheckAnswer → Bool
-names check.Valid = false
-names check.TableShort = false
-names (check.Blocked p cell) = true
-names (check.Clash p a c) = true
-names (check.Count cell n) = false
-names (check.Refused f) = false
-
--- it is given of a record without a fault
-accepted : (f : Fault) (o answer : CheckAnswer) → names answer ≡ true → pick (is_fine f) o (check.Refused f) ≡ answer → f ≡ Fine
-accepted Fine o answer h e = refl
-accepted Size o answer h e = absurd (false≢true (ap names e ∙ h))
-accepted Rule o answer h e = absurd (false≢true (ap names e ∙ h))
-accepted (Load k) o answer h e = absurd (false≢true (ap names e ∙ h))
-accepted (Reach k) o answer h e = absurd (false≢true (ap names e ∙ h))
-accepted (Blocked k) o answer h e = absurd (false≢true (ap names e ∙ h))
+-- a check that says why, and not with a fault of the record, is of a record without a fault
+accepted : (f : Result Unit Fault) (o : Result Unit CheckError) (why : CheckError) → ((g : Fault) → check.Record g ≡ why → ⊥)
+    → answer_with check.Record f o ≡ Err why → f ≡ Ok tt
+accepted (Ok u) o why other e = refl
+accepted (Err g) o why other e = absurd (other g cc)
 
 -- the sentence for the ways that the record has
 way : (s : Site) (a c slot channel : ℕ) (forth back : Bool) → reaches s.reach (a - 1) (c - 1) ≡ forth → reaches s.reach (c - 1) (a - 1) ≡ back
@@ -74,12 +61,12 @@ way s a c slot channel false false p q h =
 back : (a x : ℕ) → a ≡ x + 1 → a - 1 ≡ x
 back a x e = omega arith
 
-fine-named : (s : Site) (t : List ℕ) (answer : CheckAnswer) → names answer ≡ true → check_answer s t ≡ answer → fault_of s ≡ Fine
+fine-named : (s : Site) (t : List ℕ) (why : CheckError) → ((g : Fault) → check.Record g ≡ why → ⊥) → check_answer s t ≡ Err why → fault_of s ≡ Ok tt
 unfolding check_answer
-fine-named s t answer h e = accepted (fault_of s) _ answer h e
+fine-named s t why other e = accepted (fault_of s) _ why other e
 
 -- the slot and channel of a position
-module _ (s : Site) (fine : fault_of s ≡ Fine) (p : ℕ) (width : p < s.slots * s.channels) where
+module _ (s : Site) (fine : fault_of s ≡ Ok tt) (p : ℕ) (width : p < s.slots * s.channels) where
   placed : SlotAt s p (p / s.channels + 1) (p % s.channels + 1)
   placed =
       let some = (fine-sized s fine).channels_some in
@@ -100,7 +87,7 @@ module _ (s : Site) (fine : fault_of s ≡ Fine) (p : ℕ) (width : p < s.slots 
 abbrev pub ShownClash : Site → List ℕ → (p a c : ℕ) → Type 0
 ShownClash s t p a c = (x z : ℕ) × (a ≡ x + 1) × (c ≡ z + 1) × Clashes (net_of s) (reserved (positions s) t) p x z
 
-module _ (s : Site) (t : List ℕ) (fine : fault_of s ≡ Fine) (p a c : ℕ) (shown : ShownClash s t p a c) where
+module _ (s : Site) (t : List ℕ) (fine : fault_of s ≡ Ok tt) (p a c : ℕ) (shown : ShownClash s t p a c) where
   -- both are numbers of cells
   inside : (1 ≤ a) × (a < c) × (c ≤ s.cells)
   inside =
@@ -112,7 +99,7 @@ module _ (s : Site) (t : List ℕ) (fine : fault_of s ≡ Fine) (p a c : ℕ) (s
   width : p < s.slots * s.channels
   width = shown.4.within
 
-  pub any-clash-said : WaySaid s a c (p / s.channels + 1) (p % s.channels + 1) (check_said s (check.Clash p a c))
+  pub any-clash-said : WaySaid s a c (p / s.channels + 1) (p % s.channels + 1) (check_said s (Err (check.Clash p a c)))
   unfolding clash_sentence reach_named
   any-clash-said =
       let z = fine-sized s fine in
@@ -139,14 +126,14 @@ module _ (s : Site) (t : List ℕ) (fine : fault_of s ≡ Fine) (p a c : ℕ) (s
         other = rw (back c m.1 m.3) m.4.other;
       }
 
-module _ (s : Site) (t : List ℕ) (p a c : ℕ) (e : check_answer s t ≡ check.Clash p a c) where
-  fine-clash : fault_of s ≡ Fine
-  fine-clash = fine-named s t (check.Clash p a c) refl e
+module _ (s : Site) (t : List ℕ) (p a c : ℕ) (e : check_answer s t ≡ Err (check.Clash p a c)) where
+  fine-clash : fault_of s ≡ Ok tt
+  fine-clash = fine-named s t (check.Clash p a c) (λ g h. cc) e
 
   first-clash : ShownClash s t p a c
   first-clash = let m = clash-means s t p a c e in (m.0, m.1, m.2, m.3, m.4.shows)
 
-  pub clash-said : WaySaid s a c (p / s.channels + 1) (p % s.channels + 1) (check_said s (check.Clash p a c))
+  pub clash-said : WaySaid s a c (p / s.channels + 1) (p % s.channels + 1) (check_said s (Err (check.Clash p a c)))
   clash-said = any-clash-said s t fine-clash p a c first-clash
 
   pub clash-sends : BothSend s t p a c (p / s.channels + 1) (p % s.channels + 1)
@@ -156,8 +143,8 @@ module _ (s : Site) (t : List ℕ) (p a c : ℕ) (e : check_answer s t ≡ check
 abbrev pub ShownBarred : Site → List ℕ → (p cell : ℕ) → Type 0
 ShownBarred s t p cell = (i : ℕ) × (cell ≡ i + 1) × Barred (net_of s) (reserved (positions s) t) p i
 
-module _ (s : Site) (t : List ℕ) (sound : fault_of s ≡ Fine) (p cell : ℕ) (barred : ShownBarred s t p cell) where
-  pub any-blocked-said : check_said s (check.Blocked p cell) ≡ blocked_sends cell (p / s.channels + 1) (p % s.channels + 1)
+module _ (s : Site) (t : List ℕ) (sound : fault_of s ≡ Ok tt) (p cell : ℕ) (barred : ShownBarred s t p cell) where
+  pub any-blocked-said : check_said s (Err (check.Blocked p cell)) ≡ blocked_sends cell (p / s.channels + 1) (p % s.channels + 1)
   unfolding blocked_sentence
   any-blocked-said = rw (named s sound p barred.2.within)
 
@@ -171,14 +158,14 @@ module _ (s : Site) (t : List ℕ) (sound : fault_of s ≡ Fine) (p cell : ℕ) 
         blocked = m.2.closed;
       }
 
-module _ (s : Site) (t : List ℕ) (p cell : ℕ) (e : check_answer s t ≡ check.Blocked p cell) where
-  fine-barred : fault_of s ≡ Fine
-  fine-barred = fine-named s t (check.Blocked p cell) refl e
+module _ (s : Site) (t : List ℕ) (p cell : ℕ) (e : check_answer s t ≡ Err (check.Blocked p cell)) where
+  fine-barred : fault_of s ≡ Ok tt
+  fine-barred = fine-named s t (check.Blocked p cell) (λ g h. cc) e
 
   first-barred : ShownBarred s t p cell
   first-barred = let m = blocked-means s t p cell e in (m.0, m.1, m.2.shows)
 
-  pub blocked-said : check_said s (check.Blocked p cell) ≡ blocked_sends cell (p / s.channels + 1) (p % s.channels + 1)
+  pub blocked-said : check_said s (Err (check.Blocked p cell)) ≡ blocked_sends cell (p / s.channels + 1) (p % s.channels + 1)
   blocked-said = any-blocked-said s t fine-barred p cell first-barred
 
   pub blocked-sends : SendsBlocked s t p cell (p / s.channels + 1) (p % s.channels + 1)

@@ -5,6 +5,7 @@ use mathlib.Core.Path.{◌≡◌, refl}
 use mathlib.Core.List.{List, [], ◌∷◌}
 use Prim.Native.Nat.{ℕ}
 use lib.ListN.{replicate}
+use Rattle.std.specs.Prelude.{Ok, Err}
 use Rattle.laws.specs.Search.{first_of}
 use Rattle.laws.specs.Sum.{sum, any}
 use Rattle.laws.specs.Part.{part}
@@ -20,8 +21,7 @@ use Rattle.checker.specs.Check.{verdict_of, check_answer}
 use Rattle.mending.specs.Mend.{stand}
 use Rattle.mender.specs.Mend.{mend_answer}
 use Rattle.shares.specs.Share.{rounded_up, share_of}
-use Rattle.records.specs.declared.ReadAnswer.TheVariants as read
-use Rattle.sheet.specs.declared.SheetAnswer.TheVariants as sheet
+use Rattle.sheet.specs.declared.SheetError.TheVariants as sheet
 use Rattle.text.specs.Decimal.{digits_of, decimal}
 use Rattle.speech.specs.Speech.{bytes, spoken}
 use Rattle.say_refusals.specs.Lines.{refusal_meanings, refusal_heads}
@@ -152,9 +152,9 @@ shared = refl
 
 -- ---- files and sheets: the site file and the plan file are told apart, a line and a cell too; a plan of another size; and a bad list
 read-said :
-    read_said SiteFile (read.Refused 8 20) ∷ read_said PlanFile (read.Refused 14 10)
-    ∷ sheet_said (sheet.BadLine 2) ∷ sheet_said (sheet.Refused (fault.Reach 2)) ∷ fault_said (fault.Load 5)
-    ∷ read_said SiteFile read.Done ∷ read_said PlanFile read.Done ∷ sheet_said sheet.Done ∷ other_plan_line 5 8 1 ∷ bad_list_line 5 ∷ []
+    read_said SiteFile (Err (record { number = 8; place = 20 })) ∷ read_said PlanFile (Err (record { number = 14; place = 10 }))
+    ∷ sheet_said (Err (sheet.BadLine 2)) ∷ sheet_said (Err (sheet.Record (fault.Reach 2))) ∷ fault_said (fault.Load 5)
+    ∷ read_said SiteFile (Ok tt) ∷ read_said PlanFile (Ok tt) ∷ sheet_said (Ok tt) ∷ other_plan_line 5 8 1 ∷ bad_list_line 5 ∷ []
     ≡ bytes "refused 8, byte 20 of the site file: the file ends too early: inside a record, or before one that has to be there\n"
     ∷ bytes "refused 14, byte 10 of the plan file: a bit past the last position is set\n"
     ∷ bytes "refused 17, line 2: the sheet is malformed: a line is not as the format asks, or is missing, or is one too many\n"

@@ -1,5 +1,5 @@
 -- What the sentences of a clash and of a blocked position say, apart from their text: who reaches whom by the record, and who sends in that slot and channel.
-use Rattle.std.specs.Prelude.{ℕ, ◌+◌, ◌-◌, ◌*◌, ◌≤◌, ◌<◌, true, false, List, ◌⊎◌, ◌≡◌}
+use Rattle.std.specs.Prelude.{ℕ, ◌+◌, ◌-◌, ◌*◌, ◌<◌, true, false, List, ◌⊎◌, ◌≡◌}
 use Rattle.theory.specs.Greedy.{reserved}
 use Rattle.site.specs.Record.{positions}
 use Rattle.site.specs.Reach.{is_open}

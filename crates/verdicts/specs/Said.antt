@@ -1,24 +1,24 @@
 -- What is said of the answers that the desk asks for: a finished table's check, a plan, a share, a file or a sheet that was read. Each answer has a sentence, a
 -- row of the lines with its values or a refusal; and the text is the sentence's.
-use Rattle.std.specs.Prelude.{ℕ, ◌+◌, ◌-◌, ◌/◌, ◌%◌, Bool, ◌&&◌, List, ltb, eqb, get_or}
+use Rattle.std.specs.Prelude.{ℕ, ◌+◌, ◌-◌, ◌/◌, ◌%◌, Bool, ◌&&◌, List, ltb, eqb, get_or, Result, Ok, Err}
 use Rattle.laws.specs.Choice.{pick}
 use Rattle.site.specs.Record.{up_to}
 use Rattle.site.specs.Reach.{reaches}
 use Rattle.site.specs.declared.Site.{Site}
 use Rattle.site.specs.declared.Fault.{Fault}
-use Rattle.site.specs.declared.Fault.TheVariants.{Fine, Size, Rule, Load, Reach, Blocked}
-use Rattle.checker.specs.declared.CheckAnswer.{CheckAnswer}
-use Rattle.checker.specs.declared.CheckAnswer.TheVariants as check
-use Rattle.mender.specs.declared.MendAnswer.{MendAnswer}
-use Rattle.mender.specs.declared.MendAnswer.TheVariants as mend
-use Rattle.planner.specs.declared.PlanAnswer.{PlanAnswer}
-use Rattle.planner.specs.declared.PlanAnswer.TheVariants as plan
-use Rattle.shares.specs.declared.ShareAnswer.{ShareAnswer}
-use Rattle.shares.specs.declared.ShareAnswer.TheVariants as share
-use Rattle.records.specs.declared.ReadAnswer.{ReadAnswer}
-use Rattle.records.specs.declared.ReadAnswer.TheVariants as read
-use Rattle.sheet.specs.declared.SheetAnswer.{SheetAnswer}
-use Rattle.sheet.specs.declared.SheetAnswer.TheVariants as sheet
+use Rattle.site.specs.declared.Fault.TheVariants.{Size, Rule, Load, Reach, Blocked}
+use Rattle.checker.specs.declared.CheckError.{CheckError}
+use Rattle.checker.specs.declared.CheckError.TheVariants as check
+use Rattle.mender.specs.declared.MendError.{MendError}
+use Rattle.mender.specs.declared.MendError.TheVariants as mend
+use Rattle.planner.specs.declared.PlanError.{PlanError}
+use Rattle.planner.specs.declared.PlanError.TheVariants as plan
+use Rattle.shares.specs.Share.{Shares}
+use Rattle.shares.specs.declared.ShareError.{ShareError}
+use Rattle.shares.specs.declared.ShareError.TheVariants as share
+use Rattle.records.specs.declared.Refusal as records
+use Rattle.sheet.specs.declared.SheetError.{SheetError}
+use Rattle.sheet.specs.declared.SheetError.TheVariants as sheet
 use Rattle.phrases.specs.Phrases.{phrase}
 use Rattle.phrases.specs.declared.Phrase.TheVariants.{Silent, Row}
 use Rattle.say_refusals.specs.Sentences.{sentence}
@@ -43,7 +43,6 @@ line row a b c d = Plain (Row row a b c d)
 
 -- what is wrong with a record: 1; 24; 2 and 3 with the cell; 20 with the position
 abbrev pub fault_sentence : Fault → Sentence
-fault_sentence Fine = Plain Silent
 fault_sentence Size = Refusal 1 Nowhere
 fault_sentence Rule = Refusal 24 Nowhere
 fault_sentence (Load cell) = Refusal 2 (Cell cell)
@@ -56,15 +55,15 @@ byte_of SiteFile offset = Byte offset
 byte_of PlanFile offset = PlanByte offset
 
 -- a file that was read: nothing to say; or the number and the offset, with the file named
-abbrev pub read_sentence : File → ReadAnswer → Sentence
-read_sentence file read.Done = Plain Silent
-read_sentence file (read.Refused number offset) = Refusal number (byte_of file offset)
+abbrev pub read_sentence : File → Result Unit records.Refusal → Sentence
+read_sentence file (Ok u) = Plain Silent
+read_sentence file (Err r) = Refusal r.number (byte_of file r.place)
 
 -- a sheet that was read: nothing to say; 17 and the line; or what is wrong with the site
-abbrev pub sheet_sentence : SheetAnswer → Sentence
-sheet_sentence sheet.Done = Plain Silent
-sheet_sentence (sheet.BadLine number) = Refusal 17 (Line number)
-sheet_sentence (sheet.Refused f) = fault_sentence f
+abbrev pub sheet_sentence : Result Unit SheetError → Sentence
+sheet_sentence (Ok u) = Plain Silent
+sheet_sentence (Err (sheet.BadLine number)) = Refusal 17 (Line number)
+sheet_sentence (Err (sheet.Record f)) = fault_sentence f
 
 -- ---- a table's check
 
@@ -98,67 +97,67 @@ blocked_sentence s p cell =
 
 -- "valid", or the first thing wrong, in English: which cell sends where it is blocked; which two cells, slot and channel;
 -- or which cell, how often it sends and how often it should
-abbrev pub check_sentence : Site → CheckAnswer → Sentence
-check_sentence s check.Valid = line valid_row 0 0 0 0
-check_sentence s check.TableShort = Refusal 4 Nowhere
-check_sentence s (check.Blocked p cell) = blocked_sentence s p cell
-check_sentence s (check.Clash p a c) = clash_sentence s p a c
-check_sentence s (check.Count cell n) = line count_row cell n (load_named s cell) 0
-check_sentence s (check.Refused f) = fault_sentence f
+abbrev pub check_sentence : Site → Result Unit CheckError → Sentence
+check_sentence s (Ok u) = line valid_row 0 0 0 0
+check_sentence s (Err check.TableShort) = Refusal 4 Nowhere
+check_sentence s (Err (check.Blocked p cell)) = blocked_sentence s p cell
+check_sentence s (Err (check.Clash p a c)) = clash_sentence s p a c
+check_sentence s (Err (check.Count cell n)) = line count_row cell n (load_named s cell) 0
+check_sentence s (Err (check.Record f)) = fault_sentence f
 
 -- ---- a plan, a share, a mended table
 
 -- one line says what was planned
-abbrev pub plan_sentence : Site → PlanAnswer → Sentence
-plan_sentence s plan.Done = line planned_row s.cells s.slots s.channels 0
-plan_sentence s plan.TableShort = Refusal 4 Nowhere
-plan_sentence s (plan.NoRoom cell short) = line no_room_row cell short 0 0
-plan_sentence s (plan.Refused f) = fault_sentence f
+abbrev pub plan_sentence : Site → Result Unit PlanError → Sentence
+plan_sentence s (Ok u) = line planned_row s.cells s.slots s.channels 0
+plan_sentence s (Err plan.TableShort) = Refusal 4 Nowhere
+plan_sentence s (Err (plan.NoRoom cell short)) = line no_room_row cell short 0 0
+plan_sentence s (Err (plan.Record f)) = fault_sentence f
 
 -- which of burst c, period p and repeats makes a share's 15, the first that does: `flow-wrong` says that it is the repeats where it is neither of the two
 unfoldable pub bad_flow_row : (c p : ℕ) → ℕ
 bad_flow_row c p = pick (up_to 65535 c) (pick (up_to 65535 p) bad_repeats_row bad_period_row) bad_burst_row
 
 -- share, queue bound, delay bound, each with its unit, for a flow with burst c and period p
-abbrev pub share_sentence : (c p : ℕ) → ShareAnswer → Sentence
-share_sentence c p (share.Done s q d) = line share_row s.0 q.0 d.0 0
-share_sentence c p share.OutOfRange = line bad_slots_row 0 0 0 0
-share_sentence c p share.BadFlow = line (bad_flow_row c p) 0 0 0 0
-share_sentence c p share.BigShare = Refusal 16 Nowhere
+abbrev pub share_sentence : (c p : ℕ) → Result Shares ShareError → Sentence
+share_sentence c p (Ok (s, q, d)) = line share_row s.0 q.0 d.0 0
+share_sentence c p (Err share.OutOfRange) = line bad_slots_row 0 0 0 0
+share_sentence c p (Err share.BadFlow) = line (bad_flow_row c p) 0 0 0 0
+share_sentence c p (Err share.BigShare) = Refusal 16 Nowhere
 
 -- how many changes the mender makes; none exactly where the table is valid: `valid-unchanged` and `unchanged-valid` of crate `promises`
 unfoldable pub changes_sentence : ℕ → Sentence
 changes_sentence number = pick (eqb number 0) (line unchanged_row 0 0 0 0) (line mended_row number 0 0 0)
 
 -- what the mender answers. Its changes, one by one, are crate `say_changes`'
-abbrev pub mend_sentence : MendAnswer → Sentence
-mend_sentence (mend.Done number) = changes_sentence number
-mend_sentence mend.TableShort = Refusal 4 Nowhere
-mend_sentence (mend.NoRoom cell short) = line kept_no_room_row cell short 0 0
-mend_sentence (mend.ListShort number) = Refusal 13 Nowhere
-mend_sentence (mend.Refused f) = fault_sentence f
+abbrev pub mend_sentence : Result ℕ MendError → Sentence
+mend_sentence (Ok number) = changes_sentence number
+mend_sentence (Err mend.TableShort) = Refusal 4 Nowhere
+mend_sentence (Err (mend.NoRoom cell short)) = line kept_no_room_row cell short 0 0
+mend_sentence (Err (mend.ListShort number)) = Refusal 13 Nowhere
+mend_sentence (Err (mend.Record f)) = fault_sentence f
 
 -- ---- in English
 
 abbrev pub fault_said : Fault → List ℕ
 fault_said f = sentence verdict_lines (fault_sentence f)
 
-abbrev pub read_said : File → ReadAnswer → List ℕ
+abbrev pub read_said : File → Result Unit records.Refusal → List ℕ
 read_said file reply = sentence verdict_lines (read_sentence file reply)
 
-abbrev pub sheet_said : SheetAnswer → List ℕ
+abbrev pub sheet_said : Result Unit SheetError → List ℕ
 sheet_said reply = sentence verdict_lines (sheet_sentence reply)
 
-abbrev pub check_said : Site → CheckAnswer → List ℕ
+abbrev pub check_said : Site → Result Unit CheckError → List ℕ
 check_said s reply = sentence verdict_lines (check_sentence s reply)
 
-abbrev pub plan_said : Site → PlanAnswer → List ℕ
+abbrev pub plan_said : Site → Result Unit PlanError → List ℕ
 plan_said s reply = sentence verdict_lines (plan_sentence s reply)
 
-abbrev pub share_said : (c p : ℕ) → ShareAnswer → List ℕ
+abbrev pub share_said : (c p : ℕ) → Result Shares ShareError → List ℕ
 share_said c p reply = sentence verdict_lines (share_sentence c p reply)
 
-abbrev pub mend_said : MendAnswer → List ℕ
+abbrev pub mend_said : Result ℕ MendError → List ℕ
 mend_said reply = sentence verdict_lines (mend_sentence reply)
 
 -- ---- the lines of which something is proved

@@ -14,7 +14,7 @@ use Rattle.positions.proofs.Room.{all-open}
 use Rattle.site.specs.Record.{positions, fault_of}
 use Rattle.site.specs.Held.{Held}
 use Rattle.site.specs.declared.Site.{Site}
-use Rattle.site.specs.declared.Fault.TheVariants.{Fine}
+use Rattle.std.specs.Prelude.{Ok}
 use Rattle.site.proofs.Accepted.{fine-sound}
 use Rattle.site.proofs.Faults.{fine-sized, few-positions}
 use Rattle.heaviest.proofs.Meaning.{done-fine}
@@ -23,7 +23,7 @@ use Rattle.putblocks.proofs.Back.{list-whole}
 use Rattle.why.specs.Said.{open_of, some_blocked, why_phrases, texts, blocked_list, list_line, why_said}
 use Rattle.why.specs.Means.{AllOpen, Lists}
 
-module _ (s : Site) (fine : fault_of s ≡ Fine) where
+module _ (s : Site) (fine : fault_of s ≡ Ok tt) where
   fits : sizes_fit s.slots s.channels ≡ true
   unfolding sizes_fit
   fits =

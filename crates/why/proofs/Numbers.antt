@@ -23,7 +23,7 @@ use Rattle.theory.proofs.Exact.{test-plans}
 use Rattle.site.specs.Record.{positions, fault_of}
 use Rattle.site.specs.Reach.{net_of}
 use Rattle.site.specs.declared.Site.{Site}
-use Rattle.site.specs.declared.Fault.TheVariants.{Fine}
+use Rattle.std.specs.Prelude.{Ok}
 use Rattle.site.proofs.Accepted.{net-open}
 use Rattle.site.proofs.Faults.{fine-sized}
 use Rattle.planner.proofs.Meaning.{done-means, done-valid}
@@ -42,7 +42,7 @@ pub itself : (s : Site) → Alike s s
 itself s = record { same_cells = refl; same_loads = refl; same_reach = refl; same_rule = refl }
 
 -- where the greedy run plans the planner is done, and its table is valid
-pub run-planned : (s : Site) → fault_of s ≡ Fine → Plans (net_of s) → Planned s
+pub run-planned : (s : Site) → fault_of s ≡ Ok tt → Plans (net_of s) → Planned s
 run-planned s fine p table long = let e = (done-means s table).1 (fine, long, p) in (e, done-valid s table e)
 
 pub at_least : (s : Site) → AtLeast s (weight (net_of s) (bit_at (set s)))
@@ -71,7 +71,7 @@ open-most s = omega (arith, count-open s.blocked (positions s))
 
 -- ---- slots of so many channels, and channels of so many slots
 
-module _ (o : Site) (fine : fault_of o ≡ Fine) (n f : ℕ) where
+module _ (o : Site) (fine : fault_of o ≡ Ok tt) (n f : ℕ) where
   pub slots-exact : o.channels ≡ f → (n ≤ positions o → fewest n f ≤ o.slots) × (fewest n f ≤ o.slots → n ≤ positions o)
   slots-exact e =
       let z = fine-sized o fine in
@@ -98,7 +98,7 @@ module _ (s : Site) (n : ℕ) where
   fewer-channels h o alike fine e l =
       h o alike fine (omega (arith, open-most o, fewer n (positions o) _ _ (channels-exact o fine n s.slots e).0 l))
 
-  module _ (fine : fault_of s ≡ Fine) (own : Planned s → n ≤ open_of s) where
+  module _ (fine : fault_of s ≡ Ok tt) (own : Planned s → n ≤ open_of s) where
     pub slots-do : WillDo s n → SlotsDo s (fewest n s.channels)
     slots-do h = record {
       plans = λ o alike ok free e l. h o alike ok (omega (arith, free, (slots-exact o ok n s.channels e).1 l));

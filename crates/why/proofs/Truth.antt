@@ -1,10 +1,10 @@
 -- Every sentence that `put_why` says of an accepted site is true of it: each line by its row, from the laws of the judges, of the planner and of the
 -- heaviest clash. Assumes nothing.
-use mathlib.Core.Path.{◌≡◌, refl, sym, ap, ◌∙◌}
-use mathlib.Core.Bool.{Bool, true, false, true≢false}
+use mathlib.Core.Path.{◌≡◌, refl, sym, ◌∙◌}
+use mathlib.Core.Bool.{Bool, true, false}
 use mathlib.Core.List.{List, [], ◌∷◌, ◌++◌, Memᴰ}
 use mathlib.Core.Logic.{⊎_elim}
-use Prim.Native.Nat.{ℕ, zero, suc, ◌+◌, ◌≤◌, ◌<◌}
+use Prim.Native.Nat.{min, ℕ, zero, suc, ◌+◌, ◌≤◌, ◌<◌}
 use native.Mathlib.Omega.{arith}
 use native.Mathlib.Nat.{le_refl, eq-or-lt_of_le, le_of_suc-le-suc}
 use lib.Dec.{ltb, eqb}
@@ -15,24 +15,25 @@ use Rattle.laws.specs.Choice.{pick}
 use Rattle.laws.proofs.Choice.{cases}
 use Rattle.theory.specs.Full.{weight, around}
 use Rattle.theory.proofs.Full.{full, over-full}
-use Rattle.site.specs.Record.{load_at, positions, size, fault_of, is_fine}
+use Rattle.site.specs.Record.{load_at, positions, size, fault_of}
 use Rattle.site.specs.Reach.{net_of}
 use Rattle.site.specs.declared.Site.{Site}
-use Rattle.site.specs.declared.Fault.TheVariants.{Fine}
+use Rattle.site.specs.declared.Fault.{Fault}
+use Rattle.std.specs.Prelude.{Result, Ok, Err}
 use Rattle.planner.specs.Plan.{plan_answer}
-use Rattle.planner.specs.declared.PlanAnswer.{PlanAnswer}
-use Rattle.planner.specs.declared.PlanAnswer.TheVariants as plan
+use Rattle.planner.specs.declared.PlanError.{PlanError}
+use Rattle.planner.specs.declared.PlanError.TheVariants as plan
 use Rattle.planner.proofs.Answer.{run-answer}
 use Rattle.planner.proofs.Meaning.{done-means}
 use Rattle.judges.specs.Judges.{counted, chain_answer, class_answer, load_answer, least_answer}
-use Rattle.judges.specs.declared.LoadAnswer.{LoadAnswer}
-use Rattle.judges.specs.declared.LoadAnswer.TheVariants as load
-use Rattle.judges.specs.declared.ChainAnswer.{ChainAnswer}
-use Rattle.judges.specs.declared.ChainAnswer.TheVariants as chain
-use Rattle.judges.specs.declared.ClassAnswer.{ClassAnswer}
-use Rattle.judges.specs.declared.ClassAnswer.TheVariants as class
-use Rattle.judges.specs.declared.LeastAnswer.{LeastAnswer}
-use Rattle.judges.specs.declared.LeastAnswer.TheVariants as least
+use Rattle.judges.specs.declared.LoadVerdict.{LoadVerdict}
+use Rattle.judges.specs.declared.LoadVerdict.TheVariants as load
+use Rattle.judges.specs.declared.ChainVerdict.{ChainVerdict}
+use Rattle.judges.specs.declared.ChainVerdict.TheVariants as chain
+use Rattle.judges.specs.declared.ClassVerdict.{ClassVerdict}
+use Rattle.judges.specs.declared.ClassVerdict.TheVariants as class
+use Rattle.judges.specs.declared.LeastVerdict.{LeastVerdict}
+use Rattle.judges.specs.declared.LeastVerdict.TheVariants as least
 use Rattle.judges.proofs.Meaning.{chained-means, broken-means, class-means, outside-means, holds-means, over-means, least-means, enough-means}
 use Rattle.judges.proofs.Meaning.{least-refused, covers-counted}
 use Rattle.heaviest.proofs.Mutual.{heaviest-is}
@@ -68,91 +69,92 @@ size-cases P row most f lo hi none low exact range =
     (λ e. rw e (⊎_elim (λ g. rw g low) (λ g. rw g (⊎_elim (λ k. rw k (exact (eqb-true lo hi k))) (λ k. rw k range) (cases (eqb lo hi)))) (cases (ltb most hi))))
     (cases (ltb most lo))
 
-module _ (s : Site) (fine : fault_of s ≡ Fine) where
+module _ (s : Site) (fine : fault_of s ≡ Ok tt) where
   abbrev heavy : ℕ
   heavy = weight (net_of s) (bit_at (set s))
 
   -- ---- the chain, the class and the load test
 
-  chain-true : (a : ChainAnswer) → chain_answer s ≡ a → Means s (chain_phrase a)
-  chain-true chain.Chained e = ((chained-means s).0 e).1
-  chain-true (chain.Broken a b c) e = (broken-means s a b c e).1
-  chain-true (chain.Refused f) e = tt
+  chain-true : (a : Result ChainVerdict Fault) → chain_answer s ≡ a → Means s (chain_phrase a)
+  chain-true (Ok chain.Chained) e = ((chained-means s).0 e).1
+  chain-true (Ok (chain.Broken a b c)) e = (broken-means s a b c e).1
+  chain-true (Err f) e = tt
 
-  class-true : (k : ClassAnswer) → class_answer s ≡ k → Means s (class_phrase k)
-  class-true class.InClass e = ((class-means s).0 e).1
-  class-true (class.Outside a b i) e = (outside-means s a b i e).1
-  class-true (class.Refused f) e = tt
+  class-true : (k : Result ClassVerdict Fault) → class_answer s ≡ k → Means s (class_phrase k)
+  class-true (Ok class.InClass) e = ((class-means s).0 e).1
+  class-true (Ok (class.Outside a b i)) e = (outside-means s a b i e).1
+  class-true (Err f) e = tt
 
-  nested-true : (j : ChainAnswer) (k : ClassAnswer) → class_answer s ≡ k → Means s (nested_phrase j k)
-  nested-true chain.Chained k e = tt
-  nested-true (chain.Broken a b c) k e = class-true k e
-  nested-true (chain.Refused f) k e = tt
+  nested-true : (j : Result ChainVerdict Fault) (k : Result ClassVerdict Fault) → class_answer s ≡ k → Means s (nested_phrase j k)
+  nested-true (Ok chain.Chained) k e = tt
+  nested-true (Ok (chain.Broken a b c)) k e = class-true k e
+  nested-true (Err f) k e = tt
 
   -- where three cells are named the site is not nested
-  off-class : (a b i : ℕ) → class_answer s ≡ class.Outside a b i → NestedHolds s → ⊥
+  off-class : (a b i : ℕ) → class_answer s ≡ Ok (class.Outside a b i) → NestedHolds s → ⊥
   off-class a b i e c = let q = (class-means s).1 (fine, c) in let z : ◌≡◌ {A = ℕ} 0 1 = cc in omega arith
 
-  over-true : (k : ClassAnswer) → class_answer s ≡ k → (cell m : ℕ) → load_answer s ≡ load.Over cell m → Means s (over_phrase k cell m)
-  over-true class.InClass e cell m h =
+  over-true : (k : Result ClassVerdict Fault) → class_answer s ≡ k → (cell m : ℕ) → load_answer s ≡ Ok (load.Over cell m) → Means s (over_phrase k cell m)
+  over-true (Ok class.InClass) e cell m h =
       let c = ((class-means s).0 e).1 in
       let o = (over-means s cell m h).1 in
       let f = o.2 in
       let w = over-full (net_of s) o.0 (counted s) (covers-counted s) c f.inside f.counts f.exceeds in
       (c, o, full (net_of s) (around (net_of s) o.0) w.0 w.1)
-  over-true (class.Outside a b i) e cell m h = (off-class a b i e, (over-means s cell m h).1)
-  over-true (class.Refused f) e cell m h = tt
+  over-true (Ok (class.Outside a b i)) e cell m h = (off-class a b i e, (over-means s cell m h).1)
+  over-true (Err f) e cell m h = tt
 
-  load-true : (k : ClassAnswer) → class_answer s ≡ k → (a : LoadAnswer) → load_answer s ≡ a → Means s (load_phrase k a)
-  load-true k e load.Holds h = ((holds-means s).0 h).1
-  load-true k e (load.Over cell m) h = over-true k e cell m h
-  load-true k e (load.Refused f) h = tt
+  load-true : (k : Result ClassVerdict Fault) → class_answer s ≡ k → (a : Result LoadVerdict Fault) → load_answer s ≡ a → Means s (load_phrase k a)
+  load-true k e (Ok load.Holds) h = ((holds-means s).0 h).1
+  load-true k e (Ok (load.Over cell m)) h = over-true k e cell m h
+  load-true k e (Err f) h = tt
 
   -- ---- the two numbers
 
   -- the number that `least` answers will do
-  pub least-does : (a : LeastAnswer) → least_answer s ≡ a → WillDo s (least_number a)
-  least-does (least.Least n) e = rw ((least-means s n).0 e).2 at (demand-does s)
-  least-does (least.Enough n) e = rw ((enough-means s n).0 e).2 at (demand-does s)
-  least-does (least.Refused f) e =
-      let r = (least-refused s f).0 e in
-      absurd (true≢false (sym (ap is_fine (r.0 ∙ fine)) ∙ r.1))
+  pub least-does : (a : Result LeastVerdict Fault) → least_answer s ≡ a → WillDo s (least_number a)
+  least-does (Ok (least.Least n)) e = rw ((least-means s n).0 e).2 at (demand-does s)
+  least-does (Ok (least.Enough n)) e = rw ((enough-means s n).0 e).2 at (demand-does s)
+  least-does (Err f) e = let r = (least-refused s f).0 e in absurd cc
 
   module _ (t : List ℕ) (long : size s ≤ length t) where
     -- ---- the plan
 
     -- the planner answers the same in every table that is long enough
-    same_answer : (a : PlanAnswer) → plan_answer s t ≡ a → (table : List ℕ) → size s ≤ length table → plan_answer s table ≡ a
+    same_answer : (a : Result Unit PlanError) → plan_answer s t ≡ a → (table : List ℕ) → size s ≤ length table → plan_answer s table ≡ a
     same_answer a e table h = run-answer s table fine h ∙ sym (run-answer s t fine long) ∙ e
 
-    no_true : (cell short : ℕ) → plan_answer s t ≡ plan.NoRoom cell short → (b : Bool) → ltb (open_of s) heavy ≡ b → Means s (Row (pick b 6 7) cell short 0 0)
-    no_true cell short e true h = (same_answer (plan.NoRoom cell short) e, at_least s s (itself s) fine (ltb-true (open_of s) heavy h))
-    no_true cell short e false h = (same_answer (plan.NoRoom cell short) e, off, ltb-false (open_of s) heavy h)
+    no_true : (cell short : ℕ) → plan_answer s t ≡ Err (plan.NoRoom cell short) → (b : Bool) → ltb (open_of s) heavy ≡ b
+        → Means s (Row (pick b 6 7) cell short 0 0)
+    no_true cell short e true h = (same_answer (Err (plan.NoRoom cell short)) e, at_least s s (itself s) fine (ltb-true (open_of s) heavy h))
+    no_true cell short e false h = (same_answer (Err (plan.NoRoom cell short)) e, off, ltb-false (open_of s) heavy h)
       where
         off : NestedHolds s → ⊥
         off c =
             let d = done-class s heavy (set s) (done-fine s fine) ((class-means s).1 (fine, c)) in
-            let p = (least-does (least.Least heavy) d s (itself s) fine (ltb-false (open_of s) heavy h) t long).0 in
+            let p = (least-does (Ok (least.Least heavy)) d s (itself s) fine (ltb-false (open_of s) heavy h) t long).0 in
             let z : ◌≡◌ {A = ℕ} 0 1 = cc in
             omega arith
 
-    plan-true : (a : PlanAnswer) → plan_answer s t ≡ a → Means s (plan_phrase heavy (open_of s) a)
-    plan-true plan.Done e = run-planned s fine ((done-means s t).0 e).2
-    plan-true plan.TableShort e = tt
-    plan-true (plan.NoRoom cell short) e = no_true cell short e (ltb (open_of s) heavy) refl
-    plan-true (plan.Refused f) e = tt
+    plan-true : (a : Result Unit PlanError) → plan_answer s t ≡ a → Means s (plan_phrase heavy (open_of s) a)
+    plan-true (Ok u) e = run-planned s fine ((done-means s t).0 e).2
+    plan-true (Err plan.TableShort) e = tt
+    plan-true (Err (plan.NoRoom cell short)) e = no_true cell short e (ltb (open_of s) heavy) refl
+    plan-true (Err (plan.Record f)) e = tt
 
     -- the smaller of two numbers that will do, and it is no more than the first
-    smaller-does : (n m : ℕ) → WillDo s n → WillDo s m → WillDo s (pick (ltb n m) n m) × (pick (ltb n m) n m ≤ n)
+    smaller-does : (n m : ℕ) → WillDo s n → WillDo s m → WillDo s (min n m) × (min n m ≤ n)
     smaller-does n m h k =
-        ⊎_elim (λ e. rw e (h, le_refl n)) (λ e. rw e (k, ltb-false n m e)) (cases (ltb n m))
+        let does : WillDo s (min n m) = ⊎_elim (λ e. let q : min n m ≡ n = omega (arith, ltb-true n m e) in rw q h)
+        (λ e. let q : min n m ≡ m = omega (arith, ltb-false n m e) in rw q k) (cases (ltb n m)) in
+        (does, omega arith)
 
-    upper : (a : PlanAnswer) → plan_answer s t ≡ a → (m : ℕ) → WillDo s m
+    upper : (a : Result Unit PlanError) → plan_answer s t ≡ a → (m : ℕ) → WillDo s m
         → WillDo s (will_do a (open_of s) m) × (Planned s → will_do a (open_of s) m ≤ open_of s)
-    upper plan.Done e m h = let r = smaller-does (open_of s) m (own-does s ((done-means s t).0 e).2) h in (r.0, λ p. r.1)
-    upper plan.TableShort e m h = (h, λ p. let q = (p t long).0 in let z : ◌≡◌ {A = ℕ} 0 1 = cc in absurd (omega arith))
-    upper (plan.NoRoom c l) e m h = (h, λ p. let q = (p t long).0 in let z : ◌≡◌ {A = ℕ} 0 1 = cc in absurd (omega arith))
-    upper (plan.Refused f) e m h = (h, λ p. let q = (p t long).0 in let z : ◌≡◌ {A = ℕ} 0 1 = cc in absurd (omega arith))
+    upper (Ok u) e m h = let r = smaller-does (open_of s) m (own-does s ((done-means s t).0 e).2) h in (r.0, λ p. r.1)
+    upper (Err plan.TableShort) e m h = (h, λ p. let q = (p t long).0 in let z : ◌≡◌ {A = ℕ} 0 1 = cc in absurd (omega arith))
+    upper (Err (plan.NoRoom c l)) e m h = (h, λ p. let q = (p t long).0 in let z : ◌≡◌ {A = ℕ} 0 1 = cc in absurd (omega arith))
+    upper (Err (plan.Record f)) e m h = (h, λ p. let q = (p t long).0 in let z : ◌≡◌ {A = ℕ} 0 1 = cc in absurd (omega arith))
 
   -- ---- the lines of the numbers
 
@@ -217,7 +219,7 @@ module _ (s : Site) (fine : fault_of s ≡ Fine) where
 
 -- a theorem for each sentence of `put_why`, over the text as the program prints it from the answers of the calls: every phrase that is said of an
 -- accepted site means what is so
-pub why-true : (s : Site) → fault_of s ≡ Fine → (t : List ℕ) → size s ≤ length t → (p : Phrase) → Memᴰ p (why_phrases s t) → Means s p
+pub why-true : (s : Site) → fault_of s ≡ Ok tt → (t : List ℕ) → size s ≤ length t → (p : Phrase) → Memᴰ p (why_phrases s t) → Means s p
 unfolding why_phrases
 why-true s fine t long p m =
     let a = plan_answer s t in
@@ -259,7 +261,7 @@ in_cells loads x i (suc n) l =
 past_three : {p q r t : Phrase} {ps : List Phrase} → Memᴰ p ps → Memᴰ p (q ∷ r ∷ t ∷ ps)
 past_three m = mathlib.Core.List.Memᴰ.tail (mathlib.Core.List.Memᴰ.tail (mathlib.Core.List.Memᴰ.tail m))
 
-pub set-said : (s : Site) → fault_of s ≡ Fine → (t : List ℕ) (i : ℕ) → i < s.cells → bit_at (set s) i ≡ true
+pub set-said : (s : Site) → fault_of s ≡ Ok tt → (t : List ℕ) (i : ℕ) → i < s.cells → bit_at (set s) i ≡ true
     → Memᴰ (Row cell_row (i + 1) (load_at s i) 0 0) (why_phrases s t)
 unfolding why_phrases cell_phrase
 set-said s fine t i l e =

@@ -1,7 +1,7 @@
 -- What each sentence of `duggfrask why` means, row by row: over valid tables, whoever made them, and over what the planner answers. That every
 -- sentence that is said of a site is true of it is the theorem `why-true`, proofs/Truth.antt; of the line of what is blocked it is `blocked-true`,
 -- proofs/Listed.antt.
-use Rattle.std.specs.Prelude.{ℕ, zero, suc, ◌+◌, ◌≤◌, ◌<◌, ◌≡◌, true, List, [], ◌∷◌, length}
+use Rattle.std.specs.Prelude.{ℕ, zero, suc, ◌+◌, ◌≤◌, ◌<◌, ◌≡◌, true, List, [], ◌∷◌, length, Ok, Err}
 use Rattle.laws.specs.Bits.{bit_at}
 use Rattle.theory.specs.Net.{Reserved, Valid, LoadTest, Chained, Class}
 use Rattle.theory.specs.Full.{weight}
@@ -11,9 +11,8 @@ use Rattle.site.specs.Alike.{Alike}
 use Rattle.site.specs.Record.{load_at, positions, size, fault_of}
 use Rattle.site.specs.Reach.{net_of}
 use Rattle.site.specs.declared.Site.{Site}
-use Rattle.site.specs.declared.Fault.TheVariants.{Fine}
 use Rattle.planner.specs.Plan.{plan_answer, plan_table}
-use Rattle.planner.specs.declared.PlanAnswer.TheVariants.{Done, NoRoom}
+use Rattle.planner.specs.declared.PlanError.TheVariants.{NoRoom}
 use Rattle.judges.specs.Judges.{counted}
 use Rattle.heaviest.specs.Sets.{heaviest_set, Heaviest}
 use Rattle.blocklist.specs.Read.{fine_list, read_list}
@@ -27,11 +26,11 @@ NoPlan s = (res : Reserved) → Valid (net_of s) res → ⊥
 
 -- `planned`: in every table that is long enough the planner is done, and leaves a valid table there
 abbrev pub Planned : Site → Type 0
-Planned s = (table : List ℕ) → size s ≤ length table → (plan_answer s table ≡ Done) × Valid (net_of s) (reserved (positions s) (plan_table s table))
+Planned s = (table : List ℕ) → size s ≤ length table → (plan_answer s table ≡ Ok tt) × Valid (net_of s) (reserved (positions s) (plan_table s table))
 
 -- `not planned: cell .. is .. short`: so the planner answers in every table that is long enough
 abbrev pub Short : Site → (cell short : ℕ) → Type 0
-Short s cell short = (table : List ℕ) → size s ≤ length table → plan_answer s table ≡ NoRoom cell short
+Short s cell short = (table : List ℕ) → size s ≤ length table → plan_answer s table ≡ Err (NoRoom cell short)
 
 abbrev pub ChainHolds : Site → Type 0
 ChainHolds s = Chained (net_of s) (counted s)
@@ -56,7 +55,7 @@ Split s a b i = (x y z : ℕ) × (a ≡ x + 1) × (b ≡ y + 1) × (i ≡ z + 1)
 
 -- what is said of every accepted site with the same cells, loads and reach
 abbrev pub Every : Site → (Site → Type 0) → Type 0
-Every s P = (other : Site) → Alike other s → fault_of other ≡ Fine → P other
+Every s P = (other : Site) → Alike other s → fault_of other ≡ Ok tt → P other
 
 -- `at least n`: with fewer no plan exists
 abbrev pub AtLeast : Site → ℕ → Type 0

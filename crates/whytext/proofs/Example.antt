@@ -19,7 +19,7 @@ use Rattle.site.specs.declared.Site.{Site}
 use Rattle.planner.specs.Plan.{plan_answer}
 use Rattle.judges.specs.Judges.{load_answer, chain_answer, class_answer, least_answer}
 use Rattle.heaviest.specs.Sets.{mutual_in, heaviest_in, heaviest_of}
-use Rattle.numbering.specs.Renumber.{numbering_of, renumber_of}
+use Rattle.numbering.specs.Renumber.{numbering_of, site_numbers, renumber_of}
 use Rattle.finding.specs.Found.{found_of}
 use Rattle.finder.specs.Find.{find_answer}
 use Rattle.text.specs.Decimal.{digits_of, decimal}
@@ -61,6 +61,6 @@ whole-said :
 unfolding ring first_of sum any most part forbid marked fill run overloaded lowest_over load_verdict most_demand gap breaks break_of first_break
     chain_verdict second splits split_of first_split class_verdict class_answer best_of word_of up_to size_ok rule_ok row_bad extra_load bad_row extra_blocked
     fault_of reaches reached_by_both clash_in plan_answer load_answer chain_answer least_answer mutual_in heaviest_in heaviest_of last missing odd fit
-    give_numbers numbering numbering_of renumber_of found_of find_answer digits_of decimal spoken why_lines takes_phrase set_phrase cell_phrase cell_phrases
-    fewest size_phrase why_phrases why_said anew_lines anew_said rule_lines third_of by_third seconds_said firsts_said last_lines
+    give_numbers numbering numbering_of site_numbers renumber_of found_of find_answer digits_of decimal spoken why_lines takes_phrase set_phrase cell_phrase
+    cell_phrases fewest size_phrase why_phrases why_said anew_lines anew_said rule_lines third_of by_third seconds_said firsts_said last_lines
 whole-said = refl

@@ -10,12 +10,12 @@ ghost use Rattle.phrases.specs.Put.{Put};
 ghost use Rattle.say_rule.specs.Said.{firsts_said};
 ghost use Rattle.whytext.specs.Text.{opening_said, whole_said, why_text, why_written, why_out};
 
-use records::Written;
+use records::WriteError;
 use say_find::{find_why, put_last_line};
 use say_numbering::put_anew;
 use say_rule::{put_rule, put_thirds};
 use say_why::put_why;
-use site::{Fault, Site};
+use site::Site;
 use text::put_text;
 
 // How many bytes the lines of the clashes by a third cell have; `line` is room for those of one first cell.
@@ -24,10 +24,8 @@ fn thirds_len(line: &mut [u8], site: Site) -> usize
     ensures { (result ≡ length (firsts_said site 32)) × (result ≤ 716800) }
 {
     let mut n = 0;
-    let mut a = 0;
-    while a < 32 {
+    for a in 0..32 {
         n += put_thirds(line, 0, site, a);
-        a += 1;
     }
     n
 }
@@ -40,17 +38,15 @@ fn put_all_thirds(out: &mut [u8], at: usize, line: &mut [u8], site: Site) -> usi
     ensures next { result ≡ at + length (firsts_said site 32) }
 {
     let mut next = at;
-    let mut a = 0;
-    while a < 32 {
+    for a in 0..32 {
         let n = put_thirds(line, 0, site, a);
         next = put_text(out, next, &line[..n]);
-        a += 1;
     }
     next
 }
 
 // What stands before these lines, the lines, and what stands after them, where there is room for all of it.
-fn lay_why(opening: &[u8], site: Site, last: &[u8], out: &mut [u8]) -> Written
+fn lay_why(opening: &[u8], site: Site, last: &[u8], out: &mut [u8]) -> Result<usize, WriteError>
     requires { (length opening.now ≤ 65536) × (length last.now ≤ 4096) }
     ensures answer { result ≡ written (opening.now ++ (firsts_said site 32 ++ last.now)) out.old }
     ensures out { out.new ≡ laid_over (opening.now ++ (firsts_said site 32 ++ last.now)) out.old }
@@ -59,12 +55,12 @@ fn lay_why(opening: &[u8], site: Site, last: &[u8], out: &mut [u8]) -> Written
     let more = thirds_len(&mut line, site);
     let need = opening.len() + more + last.len();
     if out.len() < need {
-        return Written::OutShort(need);
+        return Err(WriteError::OutShort(need));
     }
     let at = put_text(out, 0, opening);
     let end = put_all_thirds(out, at, &mut line, site);
     put_text(out, end, last);
-    Written::Done(need)
+    Ok(need)
 }
 
 // What stands before these lines, from the start of `text`, and how long it is.
@@ -79,7 +75,7 @@ fn put_opening(site: Site, table: &mut [u8], text: &mut [u8]) -> usize
 }
 
 // All of it, of a site whose record is in order.
-fn whole_text(site: Site, out: &mut [u8]) -> Written
+fn whole_text(site: Site, out: &mut [u8]) -> Result<usize, WriteError>
     ensures answer { result ≡ written (why_text site) out.old }
     ensures out { out.new ≡ laid_over (why_text site) out.old }
 {
@@ -93,13 +89,11 @@ fn whole_text(site: Site, out: &mut [u8]) -> Written
 }
 
 // What `duggfrask why` prints of a site: 1, 24, 2, 3, 20, then 13.
-pub fn why_text(site: Site, out: &mut [u8]) -> Written
+#[tactic(auto, unfolding(crate::specs::Text::why_written, crate::specs::Text::why_out))]
+pub fn why_text(site: Site, out: &mut [u8]) -> Result<usize, WriteError>
     ensures answer { result ≡ why_written site out.old }
     ensures out { out.new ≡ why_out site out.old }
 {
-    let fault = site.fault_in();
-    let Fault::Fine = fault else {
-        return Written::Refused(fault);
-    };
+    site.accepted()?;
     whole_text(site, out)
 }

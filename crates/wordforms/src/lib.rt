@@ -5,7 +5,6 @@
 ghost use Rattle.std.specs.Prelude.{◌≡◌, ◌++◌, ◌+◌, ◌*◌, ◌/◌, ◌%◌, ◌^◌, ◌≤◌, ◌<◌, min, length, get_or, drop};
 ghost use Rattle.std.proofs.lemmas.List.Edits.{sets};
 ghost use Rattle.laws.specs.Bits.{bit_at, word_of};
-ghost use Rattle.laws.specs.Choice.{pick};
 ghost use Rattle.laws.specs.Part.{list_of, Zeros};
 ghost use Rattle.laws.specs.Sum.{bit};
 ghost use Rattle.theory.specs.Greedy.{sends, reserved};
@@ -13,15 +12,7 @@ ghost use Rattle.words.specs.Words.{words_of};
 ghost use Rattle.wordforms.specs.Words.{sends_at, bytes_of};
 ghost use Rattle.wordforms.specs.Eights.{eight_of, eight_joined, byte_joined};
 
-// The bits where a byte is a reservation, else 0.
-fn bits_if(byte: u8, bits: u8) -> u8
-    ensures { result ≡ pick (sends byte) bits 0 }
-{
-    if byte == 1 {
-        return bits;
-    }
-    0
-}
+use blocks::bits_if;
 
 // The word of four rows of n bytes at one position: the byte of the first row is k.
 fn four_at(table: &[u8], k: usize, n: usize) -> u8
@@ -97,26 +88,14 @@ fn add_eight(words: &mut [u32], table: &[u8], n: usize, i: usize)
     add_piece(words, table, n, i, at, n - at);
 }
 
-// The lower of the two.
-fn lower(a: usize, b: usize) -> usize
-    ensures { result ≡ min a b }
-{
-    if a < b {
-        return a;
-    }
-    b
-}
-
 // Joins the rows of all the cells to words that are 0, eight rows at a time. The last eight may begin with rows that are joined already.
 fn add_eights(words: &mut [u32], table: &[u8], n: usize, cells: usize)
     requires { (8 ≤ cells) × (cells ≤ 32) × (n ≤ length words.old) × (cells * n ≤ length table.now) × Zeros n words.old }
     ensures { words.new ≡ sets words.old 0 (words_of cells n (reserved n table.now)) }
 {
-    let mut i: usize = 0;
-    while i < cells {
-        let from = lower(i, cells - 8);
+    for i in (0..cells).step_by(8) {
+        let from = i.min(cells - 8);
         add_eight(words, table, n, from);
-        i = from + 8;
     }
 }
 
@@ -136,7 +115,7 @@ pub fn gather_words(words: &mut [u32], table: &[u8], n: usize, cells: usize)
     ensures { words.new ≡ sets words.old 0 (words_of cells n (reserved n table.now)) }
 {
     words::lay(words, 0, n, 0);
-    if lower(n / 8, cells) < 8 {
+    if (n / 8).min(cells) < 8 {
         add_rows(words, table, n, cells);
         return;
     }
@@ -182,6 +161,7 @@ fn byte_of(word: u32, i: usize) -> u8
 }
 
 // Writes these bytes, one for each word.
+// It only looks like `lay_row`, which lays one bit: with the width as an argument of both the shift would be followed by a division.
 fn lay_bytes(row: &mut [u8], words: &[u32], i: usize)
     requires { (i < 32) × (length row.old ≤ length words.now) }
     ensures { row.new ≡ list_of (λ k. get_or words.now k 0 / 2 ^ i % 256) (length row.old) }
@@ -238,13 +218,11 @@ fn lay_eights(table: &mut [u8], words: &[u32], n: usize, cells: usize)
     requires { (cells ≤ 32) × (n ≤ length words.now) × (cells * n ≤ length table.old) }
     ensures { table.new ≡ bytes_of cells n (sends_at words.now) ++ drop (cells * n) table.old }
 {
-    let mut i: usize = 0;
-    while i < cells {
-        let last = lower(7, cells - i - 1);
+    for i in (0..cells).step_by(8) {
+        let last = 7usize.min(cells - i - 1);
         let from = i * n;
         let to = from + (last * n + n);
         lay_eight(&mut table[from..to], words, n, i, last);
-        i = i + (last + 1);
     }
 }
 
@@ -253,7 +231,7 @@ pub fn scatter(table: &mut [u8], words: &[u32], n: usize, cells: usize)
     requires { (cells ≤ 32) × (n ≤ length words.now) × (cells * n ≤ length table.old) }
     ensures { table.new ≡ bytes_of cells n (sends_at words.now) ++ drop (cells * n) table.old }
 {
-    if lower(n, 32 * cells) < 64 {
+    if n.min(32 * cells) < 64 {
         lay_rows(table, words, n, cells);
         return;
     }

@@ -10,7 +10,7 @@ use borrow.Author.Tests.{lt-ltb, le-ltb, ltb-true}
 use Rattle.laws.specs.Bits.{bit_at, bit_in}
 use Rattle.laws.specs.Search.{first}
 use Rattle.laws.proofs.Any.{any_none}
-use Rattle.laws.proofs.Search.{first_passes, first-most, first-none, first-same}
+use Rattle.laws.proofs.Search.{found, missed, ended, first_passes, first-none, first-same}
 use Rattle.theory.specs.Net.{Net, unblocked}
 use Rattle.theory.specs.Verdict.{
   valid,
@@ -32,11 +32,11 @@ use Rattle.positions.specs.Blocked.{most_positions, blocked_at, any_in}
 use Rattle.site.specs.Record.{positions, fault_of}
 use Rattle.site.specs.Reach.{net_in, net_of}
 use Rattle.site.specs.declared.Site.{Site}
-use Rattle.site.specs.declared.Fault.TheVariants.{Fine}
+use Rattle.std.specs.Prelude.{Ok, Err}
 use Rattle.words.specs.Clashes.{second_in, clashes_in, first_in}
 use Rattle.checker.specs.Check.{verdict_of}
 use Rattle.checker.specs.Marks.{bar_net}
-use Rattle.checker.specs.declared.CheckAnswer.TheVariants.{Valid, Clash, Count}
+use Rattle.checker.specs.declared.CheckError.TheVariants.{Clash, Count}
 use Rattle.checker.proofs.Judged.{judged-by}
 use Rattle.wordforms.specs.Words.{sends_at}
 use Rattle.wordtable.specs.Tally.{clashing_word, CountedTo, miscounted}
@@ -63,17 +63,13 @@ module _ (cells n : ℕ) (loads rows words : List ℕ) where
   unfolding second_at second_in
   second_is p a = refl
 
-  pub second-most : (word a : ℕ) → a < cells → second_in word rows cells a ≤ cells
-  unfolding second_in
-  second-most word a h = first-most _ (a + 1) cells (omega arith)
-
   module _ {p : ℕ} (at : p ≡ lowest) where
     pub first-inside : {a : ℕ} → p < n → a ≡ first_in (get_or words p 0) rows cells → a < cells
     first-inside h f =
         rw (f, at) (ltb-true _ cells (first_passes (λ k. clashing_word rows cells (get_or words k 0)) 0 n zero-le (rw at at h)))
 
     pub is-clash : {a c : ℕ} → p < n → a ≡ first_in (get_or words p 0) rows cells → c ≡ second_in (get_or words p 0) rows cells a
-        → Clash p (a + 1) (c + 1) ≡ verdict_of (open_verdict whole (sends_at words))
+        → Err (Clash p (a + 1) (c + 1)) ≡ verdict_of (open_verdict whole (sends_at words))
     unfolding open_verdict verdict_of
     is-clash {a} {c} h f g =
         let e : clash p a c ≡ open_verdict whole (sends_at words) =
@@ -88,14 +84,14 @@ module _ (cells n : ℕ) (loads rows words : List ℕ) where
           ∙ first-same (miscounted counts loads) (wrong_in whole (sends_at words)) 0 cells zero-le
           (λ j l h. ap (λ (m : ℕ). not (eqb m (get_or loads j 0))) (counted.1 j h))
 
-      pub is-count : i < cells → Count (i + 1) (get_or counts i 0) ≡ verdict_of (open_verdict whole (sends_at words))
+      pub is-count : i < cells → Err (Count (i + 1) (get_or counts i 0)) ≡ verdict_of (open_verdict whole (sends_at words))
       unfolding open_verdict verdict_of
       is-count h =
           let e : wrong i (get_or counts i 0) ≡ open_verdict whole (sends_at words) =
           rw (sym (at ∙ lowest-is), le-ltb p n none, sym wrong-is, lt-ltb i cells h, counted.1 i h) in
           ap verdict_of e
 
-      pub is-valid : cells ≤ i → Valid ≡ verdict_of (open_verdict whole (sends_at words))
+      pub is-valid : cells ≤ i → Ok tt ≡ verdict_of (open_verdict whole (sends_at words))
       unfolding open_verdict verdict_of
       is-valid h =
           let e : valid ≡ open_verdict whole (sends_at words) =
@@ -124,8 +120,14 @@ module _ (cells n : ℕ) (blocked words : List ℕ) where
       sym (bar-word k)
       ∙ ap (λ b. b && ltb (first (bit_at (get_or words k 0)) 0 cells) cells) (any_none (blocked_at blocked) most_positions none k (omega arith))))
 
+-- what a search for the lowest such position asks
+pub ruleset barred_search = (found, missed, ended, bar-word)
+
+-- what the verdict on words uses of the walk
+pub ruleset open_laws = (is-clash, is-count)
+
 -- the check of a site with no fault and of enough words
-pub words-judged : (s : Site) (w : List ℕ) → fault_of s ≡ Fine → positions s ≤ length w
+pub words-judged : (s : Site) (w : List ℕ) → fault_of s ≡ Ok tt → positions s ≤ length w
     → verdict_of (table_verdict (net_of s) (sends_at w)) ≡ check_words_answer s w
 unfolding check_words_answer
 words-judged s w = judged-by s (sends_at w) (length w) (positions s)

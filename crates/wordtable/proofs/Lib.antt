@@ -1,5 +1,4 @@
 -- The laws of crate `wordtable`, module by module.
-pub mod Planned
 pub mod Counts
 pub mod Runs
 pub mod Judged

@@ -15,14 +15,14 @@ use Rattle.laws.proofs.Words.{word_lt}
 use Rattle.theory.specs.Greedy.{reserved}
 use Rattle.site.specs.Record.{positions, size, fault_of}
 use Rattle.site.specs.declared.Site.{Site}
-use Rattle.site.specs.declared.Fault.TheVariants.{Fine}
+use Rattle.std.specs.Prelude.{Ok}
 use Rattle.words.specs.Words.{word_at, words_of}
 use Rattle.wordforms.specs.Words.{sends_at}
 use Rattle.wordtable.specs.Forms.{to_words, to_bytes}
 use Rattle.wordtable.proofs.Same.{words-say, bytes-at}
 use Rattle.wordtable.proofs.Ways.{done-words, done-bytes}
 
-module _ (s : Site) (t w : List ℕ) (table : size s ≤ length t) (words : positions s ≤ length w) (fine : fault_of s ≡ Fine) where
+module _ (s : Site) (t w : List ℕ) (table : size s ≤ length t) (words : positions s ≤ length w) (fine : fault_of s ≡ Ok tt) where
   -- "bit i-1 set when cell i transmits": exactly when the table's byte at i N + k is 1
   pub word-plain : (i k : ℕ) → i < s.cells → k < positions s → get_or (to_words s t w) k 0 / 2 ^ i % 2 ≡ 1 ↔ get_or t (i * positions s + k) 0 ≡ 1
   word-plain i k l h =

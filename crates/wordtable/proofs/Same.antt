@@ -20,7 +20,6 @@ use Rattle.laws.specs.Bits.{bit_at}
 use Rattle.laws.specs.Choice.{pick}
 use Rattle.laws.specs.Part.{list_of}
 use Rattle.laws.specs.Sum.{bit}
-use Rattle.laws.proofs.Choice.{cases}
 use Rattle.laws.proofs.Grid.{inside, kept_byte, added-byte}
 use Rattle.laws.proofs.Stores.{length-list, list-eq, list_at, list-zeros}
 use Rattle.laws.proofs.Words.{word-bit, word-eq, word_mod, none-word}
@@ -29,16 +28,16 @@ use Rattle.theory.specs.Greedy.{sends, reserved, Outcome, planned, no_room, gree
 use Rattle.theory.proofs.Agree.{verdict-agree}
 use Rattle.theory.proofs.Exact.{planned-size}
 use Rattle.theory.proofs.Row.{kept}
-use Rattle.site.specs.Record.{positions, size, fault_of, is_fine}
+use Rattle.std.specs.Prelude.{Ok, Err}
+use Rattle.site.specs.Record.{positions, size, fault_of, is_fine, answer_with}
 use Rattle.site.specs.Reach.{net_of}
 use Rattle.site.specs.declared.Site.{Site}
-use Rattle.site.specs.declared.Fault.TheVariants.{Fine}
-use Rattle.site.proofs.Faults.{fine-is}
+use Rattle.site.specs.declared.Fault.{Fault}
 use Rattle.words.specs.Words.{word_at, words_of, out_words}
 use Rattle.planner.specs.Plan.{table_of, plan_answer, plan_table}
 use Rattle.planner.proofs.Answer.{run-table}
 use Rattle.checker.specs.Check.{verdict_of, check_answer}
-use Rattle.checker.specs.declared.CheckAnswer.TheVariants as check
+use Rattle.checker.specs.declared.CheckError.TheVariants as check
 use Rattle.checker.proofs.Judged.{check-judged}
 use Rattle.wordforms.specs.Words.{sends_at, bytes_of}
 use Rattle.wordtable.specs.Plan.{plan_words_answer, plan_words}
@@ -46,7 +45,7 @@ use Rattle.wordtable.specs.Check.{check_words_answer}
 use Rattle.wordtable.specs.Forms.{to_words, to_bytes}
 use Rattle.wordtable.proofs.Judged.{words-judged}
 use Rattle.wordforms.proofs.Rows.{bytes-long}
-use Rattle.wordtable.proofs.Ways.{refused-words, refused-bytes, done-words, done-bytes}
+use Rattle.wordtable.proofs.Ways.{either_way, refused-words, refused-bytes, done-words, done-bytes}
 
 -- ---- what each form says of a cell and a position
 
@@ -95,22 +94,20 @@ front_long a x m e h = length-append a (drop m x) ∙ omega (arith, length-drop 
 module _ (s : Site) (t w : List ℕ) (table : size s ≤ length t) (words : positions s ≤ length w) where
   words-kept-long : length (to_words s t w) ≡ length w
   words-kept-long =
-      ⊎_elim
-      (λ e. ap length (done-words s t w (fine-is (fault_of s) e) table words)
+      either_way (fault_of s)
+      (λ e. ap length (done-words s t w e table words)
       ∙ front_long (words_of s.cells (positions s) (reserved (positions s) t)) w (positions s)
       (length-list (word_at s.cells (reserved (positions s) t)) (positions s)) words)
-      (λ e. ap length (refused-words s t w (fault_of s) refl e))
-      (cases (is_fine (fault_of s)))
+      (λ f e. ap length (refused-words s t w f e))
 
   bytes-kept-long : length (to_bytes s w t) ≡ length t
   bytes-kept-long =
-      ⊎_elim
-      (λ e. ap length (done-bytes s t w (fine-is (fault_of s) e) table words)
+      either_way (fault_of s)
+      (λ e. ap length (done-bytes s t w e table words)
       ∙ front_long (bytes_of s.cells (positions s) (sends_at w)) t (size s) (bytes-long s.cells (positions s) (sends_at w)) table)
-      (λ e. ap length (refused-bytes s t w (fault_of s) refl e))
-      (cases (is_fine (fault_of s)))
+      (λ f e. ap length (refused-bytes s t w f e))
 
-  module _ (fine : fault_of s ≡ Fine) where
+  module _ (fine : fault_of s ≡ Ok tt) where
     pub words-say : (i k : ℕ) → i < s.cells → k < positions s → sends_at (to_words s t w) i k ≡ reserved (positions s) t i k
     words-say i k l h =
         ap (λ (x : List ℕ). sends_at x i k) (done-words s t w fine table words)
@@ -140,28 +137,28 @@ module _ (s : Site) (t w : List ℕ) (table : size s ≤ length t) (words : posi
   -- ---- the checkers
 
   pub check-bytes : check_words_answer s w ≡ check_answer s (to_bytes s w t)
-  check-bytes = ⊎_elim (λ e. went (fine-is (fault_of s) e)) (λ e. not-gone e) (cases (is_fine (fault_of s)))
+  check-bytes = either_way (fault_of s) went not-gone
     where
-      went : fault_of s ≡ Fine → check_words_answer s w ≡ check_answer s (to_bytes s w t)
+      went : fault_of s ≡ Ok tt → check_words_answer s w ≡ check_answer s (to_bytes s w t)
       went e =
           sym (words-judged s w e words)
           ∙ ap verdict_of (verdict-agree (net_of s) (sends_at w) (reserved (positions s) (to_bytes s w t)) (λ i k l h. sym (bytes-say e i k l h)))
           ∙ check-judged s (to_bytes s w t) e (omega (arith, bytes-kept-long))
 
-      not-gone : is_fine (fault_of s) ≡ false → check_words_answer s w ≡ check_answer s (to_bytes s w t)
-      not-gone e = unfold check_words_answer check_answer in rw e
+      not-gone : (f : Fault) → fault_of s ≡ Err f → check_words_answer s w ≡ check_answer s (to_bytes s w t)
+      not-gone f e = unfold check_words_answer check_answer in rw e
 
   pub check-table : check_words_answer s (to_words s t w) ≡ check_answer s t
-  check-table = ⊎_elim (λ e. went (fine-is (fault_of s) e)) (λ e. not-gone e) (cases (is_fine (fault_of s)))
+  check-table = either_way (fault_of s) went not-gone
     where
-      went : fault_of s ≡ Fine → check_words_answer s (to_words s t w) ≡ check_answer s t
+      went : fault_of s ≡ Ok tt → check_words_answer s (to_words s t w) ≡ check_answer s t
       went e =
           sym (words-judged s (to_words s t w) e (omega (arith, words-kept-long)))
           ∙ ap verdict_of (verdict-agree (net_of s) (sends_at (to_words s t w)) (reserved (positions s) t) (words-say e))
           ∙ check-judged s t e table
 
-      not-gone : is_fine (fault_of s) ≡ false → check_words_answer s (to_words s t w) ≡ check_answer s t
-      not-gone e = unfold check_words_answer check_answer in rw e
+      not-gone : (f : Fault) → fault_of s ≡ Err f → check_words_answer s (to_words s t w) ≡ check_answer s t
+      not-gone f e = unfold check_words_answer check_answer in rw e
 
   -- ---- the planners
 
@@ -173,7 +170,7 @@ module _ (s : Site) (t w : List ℕ) (table : size s ≤ length t) (words : posi
   out-long (planned p) e = planned-size (net_of s) p e
   out-long (no_room c m) e = length-replicate (size s) 0
 
-  pub plan-kept-long : fault_of s ≡ Fine → length (plan_table s t) ≡ length t
+  pub plan-kept-long : fault_of s ≡ Ok tt → length (plan_table s t) ≡ length t
   plan-kept-long e =
       ap length (run-table s t e table)
       ∙ front_long (table_of (size s) (greedy (net_of s))) t (size s) (out-long (greedy (net_of s)) refl) table
@@ -194,15 +191,15 @@ module _ (s : Site) (t w : List ℕ) (table : size s ≤ length t) (words : posi
           ∙ ap sends (get_or-replicate (size s) (i * positions s + k) 0 0 (inside s.cells (positions s) i k l h))
 
   pub plan-words-are : plan_words s w ≡ to_words s (plan_table s t) w
-  plan-words-are = ⊎_elim (λ e. went (fine-is (fault_of s) e)) (λ e. not-gone e) (cases (is_fine (fault_of s)))
+  plan-words-are = either_way (fault_of s) went not-gone
     where
-      untouched : is_fine (fault_of s) ≡ false → plan_words s w ≡ w
-      untouched e = unfold plan_words in rw e
+      untouched : (f : Fault) → fault_of s ≡ Err f → plan_words s w ≡ w
+      untouched f e = unfold plan_words in rw e
 
-      run-words : fault_of s ≡ Fine → plan_words s w ≡ out_words s.cells (positions s) (greedy (net_of s)) ++ drop (positions s) w
+      run-words : fault_of s ≡ Ok tt → plan_words s w ≡ out_words s.cells (positions s) (greedy (net_of s)) ++ drop (positions s) w
       run-words e = unfold plan_words in rw (e, le-ltb (length w) (positions s) words)
 
-      went : fault_of s ≡ Fine → plan_words s w ≡ to_words s (plan_table s t) w
+      went : fault_of s ≡ Ok tt → plan_words s w ≡ to_words s (plan_table s t) w
       went e =
           let is = run-table s t e table in
           run-words e
@@ -210,8 +207,8 @@ module _ (s : Site) (t w : List ℕ) (table : size s ≤ length t) (words : posi
           (out-words (greedy (net_of s)) (drop (size s) t) refl ∙ ap (λ (x : List ℕ). words_of s.cells (positions s) (reserved (positions s) x)) (sym is))
           ∙ sym (done-words s (plan_table s t) w e (omega (arith, plan-kept-long e)) words)
 
-      not-gone : is_fine (fault_of s) ≡ false → plan_words s w ≡ to_words s (plan_table s t) w
-      not-gone e = untouched e ∙ sym (refused-words s (plan_table s t) w (fault_of s) refl e)
+      not-gone : (f : Fault) → fault_of s ≡ Err f → plan_words s w ≡ to_words s (plan_table s t) w
+      not-gone f e = untouched f e ∙ sym (refused-words s (plan_table s t) w f e)
 
 -- ---- bits above I
 
@@ -228,7 +225,7 @@ module _ (s : Site) (w v : List ℕ) (long : length w ≡ length v)
   pub check-above : check_words_answer s w ≡ check_words_answer s v
   unfolding check_words_answer
   check-above =
-      ap₂ (λ (m : ℕ) x. pick (is_fine (fault_of s)) (pick (ltb m (positions s)) check.TableShort (verdict_of x)) (check.Refused (fault_of s)))
+      ap₂ (λ (m : ℕ) x. answer_with check.Record (fault_of s) (pick (ltb m (positions s)) (Err check.TableShort) (verdict_of x)))
       long (verdict-agree (net_of s) (sends_at w) (sends_at v) same-below)
 
   pub bytes-above : (t : List ℕ) → to_bytes s w t ≡ to_bytes s v t

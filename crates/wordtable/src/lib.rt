@@ -23,36 +23,42 @@ ghost use Rattle.wordtable.specs.Tally.{clashing_word, differs, Room, Added, Cou
 ghost use Rattle.wordtable.specs.Plan.{plan_words_answer, plan_words};
 ghost use Rattle.wordtable.specs.Check.{check_words_answer};
 ghost use Rattle.wordtable.specs.Forms.{form_answer, to_words, to_bytes};
+ghost use Rattle.wordtable.specs.declared.FormError.TheVariants.{Record};
 
-use checker::CheckAnswer;
-use planner::PlanAnswer;
+use checker::CheckError;
+use planner::PlanError;
 use positions::{is_blocked, none_blocked};
 use site::{Fault, Site};
 use square::low_bits;
 use wordforms::{gather_words, scatter};
 use words::lowest;
 
-// The answer to a change of form: done; 4, a lent part is short; or what is wrong with the record.
+// Why a change of form is refused: 4, a lent part is short; or what is wrong with the record.
 #[derive(Clone, Copy)]
-pub enum FormAnswer {
-    Done,
+pub enum FormError {
     TableShort,
-    Refused(Fault),
+    Record(Fault),
+}
+
+impl From<Fault> for FormError {
+    ghost from_gives = { λ f e. e ≡ Record f };
+
+    fn from(fault: Fault) -> FormError {
+        FormError::Record(fault)
+    }
 }
 
 // Plans the site into the lent words: the answer of the byte planner, and the words of its table.
-pub fn plan_words(site: Site, words: &mut [u32]) -> PlanAnswer
+#[tactic(auto, using(checker::proofs::Judged::sizes_known), unfolding(crate::specs::Plan::plan_words_answer, crate::specs::Plan::plan_words))]
+pub fn plan_words(site: Site, words: &mut [u32]) -> Result<(), PlanError>
     ensures answer { result ≡ plan_words_answer site words.old }
     ensures words { words.new ≡ plan_words site words.old }
 {
-    let fault = site.fault_in();
-    let Fault::Fine = fault else {
-        return PlanAnswer::Refused(fault);
-    };
+    site.accepted()?;
     let cells = site.cells as usize;
     let n = (site.slots as usize) * (site.channels as usize);
     if words.len() < n {
-        return PlanAnswer::TableShort;
+        return Err(PlanError::TableShort);
     }
     let clash = site.clash_rows();
     let loads = site.loads;
@@ -70,6 +76,7 @@ fn tally(counts: &mut [u32; 32], word: u32, times: u32, clash: &[u32; 32], cells
 {
     let mut met: u32 = 0;
     let mut left = word & low_bits(cells);
+    // From cell to cell of a word: no index is counted.
     while left != 0 {
         let i = u32::trailing_zeros(left) as usize;
         left = left & (left - 1);
@@ -80,19 +87,18 @@ fn tally(counts: &mut [u32; 32], word: u32, times: u32, clash: &[u32; 32], cells
 }
 
 // The first position past p, of n, whose word is not that of p; n where there is none.
+#[tactic(auto, using(laws::proofs::Search::found, laws::proofs::Search::missed, laws::proofs::Search::ended))]
 fn run_end(words: &[u32], p: usize, n: usize) -> usize
     requires { (p < n) × (n ≤ length words.now) }
     ensures { result ≡ first (differs words.now p) (p + 1) n }
 {
     let word = words[p];
-    let mut k = p + 1;
-    while k < n {
+    for k in p + 1..n {
         if words[k] != word {
             return k;
         }
-        k += 1;
     }
-    k
+    n
 }
 
 // The lowest position with a clash; n where there is none, and then each cell is counted. Equal words that stand together are counted at once.
@@ -103,6 +109,7 @@ fn walk(counts: &mut [u32; 32], words: &[u32], n: usize, clash: &[u32; 32], cell
     ensures counted { n ≤ result → CountedTo cells words.now n counts.new }
 {
     let mut p: usize = 0;
+    // From run to run: the step is as long as the run.
     while p < n {
         let to = run_end(words, p, n);
         let times = (to - p) as u32;
@@ -116,29 +123,29 @@ fn walk(counts: &mut [u32; 32], words: &[u32], n: usize, clash: &[u32; 32], cell
 }
 
 // The lowest cell that is not counted as often as its load says; the number of cells where there is none.
+#[tactic(auto, using(laws::proofs::Search::found, laws::proofs::Search::missed, laws::proofs::Search::ended))]
 fn lowest_wrong(counts: &[u32; 32], loads: [u16; 32], cells: usize) -> usize
     requires { cells ≤ 32 }
     ensures { result ≡ first (miscounted counts.now loads) 0 cells }
 {
-    let mut i = 0;
-    while i < cells {
+    for i in 0..cells {
         let load = loads[i] as u32;
         if counts[i] != load {
             return i;
         }
-        i += 1;
     }
-    i
+    cells
 }
 
 // The verdict on n words that have no cell at a blocked position: their first clash, else their first wrong count.
+#[tactic(auto, using(crate::proofs::Judged::open_laws))]
 fn judge_open(
     words: &[u32],
     n: usize,
     clash: &[u32; 32],
     loads: [u16; 32],
     cells: usize,
-) -> CheckAnswer
+) -> Result<(), CheckError>
     requires { (cells ≤ 32) × (n ≤ 2048) × (n ≤ length words.now) }
     ensures { result ≡ verdict_of (open_verdict (net_in cells n loads (bit_in clash.now) unblocked) (sends_at words.now)) }
 {
@@ -148,13 +155,13 @@ fn judge_open(
         let word = words[p];
         let a = words::first_in(word, clash, cells);
         let c = words::second_in(word, clash, cells, a);
-        return CheckAnswer::Clash(p, a + 1, c + 1);
+        return Err(CheckError::Clash(p, a + 1, c + 1));
     }
     let i = lowest_wrong(&counts, loads, cells);
     if i < cells {
-        return CheckAnswer::Count(i + 1, counts[i] as usize);
+        return Err(CheckError::Count(i + 1, counts[i] as usize));
     }
-    CheckAnswer::Valid
+    Ok(())
 }
 
 // Whether position p is blocked and its word has a cell. Where nobody sends, what is blocked is not asked.
@@ -172,18 +179,17 @@ fn is_barred(blocked: &[u64; 32], word: u32, p: usize, cells: usize) -> bool
 }
 
 // The lowest blocked position whose word has a cell; n where there is none.
+#[tactic(auto, using(crate::proofs::Judged::barred_search), unfolding(theory::specs::Verdict::lowest_barred))]
 fn first_barred(words: &[u32], n: usize, blocked: &[u64; 32], cells: usize) -> usize
     requires { (cells ≤ 32) × (n ≤ most_positions) × (n ≤ length words.now) }
     ensures { result ≡ lowest_barred (bar_net cells n blocked.now) (sends_at words.now) }
 {
-    let mut p = 0;
-    while p < n {
+    for p in 0..n {
         if is_barred(blocked, words[p], p, cells) {
             return p;
         }
-        p += 1;
     }
-    p
+    n
 }
 
 // The same, without a look at the words where no position is blocked.
@@ -198,6 +204,7 @@ fn lowest_barred(words: &[u32], n: usize, blocked: &[u64; 32], cells: usize) -> 
 }
 
 // The verdict on n words: the first blocked position that has a cell, and the lowest cell there, else what is said without them.
+#[tactic(auto, using(checker::proofs::Judged::barred_laws))]
 fn judge(
     words: &[u32],
     n: usize,
@@ -205,33 +212,29 @@ fn judge(
     loads: [u16; 32],
     cells: usize,
     blocked: &[u64; 32],
-) -> CheckAnswer
+) -> Result<(), CheckError>
     requires { (cells ≤ 32) × (n ≤ 2048) × (n ≤ length words.now) }
     ensures { result ≡ verdict_of (table_verdict (net_in cells n loads (bit_in clash.now) (is_open blocked.now)) (sends_at words.now)) }
 {
     let p = lowest_barred(words, n, blocked, cells);
     if p < n {
         let word = words[p];
-        let i = lowest(word, 0, cells);
-        let number = i + 1;
-        return CheckAnswer::Blocked(p, number);
+        return Err(CheckError::Blocked(p, lowest(word, 0, cells) + 1));
     }
     judge_open(words, n, clash, loads, cells)
 }
 
 // Whether words are a valid table for a site; if not, their first cell at a blocked position, else their first clash, else their first wrong count.
 // Refuses a site at fault, then too few words.
-pub fn check_words(site: Site, words: &[u32]) -> CheckAnswer
+#[tactic(auto, using(checker::proofs::Judged::sizes_known), unfolding(crate::specs::Check::check_words_answer))]
+pub fn check_words(site: Site, words: &[u32]) -> Result<(), CheckError>
     ensures { result ≡ check_words_answer site words.now }
 {
-    let fault = site.fault_in();
-    let Fault::Fine = fault else {
-        return CheckAnswer::Refused(fault);
-    };
+    site.accepted()?;
     let cells = site.cells as usize;
     let n = (site.slots as usize) * (site.channels as usize);
     if words.len() < n {
-        return CheckAnswer::TableShort;
+        return Err(CheckError::TableShort);
     }
     let clash = site.clash_rows();
     let loads = site.loads;
@@ -240,50 +243,44 @@ pub fn check_words(site: Site, words: &[u32]) -> CheckAnswer
 }
 
 // What a change of form answers, by what is lent: refuses a site at fault, then a table or words that are too short.
-fn answer_for(site: Site, table: &[u8], words: &[u32]) -> FormAnswer
+#[tactic(auto, using(checker::proofs::Judged::sizes_known), unfolding(crate::specs::Forms::form_answer))]
+fn answer_for(site: Site, table: &[u8], words: &[u32]) -> Result<(), FormError>
     ensures { result ≡ form_answer site table.now words.now }
 {
-    let fault = site.fault_in();
-    let Fault::Fine = fault else {
-        return FormAnswer::Refused(fault);
-    };
+    site.accepted()?;
     let cells = site.cells as usize;
     let n = (site.slots as usize) * (site.channels as usize);
     if table.len() < cells * n {
-        return FormAnswer::TableShort;
+        return Err(FormError::TableShort);
     }
     if words.len() < n {
-        return FormAnswer::TableShort;
+        return Err(FormError::TableShort);
     }
-    FormAnswer::Done
+    Ok(())
 }
 
 // The words of a table. Refuses a site at fault, then a table or words that are too short.
-pub fn to_words(site: Site, table: &[u8], words: &mut [u32]) -> FormAnswer
+#[tactic(auto, using(crate::proofs::Ways::form_known, crate::proofs::Ways::words_refused, crate::proofs::Ways::words_done))]
+pub fn to_words(site: Site, table: &[u8], words: &mut [u32]) -> Result<(), FormError>
     ensures answer { result ≡ form_answer site table.now words.old }
     ensures words { words.new ≡ to_words site table.now words.old }
 {
-    let answer = answer_for(site, table, words);
-    let FormAnswer::Done = answer else {
-        return answer;
-    };
+    answer_for(site, table, words)?;
     let cells = site.cells as usize;
     let n = (site.slots as usize) * (site.channels as usize);
     gather_words(words, table, n, cells);
-    answer
+    Ok(())
 }
 
 // The table of words, with 1 for a reservation and 0 elsewhere. Refuses a site at fault, then a table or words that are too short.
-pub fn to_bytes(site: Site, words: &[u32], table: &mut [u8]) -> FormAnswer
+#[tactic(auto, using(crate::proofs::Ways::form_known, crate::proofs::Ways::bytes_refused, crate::proofs::Ways::bytes_done))]
+pub fn to_bytes(site: Site, words: &[u32], table: &mut [u8]) -> Result<(), FormError>
     ensures answer { result ≡ form_answer site table.old words.now }
     ensures table { table.new ≡ to_bytes site words.now table.old }
 {
-    let answer = answer_for(site, table, words);
-    let FormAnswer::Done = answer else {
-        return answer;
-    };
+    answer_for(site, table, words)?;
     let cells = site.cells as usize;
     let n = (site.slots as usize) * (site.channels as usize);
     scatter(table, words, n, cells);
-    answer
+    Ok(())
 }

@@ -33,16 +33,6 @@ pub fn free_word(vacant: u64, stands: &[u64], row: u32, i: usize) -> u64
     free
 }
 
-// What of one number is more than another.
-fn more_than(load: usize, room: usize) -> usize
-    ensures { result ≡ load - room }
-{
-    if load < room {
-        return 0;
-    }
-    load - room
-}
-
 // What a cell's turn comes to: where it stands, the fragments that found no room, and the number of changes.
 #[derive(Clone, Copy)]
 pub struct WordTurn {
@@ -58,10 +48,10 @@ pub fn word_turn(free: u64, old: u64, load: usize) -> WordTurn
     ensures changes { result.changes ≡ word_moves free old load }
 {
     let kept = first_few(shared(free, old), load);
-    let lacking = more_than(load, bits_in(kept));
+    let lacking = load.saturating_sub(bits_in(kept));
     let rest = without(free, kept);
     let here = either(kept, first_few(rest, lacking));
-    let short = more_than(lacking, bits_in(rest));
+    let short = lacking.saturating_sub(bits_in(rest));
     WordTurn {
         here: here,
         short: short,

@@ -11,7 +11,7 @@ use Rattle.flowlist.specs.declared.Flow.{Flow}
 use Rattle.flowlist.specs.declared.FlowList.{FlowList}
 use Rattle.admission.specs.Admit.{first_bad_in}
 use Rattle.admission.specs.Code.{laid_first}
-use Rattle.admission.specs.declared.AdmitAnswer.TheVariants.{Admitted}
+use Rattle.std.specs.Prelude.{Ok, Err}
 use Rattle.admission.proofs.Arrays.{laid-all, inside}
 use Rattle.admission.proofs.Choosing.{chosen-bad, chosen-set}
 use Rattle.admission.proofs.chosen.Goals as goal
@@ -25,7 +25,7 @@ ask_all-bad-requires c = (c.requires.count_bound.0, refl, refl, refl)
 
 pub returns-then-bad-count : goal.returns-then-bad-count
 returns-then-bad-count c = let a = c.args in
-    c.refusal.ensures
+    ap Err c.refusal.ensures
     ∙ sym (chosen-bad a.cells a.slots (here a.l) a.count a.clash.now a.rooms.now _ c.ask_all-bad.ensures.bad
     c.if-bad-count.true)
 
@@ -53,7 +53,7 @@ returns c =
     let owned : (c.ask_all-bad.new.own) ≡ laid_first (λ k. (here c.args.l k).cell - 1) c.args.count = laid _
     (c.ask_all-bad.new.own) c.ask_all-bad.ensures.cells in
     let a = c.args in
-    ap Admitted
+    ap Ok
     (c.best_set-set.ensures
     ∙ ap (λ (t : List ℕ). best_in a.rooms.now a.clash.now t c.ask_all-bad.new.shares c.ask_all-bad.new.values a.count) owned
     ∙ ap₂ (λ (t u : List ℕ). best_in a.rooms.now a.clash.now (laid_first (λ k. (here a.l k).cell - 1) a.count) t u a.count)

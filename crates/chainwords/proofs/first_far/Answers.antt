@@ -1,5 +1,5 @@
 -- `chainwords::first_far` meets its contract: the search stands at a cell of the word, and what is left gives the answer. Assumes nothing.
-use Prim.Native.Nat.{◌+◌, ◌-◌}
+use Prim.Native.Nat.{◌+◌}
 use mathlib.Core.Bool.{false, ◌&&◌, and-false}
 use mathlib.Core.Path.{◌≡◌, refl, ap, ◌∙◌}
 use native.Mathlib.Omega.{arith}

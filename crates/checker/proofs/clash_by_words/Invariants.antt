@@ -2,7 +2,7 @@
 use mathlib.Core.Path.{◌≡◌}
 use mathlib.Core.Bool.{Bool}
 use mathlib.Core.List.{List}
-use Prim.Native.Nat.{ℕ, ◌-◌, ◌≤◌}
+use Prim.Native.Nat.{ℕ, ◌≤◌}
 use Rattle.laws.specs.Search.{first}
 use Rattle.theory.specs.Greedy.{reserved}
 use Rattle.theory.specs.Verdict.{lowest_clash}
@@ -15,6 +15,3 @@ test table n clash cells = clashing (clash_net cells n clash) (reserved n table)
 abbrev pub invariant-loop-from : goal.invariant-loop-from
 invariant-loop-from l = (l.from ≤ l.n) × (lowest_clash (clash_net l.cells l.n l.clash) (reserved l.n l.table) ≡ first
     (test l.table l.n l.clash l.cells) l.from l.n)
-
-abbrev pub decreases-loop-from : goal.decreases-loop-from
-decreases-loop-from l = l.n - l.from

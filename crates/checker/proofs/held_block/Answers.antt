@@ -1,6 +1,6 @@
 -- `checker::held_block` meets its contract: before cell i, the words have what the cells below it reserve. Assumes nothing.
 use mathlib.Core.Path.{◌≡◌}
-use Prim.Native.Nat.{◌-◌, ◌<◌}
+use Prim.Native.Nat.{◌<◌}
 use native.Mathlib.Omega.{arith}
 use Rattle.laws.proofs.Grid.{row_before}
 use Rattle.checker.proofs.Barred.{no_cells, low-more, high-more}

@@ -1,10 +1,6 @@
 -- `checker::mark_clashes` meets its contract: before cell a, the cells from a on are joined and marked. Assumes nothing.
-use mathlib.Core.Path.{◌≡◌, refl, sym, ◌∙◌}
-use Prim.Native.Nat.{◌+◌, ◌-◌, ◌≤◌, ◌<◌}
-use native.Mathlib.Omega.{arith}
-use lib.ListN.{length}
-use Rattle.laws.proofs.Grid.{row_before}
-use Rattle.laws.proofs.Stores.{sets-long, sets_same}
+use Rattle.std.proofs.Common.{◌≡◌, ◌+◌, ◌-◌, ◌<◌, ◌≤◌, length, sym, ◌∙◌, arith}
+use Rattle.laws.proofs.Stores.{sets_same}
 use Rattle.theory.specs.Greedy.{reserved}
 use Rattle.words.specs.Words.{word_from}
 use Rattle.words.proofs.Words.{from-none}
@@ -14,47 +10,26 @@ use Rattle.checker.proofs.mark_clashes.Goals as goal
 pub loop-a-init : goal.loop-a-init
 loop-a-init c = let a = c.args in
     let z = c.requires.zeros in (
-      omega arith,
-      refl,
-      refl,
       sets_same (λ k. word_from a.cells a.cells (reserved a.n a.table.now) (a.from + k)) a.m a.words.now (omega arith)
           (λ k l. z.0 k l ∙ sym (from-none (λ i. reserved a.n a.table.now i (a.from + k)) a.cells)),
       marks-none a.cells a.n a.clash.now a.table.now a.from a.m a.marks.now z.1,
     )
 
-pub overflow_mul-a : goal.overflow_mul-a
-overflow_mul-a c =
-    let lower : c.loop-a.a - 1 < c.args.cells = omega arith in
-    omega (arith, row_before c.args.n lower)
-
-pub overflow_add-a : goal.overflow_add-a
-overflow_add-a c =
-    let lower : c.loop-a.a - 1 < c.args.cells = omega arith in
-    omega (arith, row_before c.args.n lower)
-
-pub join_row-requires : goal.join_row-requires
-join_row-requires c =
-    let lower : c.loop-a.a - 1 < c.args.cells = omega arith in
-    omega (arith, row_before c.args.n lower)
-
 pub loop-a-preserved : goal.loop-a-preserved
 loop-a-preserved c = let a = c.args in
     let l = c.loop-a in
     let e : l.a ≡ l.a - 1 + 1 = omega arith in
-    let words = rw e at l.invariant.3 in
+    let words = rw e at l.invariant.0 in
     let below : l.a - 1 < a.cells = omega arith in
     let long : a.m ≤ length a.words.now = omega arith in (
-      omega arith,
-      sets-long _ a.m l.words _ c.join_row.ensures.joined ∙ l.invariant.1,
-      sets-long _ a.m l.marks _ c.join_row.ensures.marked ∙ l.invariant.2,
       words_more a.cells a.n a.clash.now a.table.now a.from a.m (l.a - 1) below a.words.now l.words long words
           c.join_row.new.words (omega arith) c.join_row.ensures.joined,
       marks-more a.cells a.n a.clash.now a.table.now a.from a.m (l.a - 1) below a.words.now l.words long words
-          l.marks c.join_row.new.marks (omega arith) (rw e at l.invariant.4) c.join_row.ensures.marked,
+          l.marks c.join_row.new.marks (omega arith) (rw e at l.invariant.1) c.join_row.ensures.marked,
     )
 
 pub returns : goal.returns
 returns c = let a = c.args in
     let l = c.loop-a in
     let e : l.a ≡ 0 = omega arith in
-    marks-all a.cells a.n a.clash.now a.table.now a.from a.m l.marks (rw e at l.invariant.4)
+    marks-all a.cells a.n a.clash.now a.table.now a.from a.m l.marks (rw e at l.invariant.1)

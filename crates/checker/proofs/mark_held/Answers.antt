@@ -1,6 +1,5 @@
 -- `checker::mark_held` meets its contract: before cell i, the positions that a cell below i reserves are marked. Assumes nothing.
 use mathlib.Core.Path.{◌≡◌, refl, ◌∙◌}
-use Prim.Native.Nat.{◌-◌}
 use native.Mathlib.Omega.{arith}
 use Rattle.laws.proofs.Grid.{row_before}
 use Rattle.laws.proofs.Stores.{sets-long}

@@ -65,4 +65,4 @@ returns c = rw (
   ne_eqb _ 34 c.if-byte-eq34.false,
   ne_eqb _ 39 c.if-byte-eq39.false,
 )
-    (put-wide 6 (omega arith) c.put_one.ensures)
+    (put-wide 6 (omega arith) c.put_byte.ensures)

@@ -4,7 +4,6 @@ use mathlib.Core.List.{List}
 use mathlib.Core.Path.{◌≡◌, refl, sym, ap, ◌∙◌}
 use native.Mathlib.Nat.{le_antisymm}
 use native.Mathlib.Numerals.{add-one}
-use native.Mathlib.Omega.{arith}
 use Prim.Native.Nat.{ℕ, suc, ◌+◌}
 use Rattle.std.proofs.Common.{set}
 use Rattle.flowlist.specs.List.{flow_at, no_flows, with_flow, gathered}
@@ -45,12 +44,12 @@ closing fs k m l xs r e g h h' =
     ∙ (ap (λ (j : ℕ). record { list = (gathered fs j).list; count = m }) h ∙ (with-count fs m ∙ ap (gathered fs) h')))
 
 pub loop-i-init : goal.loop-i-init
-loop-i-init c = (omega arith, from-none _ _ c.blank-list.ensures)
+loop-i-init c = from-none _ _ c.blank-list.ensures
 
 pub loop-i-preserved : goal.loop-i-preserved
 loop-i-preserved c =
     let flows = c.args.flows.now in
-    (omega arith, ap (λ (xs : List Flow). set xs c.loop-i.i c.flow_at-f.result) c.loop-i.invariant.1 ∙ one_more flows c.loop-i.i _ c.flow_at-f.ensures)
+    ap (λ (xs : List Flow). set xs c.loop-i.i c.flow_at.result) c.loop-i.invariant ∙ one_more flows c.loop-i.i _ c.flow_at.ensures
 
 pub returns : goal.returns
-returns c = closing _ c.loop-i.i _ _ _ _ c.counted.ensures c.loop-i.invariant.1 (le_antisymm c.loop-i.invariant.0 c.loop-i-test.false) c.limit-n.ensures.2
+returns c = closing _ c.loop-i.i _ _ _ _ c.counted.ensures c.loop-i.invariant (le_antisymm c.loop-i.auto.i-end c.loop-i-test.false) c.min-n.ensures

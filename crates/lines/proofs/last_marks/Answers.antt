@@ -9,18 +9,18 @@ use Rattle.lines.proofs.last_marks.Goals as goal
 
 pub loop-b-init : goal.loop-b-init
 loop-b-init c = let a = c.args in
-    (omega arith, omega arith, begin-row a.s.now a.at a.n, begin-ok a.s.now a.at a.n)
+    (omega arith, begin-row a.s.now a.at a.n, begin-ok a.s.now a.at a.n)
 
 pub overflow_mul-row : goal.overflow_mul-row
 overflow_mul-row c =
     let small : c.loop-b.row < 2147483648 = let a = c.args in
-    rw c.loop-b.invariant.2 (row_fits a.s.now a.at c.loop-b.b a.n (omega arith) (omega arith) (omega arith)) in
+    rw c.loop-b.invariant.1 (row_fits a.s.now a.at c.loop-b.b a.n (omega arith) (omega arith) (omega arith)) in
     omega (arith, small)
 
 pub overflow_add-row : goal.overflow_add-row
 overflow_add-row c =
     let small : c.loop-b.row < 2147483648 = let a = c.args in
-    rw c.loop-b.invariant.2 (row_fits a.s.now a.at c.loop-b.b a.n (omega arith) (omega arith) (omega arith)) in
+    rw c.loop-b.invariant.1 (row_fits a.s.now a.at c.loop-b.b a.n (omega arith) (omega arith) (omega arith)) in
     omega (arith, small, c.one.ensures.upper_bound)
 
 pub loop-b-preserved : goal.loop-b-preserved
@@ -29,17 +29,16 @@ loop-b-preserved c = let a = c.args in
     let m : c.loop-b.b ≤ a.n = omega arith in
     let e : a.at + 2 * (c.loop-b.b - 1) + 1 < length a.s.now = omega arith in (
       omega arith,
-      omega arith,
-      rw c.loop-b.invariant.2 (row_here a.s.now a.at c.loop-b.b a.n _ c.one.ensures.value h m),
-      c.mark_ok-ok.ensures ∙ rw c.loop-b.invariant.3 (ok_step a.s.now a.at c.loop-b.b a.n h m e),
+      rw c.loop-b.invariant.1 (row_here a.s.now a.at c.loop-b.b a.n _ c.one.ensures.value h m),
+      c.mark_ok-ok.ensures ∙ rw c.loop-b.invariant.2 (ok_step a.s.now a.at c.loop-b.b a.n h m e),
     )
 
 pub returns-then-ok : goal.returns-then-ok
 returns-then-ok c = let a = c.args in
     let z : a.from ≡ c.loop-b.b = omega arith in
-    rw z (few-good a.s.now a.at c.loop-b.b a.n c.loop-b.row c.loop-b.ok c.loop-b.invariant.2 c.loop-b.invariant.3 c.if-ok.true)
+    rw z (few-good a.s.now a.at c.loop-b.b a.n c.loop-b.row c.loop-b.ok c.loop-b.invariant.1 c.loop-b.invariant.2 c.if-ok.true)
 
 pub returns : goal.returns
 returns c = let a = c.args in
     let z : a.from ≡ c.loop-b.b = omega arith in
-    rw z (few-bad a.s.now a.at c.loop-b.b a.n c.loop-b.ok c.loop-b.invariant.3 c.if-ok.false)
+    rw z (few-bad a.s.now a.at c.loop-b.b a.n c.loop-b.ok c.loop-b.invariant.2 c.if-ok.false)

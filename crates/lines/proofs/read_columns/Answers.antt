@@ -9,7 +9,7 @@ use Rattle.lines.proofs.Heads.{column-eaten, columns-stop, columns-step, columns
 use Rattle.lines.proofs.read_columns.Goals as goal
 
 pub loop-k-init : goal.loop-k-init
-loop-k-init c = (omega arith, columns-begin c.args.s.now (omega arith) c.args.at, refl)
+loop-k-init c = (columns-begin c.args.s.now (omega arith) c.args.at, refl)
 
 pub returns-then-q : goal.returns-then-q
 returns-then-q c =
@@ -17,20 +17,20 @@ returns-then-q c =
     let looked : c.eat_number-q.result ≡ eaten c.args.s.now c.loop-k.p
     (column (cell_number c.loop-k.k)) = column-eaten _ shorter _ _ _ _ c.eat-comma.ensures c.eat_number-q.ensures in
     let n = columns-stop _ shorter c.loop-k.p c.loop-k.k _ (omega arith) looked c.if-q.true in
-    columns-end _ shorter _ c.loop-k.p c.loop-k.k c.loop-k.invariant.1 c.loop-k.invariant.2 n
+    columns-end _ shorter _ c.loop-k.p c.loop-k.k c.loop-k.invariant.0 c.loop-k.invariant.1 n
 
 pub loop-k-preserved : goal.loop-k-preserved
 loop-k-preserved c =
     let shorter : length c.args.s.now < nowhere = omega arith in
     let looked : c.eat_number-q.result ≡ eaten c.args.s.now c.loop-k.p
     (column (cell_number c.loop-k.k)) = column-eaten _ shorter _ _ _ _ c.eat-comma.ensures c.eat_number-q.ensures in (
-      omega arith,
-      columns-place _ shorter _ c.loop-k.p c.loop-k.k _ c.loop-k.invariant.1 looked,
-      columns-step _ shorter c.loop-k.p c.loop-k.k _ (omega arith) looked c.if-q.false ∙ c.loop-k.invariant.2,
+      columns-place _ shorter _ c.loop-k.p c.loop-k.k _ c.loop-k.invariant.0 looked,
+      columns-step _ shorter c.loop-k.p c.loop-k.k _ (omega arith) looked c.if-q.false ∙ c.loop-k.invariant.1,
     )
 
 pub returns : goal.returns
 returns c =
     let shorter : length c.args.s.now < nowhere = omega arith in
-    columns-end _ shorter _ c.loop-k.p c.loop-k.k c.loop-k.invariant.1 c.loop-k.invariant.2
-    (columns-full _ shorter c.loop-k.p c.loop-k.k (omega arith))
+    let full : 32 ≡ c.loop-k.k = omega arith in
+    rw full (columns-end _ shorter _ c.loop-k.p c.loop-k.k c.loop-k.invariant.0 c.loop-k.invariant.1
+    (columns-full _ shorter c.loop-k.p c.loop-k.k (omega arith)))

@@ -3,7 +3,7 @@
 use Prim.Native.Nat.{◌≤◌, ◌<◌}
 use mathlib.Core.Bool.{true}
 use mathlib.Core.Path.{◌≡◌, sym, ◌∙◌}
-use lib.ListN.{get_or}
+use lib.ListN.{length, get_or}
 use native.Mathlib.Omega.{arith}
 use Rattle.lines.specs.Content.{more}
 use Rattle.lines.proofs.Numbers.{more-is, scan-end, scan-stop, scan_step}
@@ -41,5 +41,8 @@ loop-next-preserved c =
     )
 
 pub returns : goal.returns
-returns c = let e = scan-end c.args.s.now c.loop-next.value c.loop-next.next
-    (omega arith) in record { value_value = e ∙ c.loop-next.invariant.2; next_value = c.loop-next.invariant.3 }
+returns c = let s = c.args.s.now in
+    let ended : length s ≡ c.loop-next.next = omega arith in record {
+      value_value = scan-end s c.loop-next.value c.loop-next.next (omega arith) ∙ c.loop-next.invariant.2;
+      next_value = ended ∙ c.loop-next.invariant.3;
+    }

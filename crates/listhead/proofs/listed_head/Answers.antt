@@ -8,15 +8,15 @@ use Rattle.listhead.proofs.listed_head.Goals as goal
 
 pub site_head-requires : goal.site_head-requires
 site_head-requires c = let known = c.shared_slice_known-1.given in record {
-  site_value = accepted-fine c.args.file.now c.read_site-read.ensures c.in-Done.is
+  site_value = accepted-fine c.args.file.now c.read_site-read.ensures c.in-Ok.is
       (λ k. omega (arith, known k));
   in_bounds = c.requires;
 }
 
-pub returns-in-Refused : goal.returns-in-Refused
-returns-in-Refused c = let a = c.args in
+pub returns-in-Err : goal.returns-in-Err
+returns-in-Err c = let a = c.args in
     let e = c.read_site-read.ensures in
-    let d = c.in-Refused.is in
+    let d = c.in-Err.is in
     let k = c.put_line-end.ensures in record {
       stored = k.stored ∙ ap (sets a.out.now 0) (refused-head a.file.now e d);
       table = refused-table a.file.now e d a.table.now;
@@ -31,10 +31,10 @@ returns-in-Refused c = let a = c.args in
       };
     }
 
-pub returns-in-Done : goal.returns-in-Done
-returns-in-Done c = let a = c.args in
+pub returns-in-Ok : goal.returns-in-Ok
+returns-in-Ok c = let a = c.args in
     let e = c.read_site-read.ensures in
-    let d = c.in-Done.is in record {
+    let d = c.in-Ok.is in record {
       stored = c.site_head.ensures.stored ∙ ap (sets a.out.now 0) (accepted-head a.file.now e d);
       table = c.site_head.ensures.table ∙ accepted-table a.file.now e d a.table.now;
       rest = c.site_head.ensures.rest ∙ accepted-rest a.file.now e d;

@@ -14,9 +14,6 @@ use Rattle.listhead.specs.Parts.{site_rest}
 use Rattle.listhead.proofs.Heading.{no_more}
 use Rattle.listhead.proofs.site_head.Goals as goal
 
-pub overflow_mul-width : goal.overflow_mul-width
-overflow_mul-width c = omega (arith, few-positions (fine-sized c.args.site c.requires.site_value))
-
 pub returns : goal.returns
 unfolding head_lines site_rest
 returns c =

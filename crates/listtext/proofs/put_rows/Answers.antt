@@ -15,7 +15,7 @@ use Rattle.listtext.proofs.put_rows.Goals as goal
 
 pub loop-i-init : goal.loop-i-init
 unfolding cell_lines
-loop-i-init c = (omega arith, refl, refl, sym (add-zero _))
+loop-i-init c = (refl, sym (add-zero _))
 
 pub row_line-n-requires : goal.row_line-n-requires
 row_line-n-requires c = let l = c.loop-i in
@@ -30,28 +30,22 @@ row_line-n-requires c = let l = c.loop-i in
     }
 
 pub slice_bounds-put_text-end : goal.slice_bounds-put_text-end
-slice_bounds-put_text-end c =
-    let room : 24576 ≤ length c.loop-i.line = omega (arith, c.requires.in_bounds, c.loop-i.invariant.1) in
-    put-inside c.row_line-n.ensures room
+slice_bounds-put_text-end c = put-inside c.row_line-n.ensures (omega (arith, c.requires.in_bounds, c.loop-i.auto.line))
 
 pub slice_bounds-put_text-end-in-loop-i : goal.slice_bounds-put_text-end-in-loop-i
-slice_bounds-put_text-end-in-loop-i c =
-    let room : 24576 ≤ length c.loop-i.line = omega (arith, c.requires.in_bounds, c.loop-i.invariant.1) in
-    put_whole c.row_line-n.ensures room
+slice_bounds-put_text-end-in-loop-i c = put_whole c.row_line-n.ensures (omega (arith, c.requires.in_bounds, c.loop-i.auto.line))
 
 pub put_text-next-requires : goal.put_text-next-requires
-put_text-next-requires c =
-    let room : 24576 ≤ length c.loop-i.line = omega (arith, c.requires.in_bounds, c.loop-i.invariant.1) in
-    let a = c.args in
+put_text-next-requires c = let a = c.args in
     let i = c.loop-i.i in
     let lines = cell_lines a.channels a.width a.table.now 0 i in
     let line = cell_listed (i + 1) a.channels (row_at a.width a.table.now i) in
     omega (
       arith,
-      put_whole c.row_line-n.ensures room,
+      put_whole c.row_line-n.ensures (omega (arith, c.requires.in_bounds, c.loop-i.auto.line)),
       put-end c.row_line-n.ensures,
-      c.loop-i.invariant.3,
-      ap length c.loop-i.invariant.2,
+      c.loop-i.invariant.1,
+      ap length c.loop-i.invariant.0,
       length-sets a.out.now a.at lines,
       ap length (line-more a.channels a.width a.table.now i),
       length-append lines line,
@@ -60,31 +54,20 @@ put_text-next-requires c =
     )
 
 pub loop-i-preserved : goal.loop-i-preserved
-loop-i-preserved c =
-    let room : 24576 ≤ length c.loop-i.line = omega (arith, c.requires.in_bounds, c.loop-i.invariant.1) in
-    let a = c.args in
+loop-i-preserved c = let a = c.args in
     let i = c.loop-i.i in
     let lines = cell_lines a.channels a.width a.table.now 0 i in
     let line = cell_listed (i + 1) a.channels (row_at a.width a.table.now i) in
-    let kept = put-kept c.row_line-n.ensures room in
+    let kept = put-kept c.row_line-n.ensures (omega (arith, c.requires.in_bounds, c.loop-i.auto.line)) in
     let more = line-more a.channels a.width a.table.now i in (
-      omega arith,
-      c.row_line-n.auto.out ∙ c.loop-i.invariant.1,
       c.put_text-next.ensures.stored
           ∙ ap (sets c.loop-i.out c.loop-i.next) kept
-          ∙ rw (c.loop-i.invariant.2, c.loop-i.invariant.3) (sym (sets-append a.out.now a.at lines line))
+          ∙ rw (c.loop-i.invariant.0, c.loop-i.invariant.1) (sym (sets-append a.out.now a.at lines line))
           ∙ ap (sets a.out.now a.at) (sym more),
-      omega (arith, c.put_text-next.ensures.next, ap length kept, c.loop-i.invariant.3, ap length more, length-append lines line),
+      omega (arith, c.put_text-next.ensures.next, ap length kept, c.loop-i.invariant.1, ap length more, length-append lines line),
     )
-
-pub shape_of-out : goal.shape_of-out
-shape_of-out c = let a = c.args in
-    ap length c.loop-i.invariant.2 ∙ length-sets a.out.now a.at (cell_lines a.channels a.width a.table.now 0 c.loop-i.i)
-
-pub shape_of-line : goal.shape_of-line
-shape_of-line c = c.loop-i.invariant.1
 
 pub returns : goal.returns
 returns c = let a = c.args in
     let e : c.loop-i.i ≡ a.rows = omega arith in
-    c.loop-i.invariant.2 ∙ ap (λ (k : ℕ). sets a.out.now a.at (cell_lines a.channels a.width a.table.now 0 k)) e
+    c.loop-i.invariant.0 ∙ ap (λ (k : ℕ). sets a.out.now a.at (cell_lines a.channels a.width a.table.now 0 k)) e

@@ -13,7 +13,7 @@ use Rattle.listtext.proofs.rows_len.Goals as goal
 
 pub loop-i-init : goal.loop-i-init
 unfolding cell_lines
-loop-i-init c = (omega arith, refl, refl, omega arith)
+loop-i-init c = (refl, omega arith)
 
 pub row_line-n-requires : goal.row_line-n-requires
 row_line-n-requires c = let l = c.loop-i in
@@ -29,7 +29,7 @@ row_line-n-requires c = let l = c.loop-i in
 
 pub overflow_add-n : goal.overflow_add-n
 overflow_add-n c = let r = c.row_line-n.ensures in
-    omega (arith, c.loop-i.invariant.3, put-end r, r.short, c.requires.rows_bound.0, c.loop-i.invariant.0)
+    omega (arith, c.loop-i.invariant.1, put-end r, r.short, c.requires.rows_bound.0, c.loop-i-test.true)
 
 pub loop-i-preserved : goal.loop-i-preserved
 loop-i-preserved c = let a = c.args in
@@ -38,16 +38,11 @@ loop-i-preserved c = let a = c.args in
     let lines = cell_lines a.channels a.width a.table.now 0 i in
     let line = cell_listed (i + 1) a.channels (row_at a.width a.table.now i) in
     let more = ap length (line-more a.channels a.width a.table.now i) in (
-      omega arith,
-      c.row_line-n.auto.out ∙ c.loop-i.invariant.1,
-      omega (arith, e, more, c.loop-i.invariant.2, length-append lines line),
-      omega (arith, e, c.row_line-n.ensures.short, c.loop-i.invariant.3),
+      omega (arith, e, more, c.loop-i.invariant.0, length-append lines line),
+      omega (arith, e, c.row_line-n.ensures.short, c.loop-i.invariant.1),
     )
-
-pub shape_of-line : goal.shape_of-line
-shape_of-line c = c.loop-i.invariant.1
 
 pub returns : goal.returns
 returns c = let a = c.args in
     let e : c.loop-i.i ≡ a.rows = omega arith in
-    (c.loop-i.invariant.2 ∙ ap (λ (k : ℕ). length (cell_lines a.channels a.width a.table.now 0 k)) e, omega (arith, c.loop-i.invariant.3))
+    (c.loop-i.invariant.0 ∙ ap (λ (k : ℕ). length (cell_lines a.channels a.width a.table.now 0 k)) e, omega (arith, c.loop-i.invariant.1))

@@ -1,6 +1,5 @@
 -- `loads::loaded_in` meets its contract: before cell i, the word of the cells below i that are loaded. Assumes nothing.
 use mathlib.Core.Path.{sym, ap, ap₂, ◌∙◌}
-use Prim.Native.Nat.{◌-◌}
 use native.Mathlib.Omega.{arith}
 use lib.Bits.{bit_or}
 use Rattle.laws.specs.Choice.{pick}

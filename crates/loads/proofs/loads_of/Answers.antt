@@ -1,7 +1,7 @@
 -- `loads::loads_of` meets its contract: when the loop stands at cell j of the word, the loads of the cells below j are summed,
 -- since those passed over add nothing.
 -- Assumes nothing.
-use Prim.Native.Nat.{ℕ, ◌+◌, ◌-◌, ◌≤◌, ◌<◌}
+use Prim.Native.Nat.{ℕ, ◌+◌, ◌≤◌, ◌<◌}
 use mathlib.Core.Bool.{true}
 use mathlib.Core.List.{List}
 use mathlib.Core.Path.{◌≡◌, sym, ap, ◌∙◌}
@@ -39,24 +39,22 @@ reached loads word k j l e =
           ∙ sum_first (adds loads word) (bit_at word) k 32 (λ i no. ap (λ t. pick t (get_or loads i 0) 0) no);
     }
 
-pub loop-j-init : goal.loop-j-init
+pub loop-member-init : goal.loop-member-init
 unfolding sum
-loop-j-init c = let args = c.args in
+loop-member-init c = let args = c.args in
     let r = reached args.loads.now args.word 0 c.lowest-j.result (omega arith) c.lowest-j.ensures in
-    (sym r.same, omega arith, omega arith, r.most, r.has)
+    (sym r.same, omega arith, r.most, r.has)
 
-pub loop-j-smaller : goal.loop-j-smaller
-loop-j-smaller c =
-    let onward : Reached c.args.loads.now c.args.word (c.loop-j.j + 1) c.lowest-j-in-loop-j.result = reached _ _ _ _
-    (omega arith) c.lowest-j-in-loop-j.ensures in
-    omega (arith, onward.least)
+pub returns-then-j-ge32 : goal.returns-then-j-ge32
+returns-then-j-ge32 c = let e : c.loop-member.j ≡ 32 = omega (arith, c.loop-member.invariant.2, c.if-j-ge32.true) in
+    (c.loop-member.invariant.0 ∙ ap (loads_below c.args.loads.now c.args.word) e, omega arith)
 
-pub loop-j-preserved : goal.loop-j-preserved
-loop-j-preserved c =
-    let onward : Reached c.args.loads.now c.args.word (c.loop-j.j + 1) c.lowest-j-in-loop-j.result = reached _ _ _ _
-    (omega arith) c.lowest-j-in-loop-j.ensures in
+pub loop-member-preserved : goal.loop-member-preserved
+loop-member-preserved c =
+    let onward : Reached c.args.loads.now c.args.word (c.loop-member.j + 1) c.lowest-j-in-loop-member.result = reached _ _ _ _
+    (omega arith) c.lowest-j-in-loop-member.ensures in
     let args = c.args in
     let r = onward in
-    let here : adds args.loads.now args.word c.loop-j.j ≡ c.wide-sum.result =
-    ap (λ t. pick t (get_or args.loads.now c.loop-j.j 0) 0) (c.loop-j.invariant.4 (omega arith)) ∙ sym c.wide-sum.ensures.0 in
-    (omega (arith, r.same, sum_more (adds args.loads.now args.word) c.loop-j.j, c.loop-j.invariant.0), omega arith, omega arith, r.most, r.has)
+    let here : adds args.loads.now args.word c.loop-member.j ≡ c.wide-sum.result =
+    ap (λ t. pick t (get_or args.loads.now c.loop-member.j 0) 0) (c.loop-member.invariant.3 (omega arith)) ∙ sym c.wide-sum.ensures.0 in
+    (omega (arith, r.same, sum_more (adds args.loads.now args.word) c.loop-member.j, c.loop-member.invariant.0), omega arith, r.most, r.has)

@@ -1,5 +1,5 @@
 -- `loads::loads_of_many` meets its contract: before cell j, the loads of the cells below j, each at most 65,535. Assumes nothing.
-use Prim.Native.Nat.{ℕ, ◌+◌, ◌-◌}
+use Prim.Native.Nat.{ℕ, ◌+◌}
 use mathlib.Core.Path.{refl, ap₂}
 use native.Mathlib.Omega.{arith}
 use lib.ListN.{get_or}

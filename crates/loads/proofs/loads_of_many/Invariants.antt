@@ -1,7 +1,6 @@
 -- `loads::loads_of_many` meets its contract: before cell j, the loads of the cells below j, each at most 65,535. Assumes nothing.
 use Prim.Native.Nat.{◌-◌, ◌*◌, ◌≤◌}
 use mathlib.Core.Path.{◌≡◌}
-use Rattle.laws.specs.Sum.{sum}
 use Rattle.loads.specs.Loads.{loads_below}
 use Rattle.loads.proofs.loads_of_many.Given as goal
 

@@ -1,7 +1,7 @@
 -- `mender::store_all` meets its contract: at the head of the loop the changes of the cells below j are stored. A row's changes fit the list, since a cell has
 -- at most as many as its words have positions. Assumes nothing.
 use mathlib.Core.Path.{◌≡◌, refl, ◌∙◌}
-use Prim.Native.Nat.{◌-◌, ◌*◌, ◌<◌}
+use Prim.Native.Nat.{◌*◌, ◌<◌}
 use native.Mathlib.Omega.{arith}
 use Rattle.laws.proofs.Grid.{row_before}
 use Rattle.laws.proofs.Sums.{count_most}

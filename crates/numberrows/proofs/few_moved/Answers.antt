@@ -1,6 +1,6 @@
 -- `numberrows::few_moved` meets its contract: the rows below a are stored, each from the old number and with its bits moved. Assumes nothing.
 use mathlib.Core.Path.{◌≡◌, refl, ap, ◌∙◌}
-use Prim.Native.Nat.{ℕ, ◌-◌}
+use Prim.Native.Nat.{ℕ}
 use native.Mathlib.Omega.{arith}
 use lib.ListN.{length-set, get_or}
 use Rattle.laws.specs.Bits.{bit_at, word_of}

@@ -1,6 +1,6 @@
 -- `numberrows::moved_bits` meets its contract: before cell b, the bits of the cells below b are moved. Assumes nothing.
 use mathlib.Core.Path.{◌≡◌, sym, ap₂, ◌∙◌}
-use Prim.Native.Nat.{◌-◌, ◌^◌}
+use Prim.Native.Nat.{◌^◌}
 use native.Mathlib.Omega.{arith}
 use lib.Bits.{bit_or}
 use Rattle.laws.specs.Bits.{bit_at}

@@ -1,6 +1,6 @@
 -- `numberrows::moved_words` meets its contract: the elements below a are stored, each from the old number. Assumes nothing.
 use mathlib.Core.Path.{◌≡◌, refl, ap, ◌∙◌}
-use Prim.Native.Nat.{ℕ, ◌-◌}
+use Prim.Native.Nat.{ℕ}
 use native.Mathlib.Omega.{arith}
 use lib.ListN.{length-set, get_or}
 use Rattle.laws.proofs.Stores.{sets-none}

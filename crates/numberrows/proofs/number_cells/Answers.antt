@@ -1,129 +1,50 @@
 -- `numberrows::number_cells` meets its contract: the numbers that are left to give, from the two arrays as they are, come to the whole numbering, and
 -- the bits of `left` are the cells with no number. Assumes nothing.
-use mathlib.Core.Path.{◌≡◌, refl, sym, ap, ◌∙◌}
-use mathlib.Core.Bool.{◌&&◌, not}
-use Prim.Native.Nat.{ℕ, ◌-◌, ◌≤◌, ◌<◌}
-use native.Mathlib.Omega.{arith}
+use Rattle.std.proofs.Common.{arith, ℕ, ◌≡◌, ◌+◌, ◌-◌, ◌≤◌, List, refl, sym, ap, ◌∙◌, not, ◌&&◌}
 use lib.ListN.{length-set}
 use Rattle.laws.proofs.Bits.{one_shl}
 use Rattle.laws.specs.Bits.{bit_in, word_of, bit_at}
-use Rattle.renumbering.specs.Numbering.{last, fit, numbering}
+use Rattle.renumbering.specs.Numbering.{unnumbered, last, fit, numbering}
 use Rattle.renumbering.proofs.Turns.{last-most, give-end, give-none, give-next}
 use Rattle.numberrows.specs.Numbers.{numbers_of}
+use Rattle.numberrows.specs.Words.{fit_in}
 use Rattle.numberrows.proofs.Words.{highest-same, all_there, one_out}
 use Rattle.numberrows.proofs.number_cells.Goals as goal
 
-pub low_bits-left-requires : goal.low_bits-left-requires
-low_bits-left-requires c = c.requires
+-- the cell that the code finds is the definition's
+found : (rows : List ℕ) (n : ℕ) (new : List ℕ) (left : ℕ) {h : ℕ} → n ≤ 32 → left ≡ word_of (unnumbered new) n → h ≡ last (fit_in rows left) n
+    → last (fit (bit_in rows) n new) n ≡ h
+found rows n new left few is e = sym (e ∙ highest-same rows n few new left is)
 
 pub loop-m-init : goal.loop-m-init
 unfolding numbering
-loop-m-init c = (omega arith, refl, refl, c.low_bits-left.ensures ∙ all_there c.args.cells, refl)
-
-pub highest_fit-h-requires : goal.highest_fit-h-requires
-highest_fit-h-requires c = c.requires
+loop-m-init c = (refl, refl, c.low_bits-left.ensures ∙ all_there c.args.cells, refl)
 
 pub returns-then-h-eq0 : goal.returns-then-h-eq0
-returns-then-h-eq0 c =
-    let found : let args = c.args in c.highest_fit-h.result ≡ last (fit (bit_in args.rows.now) args.cells c.loop-m.new) args.cells = let args = c.args in
-    c.highest_fit-h.ensures ∙ highest-same args.rows.now args.cells c.requires c.loop-m.new c.loop-m.left c.loop-m.invariant.3 in
-    let args = c.args in
-    let none : last (fit (bit_in args.rows.now) args.cells c.loop-m.new) args.cells ≡ 0 = sym found ∙ c.if-h-eq0.true in
-    sym (ap numbers_of (c.loop-m.invariant.4 ∙ give-none (bit_in args.rows.now) args.cells c.loop-m.m c.loop-m.new c.loop-m.old (omega arith) none))
-
-pub overflow_sub-i : goal.overflow_sub-i
-overflow_sub-i c = omega arith
-
-pub overflow_cast-new : goal.overflow_cast-new
-overflow_cast-new c = omega arith
-
-pub offset_bounds-new-i : goal.offset_bounds-new-i
-offset_bounds-new-i c =
-    let found : let args = c.args in c.highest_fit-h.result ≡ last (fit (bit_in args.rows.now) args.cells c.loop-m.new) args.cells = let args = c.args in
-    c.highest_fit-h.ensures ∙ highest-same args.rows.now args.cells c.requires c.loop-m.new c.loop-m.left c.loop-m.invariant.3 in
-    let low : (0 < c.highest_fit-h.result) × (c.highest_fit-h.result ≤ 32) = let args = c.args in
-    let most : c.highest_fit-h.result ≤ args.cells
-    = rw found (last-most (fit (bit_in args.rows.now) args.cells c.loop-m.new) args.cells) in
-    (omega arith, omega arith) in
-    omega (arith, low)
-
-pub bounds-new-i : goal.bounds-new-i
-bounds-new-i c =
-    let found : let args = c.args in c.highest_fit-h.result ≡ last (fit (bit_in args.rows.now) args.cells c.loop-m.new) args.cells = let args = c.args in
-    c.highest_fit-h.ensures ∙ highest-same args.rows.now args.cells c.requires c.loop-m.new c.loop-m.left c.loop-m.invariant.3 in
-    let low : (0 < c.highest_fit-h.result) × (c.highest_fit-h.result ≤ 32) = let args = c.args in
-    let most : c.highest_fit-h.result ≤ args.cells
-    = rw found (last-most (fit (bit_in args.rows.now) args.cells c.loop-m.new) args.cells) in
-    (omega arith, omega arith) in
-    omega (arith, low)
-
-pub overflow_cast-old : goal.overflow_cast-old
-overflow_cast-old c =
-    let found : let args = c.args in c.highest_fit-h.result ≡ last (fit (bit_in args.rows.now) args.cells c.loop-m.new) args.cells = let args = c.args in
-    c.highest_fit-h.ensures ∙ highest-same args.rows.now args.cells c.requires c.loop-m.new c.loop-m.left c.loop-m.invariant.3 in
-    let low : (0 < c.highest_fit-h.result) × (c.highest_fit-h.result ≤ 32) = let args = c.args in
-    let most : c.highest_fit-h.result ≤ args.cells
-    = rw found (last-most (fit (bit_in args.rows.now) args.cells c.loop-m.new) args.cells) in
-    (omega arith, omega arith) in
-    omega (arith, low)
-
-pub overflow_sub-old : goal.overflow_sub-old
-overflow_sub-old c = omega arith
-
-pub offset_bounds-old-m : goal.offset_bounds-old-m
-offset_bounds-old-m c = omega arith
-
-pub bounds-old-m : goal.bounds-old-m
-bounds-old-m c = omega arith
-
-pub overflow_cast-i : goal.overflow_cast-i
-overflow_cast-i c =
-    let found : let args = c.args in c.highest_fit-h.result ≡ last (fit (bit_in args.rows.now) args.cells c.loop-m.new) args.cells = let args = c.args in
-    c.highest_fit-h.ensures ∙ highest-same args.rows.now args.cells c.requires c.loop-m.new c.loop-m.left c.loop-m.invariant.3 in
-    let low : (0 < c.highest_fit-h.result) × (c.highest_fit-h.result ≤ 32) = let args = c.args in
-    let most : c.highest_fit-h.result ≤ args.cells
-    = rw found (last-most (fit (bit_in args.rows.now) args.cells c.loop-m.new) args.cells) in
-    (omega arith, omega arith) in
-    omega (arith, low)
-
-pub overflow_shl-i : goal.overflow_shl-i
-overflow_shl-i c =
-    let found : let args = c.args in c.highest_fit-h.result ≡ last (fit (bit_in args.rows.now) args.cells c.loop-m.new) args.cells = let args = c.args in
-    c.highest_fit-h.ensures ∙ highest-same args.rows.now args.cells c.requires c.loop-m.new c.loop-m.left c.loop-m.invariant.3 in
-    let low : (0 < c.highest_fit-h.result) × (c.highest_fit-h.result ≤ 32) = let args = c.args in
-    let most : c.highest_fit-h.result ≤ args.cells
-    = rw found (last-most (fit (bit_in args.rows.now) args.cells c.loop-m.new) args.cells) in
-    (omega arith, omega arith) in
-    omega (arith, low)
-
-pub overflow_sub-m : goal.overflow_sub-m
-overflow_sub-m c = omega arith
-
-pub loop-m-smaller : goal.loop-m-smaller
-loop-m-smaller c = omega arith
+returns-then-h-eq0 c = let args = c.args in
+    let l = c.loop-m in
+    let none = found args.rows.now args.cells l.new l.left c.requires l.invariant.2 c.highest_fit-h.ensures ∙ c.if-h-eq0.true in
+    sym (ap numbers_of (l.invariant.3 ∙ give-none (bit_in args.rows.now) args.cells l.m l.new l.old c.loop-m-test.true none))
 
 pub loop-m-preserved : goal.loop-m-preserved
-loop-m-preserved c =
-    let found : let args = c.args in c.highest_fit-h.result ≡ last (fit (bit_in args.rows.now) args.cells c.loop-m.new) args.cells = let args = c.args in
-    c.highest_fit-h.ensures ∙ highest-same args.rows.now args.cells c.requires c.loop-m.new c.loop-m.left c.loop-m.invariant.3 in
-    let low : (0 < c.highest_fit-h.result) × (c.highest_fit-h.result ≤ 32) = let args = c.args in
-    let most : c.highest_fit-h.result ≤ args.cells
-    = rw found (last-most (fit (bit_in args.rows.now) args.cells c.loop-m.new) args.cells) in
-    (omega arith, omega arith) in
-    let args = c.args in
-    let h = c.highest_fit-h.result in (
-      omega arith,
-      simp length-set c.loop-m.invariant.1,
-      simp length-set c.loop-m.invariant.2,
-      one_out args.cells c.loop-m.new c.loop-m.left (h - 1) c.loop-m.m c.apart-left.result c.requires (omega (arith, low))
-          (omega arith) c.loop-m.invariant.3
+loop-m-preserved c = let args = c.args in
+    let l = c.loop-m in
+    let h = c.highest_fit-h.result in
+    let low : h ≤ 32 = omega (arith, last-most (fit_in args.rows.now l.left) args.cells) in
+    let number : l.m - 1 + 1 ≡ l.m = omega arith in (
+      simp length-set l.invariant.0,
+      simp length-set l.invariant.1,
+      one_out args.cells l.new l.left (h - 1) (l.m - 1 + 1) c.apart-left.result c.requires (omega (arith, low)) (omega arith) l.invariant.2
           (c.apart-left.ensures.0
-          ∙ ap (λ (x : ℕ). word_of (λ b. bit_at c.loop-m.left b && not (bit_at x b)) 32) (one_shl (h - 1) (omega (arith, low))))
+          ∙ ap (λ (x : ℕ). word_of (λ b. bit_at l.left b && not (bit_at x b)) 32) (one_shl (h - 1) (omega (arith, low))))
           c.apart-left.ensures.1,
-      c.loop-m.invariant.4
-          ∙ give-next (bit_in args.rows.now) args.cells c.loop-m.m c.loop-m.new c.loop-m.old h (omega arith) (omega arith) (sym found),
+      rw number
+          (l.invariant.3
+          ∙ give-next (bit_in args.rows.now) args.cells l.m l.new l.old h (omega arith) (omega arith)
+          (found args.rows.now args.cells l.new l.left c.requires l.invariant.2 c.highest_fit-h.ensures)),
     )
 
 pub returns : goal.returns
 returns c = let args = c.args in
-    sym (ap numbers_of (c.loop-m.invariant.4 ∙ give-end (bit_in args.rows.now) args.cells c.loop-m.m c.loop-m.new c.loop-m.old (omega arith)))
+    let l = c.loop-m in
+    sym (ap numbers_of (l.invariant.3 ∙ give-end (bit_in args.rows.now) args.cells l.m l.new l.old c.loop-m-test.false))

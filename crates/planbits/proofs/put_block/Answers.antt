@@ -1,10 +1,11 @@
 -- `planbits::put_block` meets its contract: what each pass leaves are the numbers of twice as many table bytes as what it was given. Assumes nothing.
 use Prim.Native.Nat.{◌+◌, ◌*◌}
-use mathlib.Core.Path.{ap, ◌∙◌}
+use mathlib.Core.Path.{◌≡◌, sym, ap, ◌∙◌}
 use native.Mathlib.Omega.{arith}
-use lib.Seq.{sets}
+use lib.ListN.{length}
+use lib.Seq.{sets, take_all}
 use Rattle.planbits.specs.Block.{Runs}
-use Rattle.planbits.proofs.Block.{runs-below, join, runs-packed}
+use Rattle.planbits.proofs.Block.{runs-below, join, runs-packed, copied}
 use Rattle.planbits.proofs.put_block.Goals as goal
 
 pub join_pairs-requires : goal.join_pairs-requires
@@ -41,6 +42,8 @@ returns c =
     let bytes : Runs c.args.table.now (8 * c.args.j) 8 32 c.join_pairs-3.new.out = let a = c.args in
     join a.table.now c.join_pairs-2.new.out c.join_pairs-3.new.out (8 * a.j) 4 32 fours c.join_pairs-3.ensures in
     let a = c.args in
-    c.put_bytes.ensures
+    let v = c.join_pairs-3.new.out in
+    let size : length v ≡ 32 = c.join_pairs-3.auto.out in
+    copied a.out.now v c.copy_from_slice.new.self (a.at + a.j) size (omega arith) c.copy_from_slice.ensures.after
     ∙ ap (sets a.out.now (a.at + a.j))
-    (runs-packed a.table.now c.join_pairs-3.new.out (8 * a.j) 32 (omega (arith, c.join_pairs-3.auto.out)) bytes)
+    (sym (take_all 32 v (omega (arith, size))) ∙ runs-packed a.table.now v (8 * a.j) 32 (omega (arith, size)) bytes)

@@ -1,14 +1,8 @@
 -- `planbits::unpack_blocks` meets its contract. The invariant: to store the bits that are left from block j on makes the table. Assumes nothing.
-use Prim.Native.Nat.{◌-◌, ◌*◌, ◌≤◌}
-use mathlib.Core.Path.{◌≡◌}
-use lib.ListN.{length}
+use Rattle.std.specs.Prelude.{◌≡◌, ◌-◌, ◌*◌}
 use lib.Seq.{sets}
 use Rattle.planbits.specs.Bits.{bits_from}
 use Rattle.planbits.proofs.unpack_blocks.Given as goal
 
 abbrev pub invariant-loop-j : goal.invariant-loop-j
-invariant-loop-j l = (l.j ≤ l.b) × (length l.table ≡ length l.initial.table) ×
-    (sets l.table (256 * l.j) (bits_from l.body (256 * l.j) (256 * (l.b - l.j))) ≡ sets l.initial.table 0 (bits_from l.body 0 (256 * l.b)))
-
-abbrev pub decreases-loop-j : goal.decreases-loop-j
-decreases-loop-j l = l.b - l.j
+invariant-loop-j l = sets l.table (256 * l.j) (bits_from l.body (256 * l.j) (256 * (l.b - l.j))) ≡ sets l.initial.table 0 (bits_from l.body 0 (256 * l.b))

@@ -8,53 +8,54 @@ use Prim.Native.Nat.{ℕ, ◌+◌, ◌≤◌}
 use native.Mathlib.Omega.{arith}
 use lib.ListN.{length, drop, replicate, length-append, length-replicate}
 use borrow.Author.Tests.{le-ltb}
+use Rattle.std.specs.Prelude.{Result, Ok, Err}
 use Rattle.tries.specs.Search.{searched}
 use Rattle.site.specs.Record.{positions, size}
 use Rattle.site.specs.Reach.{net_of}
 use Rattle.site.specs.declared.Site.{Site}
 use Rattle.search.specs.Search.{laid_on, search_answer, search_table}
-use Rattle.search.specs.declared.SearchAnswer.{SearchAnswer}
-use Rattle.search.specs.declared.SearchAnswer.TheVariants.{Plan, Full, Limit, TooMany, TableShort, Refused}
+use Rattle.search.specs.declared.SearchError.{SearchError}
+use Rattle.search.specs.declared.SearchError.TheVariants.{Full, Limit, TooMany, TableShort, Record}
 use Rattle.search.proofs.Right.{with_tries, Sought, sought-says, sought, idle-part, past-kept, not_written, larger}
 use Rattle.search.proofs.Meaning.{four-means, too-many-means, search-refused}
 use Rattle.plandesk.specs.Met.{is_limit}
 
 module _ (s : Site) (limit more : ℕ) (t : List ℕ) where
   -- a refusal does not go by the limit
-  refusal : (a : SearchAnswer) → with_tries a ≡ false → search_answer s limit t ≡ a → search_answer s more t ≡ a
-  refusal (Plan n) h e = absurd (true≢false h)
-  refusal (Full n) h e = absurd (true≢false h)
-  refusal (Limit n) h e = absurd (true≢false h)
-  refusal TooMany h e = (too-many-means s more t).1 ((too-many-means s limit t).0 e)
-  refusal TableShort h e = (four-means s more t).1 ((four-means s limit t).0 e)
-  refusal (Refused f) h e = (search-refused s more t f).1 ((search-refused s limit t f).0 e)
+  refusal : (a : Result ℕ SearchError) → with_tries a ≡ false → search_answer s limit t ≡ a → search_answer s more t ≡ a
+  refusal (Ok n) h e = absurd (true≢false h)
+  refusal (Err (Full n)) h e = absurd (true≢false h)
+  refusal (Err (Limit n)) h e = absurd (true≢false h)
+  refusal (Err TooMany) h e = (too-many-means s more t).1 ((too-many-means s limit t).0 e)
+  refusal (Err TableShort) h e = (four-means s more t).1 ((four-means s limit t).0 e)
+  refusal (Err (Record f)) h e = (search-refused s more t f).1 ((search-refused s limit t f).0 e)
 
-  refused : (a : SearchAnswer) → with_tries a ≡ false → search_answer s limit t ≡ a
+  refused : (a : Result ℕ SearchError) → with_tries a ≡ false → search_answer s limit t ≡ a
       → (search_answer s more t ≡ search_answer s limit t) × (search_table s more t ≡ search_table s limit t)
   refused a h e =
       let f = refusal a h e in
       (f ∙ sym e, not_written s t more (ap with_tries f ∙ h) ∙ sym (not_written s t limit (ap with_tries e ∙ h)))
 
-  by_answer : (a : SearchAnswer) → is_limit a ≡ false → search_answer s limit t ≡ a → limit ≤ more
+  by_answer : (a : Result ℕ SearchError) → is_limit a ≡ false → search_answer s limit t ≡ a → limit ≤ more
       → (search_answer s more t ≡ search_answer s limit t) × (search_table s more t ≡ search_table s limit t)
-  by_answer (Plan n) h e l = larger s t limit n more l (inl e)
-  by_answer (Full n) h e l = larger s t limit n more l (inr e)
-  by_answer (Limit n) h e l = absurd (true≢false h)
-  by_answer TooMany h e l = refused TooMany refl e
-  by_answer TableShort h e l = refused TableShort refl e
-  by_answer (Refused f) h e l = refused (Refused f) refl e
+  by_answer (Ok n) h e l = larger s t limit n more l (inl e)
+  by_answer (Err (Full n)) h e l = larger s t limit n more l (inr e)
+  by_answer (Err (Limit n)) h e l = absurd (true≢false h)
+  by_answer (Err TooMany) h e l = refused (Err TooMany) refl e
+  by_answer (Err TableShort) h e l = refused (Err TableShort) refl e
+  by_answer (Err (Record f)) h e l = refused (Err (Record f)) refl e
 
   pub settled : is_limit (search_answer s limit t) ≡ false → limit ≤ more
       → (search_answer s more t ≡ search_answer s limit t) × (search_table s more t ≡ search_table s limit t)
   settled h l = by_answer (search_answer s limit t) h refl l
 
-  met-is : (a : SearchAnswer) → is_limit a ≡ true → (n : ℕ) × (a ≡ Limit n)
-  met-is (Plan n) h = absurd (true≢false (sym h))
-  met-is (Full n) h = absurd (true≢false (sym h))
-  met-is (Limit n) h = (n, refl)
-  met-is TooMany h = absurd (true≢false (sym h))
-  met-is TableShort h = absurd (true≢false (sym h))
-  met-is (Refused f) h = absurd (true≢false (sym h))
+  met-is : (a : Result ℕ SearchError) → is_limit a ≡ true → (n : ℕ) × (a ≡ Err (Limit n))
+  met-is (Ok n) h = absurd (true≢false (sym h))
+  met-is (Err (Full n)) h = absurd (true≢false (sym h))
+  met-is (Err (Limit n)) h = (n, refl)
+  met-is (Err TooMany) h = absurd (true≢false (sym h))
+  met-is (Err TableShort) h = absurd (true≢false (sym h))
+  met-is (Err (Record f)) h = absurd (true≢false (sym h))
 
   leaves : (v : List ℕ) → Sought s v
       → search_table s more v ≡ laid_on (positions s) (searched (net_of s) more) (replicate (size s) 0) ++ drop (size s) v
@@ -65,7 +66,7 @@ module _ (s : Site) (limit more : ℕ) (t : List ℕ) where
       → (search_answer s more (search_table s limit t) ≡ search_answer s more t) × (search_table s more (search_table s limit t) ≡ search_table s more t)
   resumed h =
       let m = met-is (search_answer s limit t) h in
-      let g = (sought s t limit (Limit m.0) m.1 refl).0 in
+      let g = (sought s t limit (Err (Limit m.0)) m.1 refl).0 in
       let u = search_table s limit t in
       let is : u ≡ replicate (size s) 0 ++ drop (size s) t = idle-part s t limit m.0 (inr m.1) in
       let long : length u ≡ size s + length (drop (size s) t)

@@ -8,8 +8,9 @@ use lib.Seq.{sets}
 use Rattle.records.specs.Opener.{open_at, open_answer}
 use Rattle.records.specs.Head.{entries_of_head}
 use Rattle.records.specs.declared.Length.TheVariants.{Exact}
-use Rattle.records.specs.declared.Opened.TheVariants.{Body}
-use Rattle.records.specs.declared.ReadAnswer.TheVariants.{Done, Refused}
+use Rattle.std.specs.Prelude.{Ok, Err}
+use Rattle.records.specs.Reasons.{refusal}
+use Rattle.records.specs.declared.Refusal.{Refusal}
 use Rattle.records.specs.Bits.{bytes_for, left_over}
 use Rattle.planbits.specs.Bits.{bits_from}
 use Rattle.planfile.specs.Read.{plan_at, body_in, end_in, refused_plan}
@@ -39,7 +40,7 @@ returns-in_default c =
     (Exact (2 + bytes_for (entries_of_head s))) = let s = c.args.bytes.now in
     c.open-o.ensures ∙ (λ j. open_at s (due s c.args.table.now _ _ _ c.requires j) 4 (Exact (2 + bytes_for (size j)))) in
     let e = c.in_default.is in
-    let r = refuse c.args.bytes.now c.args.table.now _ _ (body-stop c.args.bytes.now c.args.table.now _ _ _ c.requires _ _
+    let r = refuse c.args.bytes.now c.args.table.now _ (body-stop c.args.bytes.now c.args.table.now _ _ _ c.requires _
     (sym plan-open ∙ e)) in record { value = c.refused.ensures ∙ ap refused_plan (c.opened_answer.ensures ∙ ap open_answer e) ∙ r.0; table_after = r.1 }
 
 pub overflow_add-end : goal.overflow_add-end
@@ -50,8 +51,8 @@ overflow_add-end c =
     (Exact (2 + bytes_for (entries_of_head s))) = let s = c.args.bytes.now in
     c.open-o.ensures ∙ (λ j. open_at s (due s c.args.table.now _ _ _ c.requires j) 4 (Exact (2 + bytes_for (size j)))) in
     let found : let s = c.args.bytes.now in open_at s (plan_at s) 4 (Exact (2 + bytes_for (entries_of_head s)))
-    ≡ Body c.in-Body.start c.in-Body.len = sym plan-open ∙ c.in-Body.is in
-    let within-input : c.in-Body.start + c.in-Body.len ≤ length c.args.bytes.now = within c.args.bytes.now c.args.table.now _ _ _ c.requires _ _ found in
+    ≡ Ok (c.in-Ok.start, c.in-Ok.len) = sym plan-open ∙ c.in-Ok.is in
+    let within-input : c.in-Ok.start + c.in-Ok.len ≤ length c.args.bytes.now = within c.args.bytes.now c.args.table.now _ _ _ c.requires _ _ found in
     omega (arith, within-input)
 
 pub slice_bounds-left_over-end : goal.slice_bounds-left_over-end
@@ -62,8 +63,8 @@ slice_bounds-left_over-end c =
     (Exact (2 + bytes_for (entries_of_head s))) = let s = c.args.bytes.now in
     c.open-o.ensures ∙ (λ j. open_at s (due s c.args.table.now _ _ _ c.requires j) 4 (Exact (2 + bytes_for (size j)))) in
     let found : let s = c.args.bytes.now in open_at s (plan_at s) 4 (Exact (2 + bytes_for (entries_of_head s)))
-    ≡ Body c.in-Body.start c.in-Body.len = sym plan-open ∙ c.in-Body.is in
-    let within-input : c.in-Body.start + c.in-Body.len ≤ length c.args.bytes.now = within c.args.bytes.now c.args.table.now _ _ _ c.requires _ _ found in
+    ≡ Ok (c.in-Ok.start, c.in-Ok.len) = sym plan-open ∙ c.in-Ok.is in
+    let within-input : c.in-Ok.start + c.in-Ok.len ≤ length c.args.bytes.now = within c.args.bytes.now c.args.table.now _ _ _ c.requires _ _ found in
     within-input
 
 pub left_over-requires : goal.left_over-requires
@@ -74,7 +75,7 @@ left_over-requires c =
     (Exact (2 + bytes_for (entries_of_head s))) = let s = c.args.bytes.now in
     c.open-o.ensures ∙ (λ j. open_at s (due s c.args.table.now _ _ _ c.requires j) 4 (Exact (2 + bytes_for (size j)))) in
     let found : let s = c.args.bytes.now in open_at s (plan_at s) 4 (Exact (2 + bytes_for (entries_of_head s)))
-    ≡ Body c.in-Body.start c.in-Body.len = sym plan-open ∙ c.in-Body.is in
+    ≡ Ok (c.in-Ok.start, c.in-Ok.len) = sym plan-open ∙ c.in-Ok.is in
     ap length (body_is c.args.bytes.now c.args.table.now _ _ _ c.requires _ _ found)
     ∙ body-long c.args.bytes.now c.args.table.now _ _ _ c.requires _ _ found
     ∙ ap bytes_for (sym size)
@@ -87,16 +88,16 @@ returns-then-left_over c =
     (Exact (2 + bytes_for (entries_of_head s))) = let s = c.args.bytes.now in
     c.open-o.ensures ∙ (λ j. open_at s (due s c.args.table.now _ _ _ c.requires j) 4 (Exact (2 + bytes_for (size j)))) in
     let found : let s = c.args.bytes.now in open_at s (plan_at s) 4 (Exact (2 + bytes_for (entries_of_head s)))
-    ≡ Body c.in-Body.start c.in-Body.len = sym plan-open ∙ c.in-Body.is in
+    ≡ Ok (c.in-Ok.start, c.in-Ok.len) = sym plan-open ∙ c.in-Ok.is in
     let left : let s = c.args.bytes.now in c.left_over.result ≡ left_over (body_in s) (entries_of_head s) = c.left_over.ensures
     ∙ ap (λ (l : List ℕ). left_over l c.entries-n.result)
     (body_is c.args.bytes.now c.args.table.now _ _ _ c.requires _ _ found)
     ∙ ap (λ (n : ℕ). left_over (body_in c.args.bytes.now) n) size in
     let s = c.args.bytes.now in
     let t = c.args.table.now in
-    let r = refuse s t 14 (plan_at s) (left-stop s t _ _ _ c.requires _ _ found
+    let r = refuse s t (refusal 14 (plan_at s)) (left-stop s t _ _ _ c.requires _ _ found
     (sym left ∙ c.if-left_over.true)) in record {
-      value = c.refused-then-left_over.ensures ∙ ap (λ (n : ℕ). refused_plan (Refused 14 n))
+      value = c.refused-then-left_over.ensures ∙ ap (λ (x : Refusal). refused_plan (Err x)) c.refuse.ensures ∙ ap (λ (n : ℕ). refused_plan (Err (refusal 14 n)))
           (due s t _ _ _ c.requires) ∙ r.0;
       table_after = r.1;
     }
@@ -109,7 +110,7 @@ returns-then-end-bytes c =
     (Exact (2 + bytes_for (entries_of_head s))) = let s = c.args.bytes.now in
     c.open-o.ensures ∙ (λ j. open_at s (due s c.args.table.now _ _ _ c.requires j) 4 (Exact (2 + bytes_for (size j)))) in
     let found : let s = c.args.bytes.now in open_at s (plan_at s) 4 (Exact (2 + bytes_for (entries_of_head s)))
-    ≡ Body c.in-Body.start c.in-Body.len = sym plan-open ∙ c.in-Body.is in
+    ≡ Ok (c.in-Ok.start, c.in-Ok.len) = sym plan-open ∙ c.in-Ok.is in
     let left : let s = c.args.bytes.now in c.left_over.result ≡ left_over (body_in s) (entries_of_head s) = c.left_over.ensures
     ∙ ap (λ (l : List ℕ). left_over l c.entries-n.result)
     (body_is c.args.bytes.now c.args.table.now _ _ _ c.requires _ _ found)
@@ -117,9 +118,11 @@ returns-then-end-bytes c =
     let s = c.args.bytes.now in
     let t = c.args.table.now in
     let e = ends s t _ _ _ c.requires _ _ found in
-    let r = refuse s t 12 (end_in s) (more-stop s t _ _ _ c.requires _ _ found (sym left ∙ c.if-left_over.false)
+    let r = refuse s t (refusal 12 (end_in s)) (more-stop s t _ _ _ c.requires _ _ found (sym left ∙ c.if-left_over.false)
     (rw e at c.if-end-bytes.true)) in record {
-      value = c.refused-then-end-bytes.ensures ∙ ap (λ (n : ℕ). refused_plan (Refused 12 n)) e ∙ r.0;
+      value = c.refused-then-end-bytes.ensures
+          ∙ ap (λ (x : Refusal). refused_plan (Err x)) c.refuse-then-end-bytes.ensures
+          ∙ ap (λ (n : ℕ). refused_plan (Err (refusal 12 n))) e ∙ r.0;
       table_after = r.1;
     }
 
@@ -131,7 +134,7 @@ returns-then-table-n c =
     (Exact (2 + bytes_for (entries_of_head s))) = let s = c.args.bytes.now in
     c.open-o.ensures ∙ (λ j. open_at s (due s c.args.table.now _ _ _ c.requires j) 4 (Exact (2 + bytes_for (size j)))) in
     let found : let s = c.args.bytes.now in open_at s (plan_at s) 4 (Exact (2 + bytes_for (entries_of_head s)))
-    ≡ Body c.in-Body.start c.in-Body.len = sym plan-open ∙ c.in-Body.is in
+    ≡ Ok (c.in-Ok.start, c.in-Ok.len) = sym plan-open ∙ c.in-Ok.is in
     let left : let s = c.args.bytes.now in c.left_over.result ≡ left_over (body_in s) (entries_of_head s) = c.left_over.ensures
     ∙ ap (λ (l : List ℕ). left_over l c.entries-n.result)
     (body_is c.args.bytes.now c.args.table.now _ _ _ c.requires _ _ found)
@@ -140,9 +143,12 @@ returns-then-table-n c =
     let t = c.args.table.now in
     let e = ends s t _ _ _ c.requires _ _ found in
     let r =
-    refuse s t 4 0
+    refuse s t (refusal 4 0)
     (short-stop s t _ _ _ c.requires _ _ found (sym left ∙ c.if-left_over.false) (rw e at c.if-end-bytes.false)
-    (rw size at c.if-table-n.true)) in record { value = c.refused-then-table-n.ensures ∙ r.0; table_after = r.1 }
+    (rw size at c.if-table-n.true)) in record {
+      value = c.refused-then-table-n.ensures ∙ ap (λ (x : Refusal). refused_plan (Err x)) c.refuse-then-table-n.ensures ∙ r.0;
+      table_after = r.1;
+    }
 
 pub slice_bounds-unpack-end : goal.slice_bounds-unpack-end
 slice_bounds-unpack-end c =
@@ -152,8 +158,8 @@ slice_bounds-unpack-end c =
     (Exact (2 + bytes_for (entries_of_head s))) = let s = c.args.bytes.now in
     c.open-o.ensures ∙ (λ j. open_at s (due s c.args.table.now _ _ _ c.requires j) 4 (Exact (2 + bytes_for (size j)))) in
     let found : let s = c.args.bytes.now in open_at s (plan_at s) 4 (Exact (2 + bytes_for (entries_of_head s)))
-    ≡ Body c.in-Body.start c.in-Body.len = sym plan-open ∙ c.in-Body.is in
-    let within-input : c.in-Body.start + c.in-Body.len ≤ length c.args.bytes.now = within c.args.bytes.now c.args.table.now _ _ _ c.requires _ _ found in
+    ≡ Ok (c.in-Ok.start, c.in-Ok.len) = sym plan-open ∙ c.in-Ok.is in
+    let within-input : c.in-Ok.start + c.in-Ok.len ≤ length c.args.bytes.now = within c.args.bytes.now c.args.table.now _ _ _ c.requires _ _ found in
     within-input
 
 pub unpack-requires : goal.unpack-requires
@@ -164,7 +170,7 @@ unpack-requires c =
     (Exact (2 + bytes_for (entries_of_head s))) = let s = c.args.bytes.now in
     c.open-o.ensures ∙ (λ j. open_at s (due s c.args.table.now _ _ _ c.requires j) 4 (Exact (2 + bytes_for (size j)))) in
     let found : let s = c.args.bytes.now in open_at s (plan_at s) 4 (Exact (2 + bytes_for (entries_of_head s)))
-    ≡ Body c.in-Body.start c.in-Body.len = sym plan-open ∙ c.in-Body.is in
+    ≡ Ok (c.in-Ok.start, c.in-Ok.len) = sym plan-open ∙ c.in-Ok.is in
     let n = size in
     let s = c.args.bytes.now in
     let t = c.args.table.now in (
@@ -180,7 +186,7 @@ returns c =
     (Exact (2 + bytes_for (entries_of_head s))) = let s = c.args.bytes.now in
     c.open-o.ensures ∙ (λ j. open_at s (due s c.args.table.now _ _ _ c.requires j) 4 (Exact (2 + bytes_for (size j)))) in
     let found : let s = c.args.bytes.now in open_at s (plan_at s) 4 (Exact (2 + bytes_for (entries_of_head s)))
-    ≡ Body c.in-Body.start c.in-Body.len = sym plan-open ∙ c.in-Body.is in
+    ≡ Ok (c.in-Ok.start, c.in-Ok.len) = sym plan-open ∙ c.in-Ok.is in
     let left : let s = c.args.bytes.now in c.left_over.result ≡ left_over (body_in s) (entries_of_head s) = c.left_over.ensures
     ∙ ap (λ (l : List ℕ). left_over l c.entries-n.result)
     (body_is c.args.bytes.now c.args.table.now _ _ _ c.requires _ _ found)
@@ -192,7 +198,7 @@ returns c =
     let r = accept s t (read_done s t _ _ _ c.requires _ _ found (sym left ∙ c.if-left_over.false)
     (rw (ends s t _ _ _ c.requires _ _ found) at c.if-end-bytes.false) h) h in record {
       value =
-          (λ i. record { cells = c.requires.cells_are i; slots = c.requires.slots_are i; channels = c.requires.channels_are i; answer = Done }) ∙ r.0;
+          (λ i. record { cells = c.requires.cells_are i; slots = c.requires.slots_are i; channels = c.requires.channels_are i; answer = Ok tt }) ∙ r.0;
       table_after = c.unpack.ensures
           ∙ ap (λ (x : List ℕ). sets t 0 (bits_from x 0 c.entries-n.result)) (body_is s t _ _ _ c.requires _ _ found)
           ∙ ap (λ (m : ℕ). sets t 0 (bits_from (body_in s) 0 m)) n

@@ -3,39 +3,29 @@ use Prim.Native.Nat.{ℕ, ◌+◌, ◌≤◌}
 use mathlib.Core.Path.{◌≡◌, sym, ap, ◌∙◌}
 use native.Mathlib.Omega.{arith}
 use lib.Seq.{length-take-le}
-use Rattle.site.specs.Record.{is_fine, fault_of}
-use Rattle.site.specs.declared.Fault.TheVariants.{Fine}
-use Rattle.site.proofs.Faults.{not-fine, fine-sized, few_bytes}
+use Rattle.site.specs.Record.{fault_of}
+use Rattle.std.specs.Prelude.{Ok}
+use Rattle.site.proofs.Faults.{fine-sized, few_bytes}
 use Rattle.records.specs.Head.{head_size}
 use Rattle.records.specs.Bits.{bytes_for}
-use Rattle.planfile.specs.declared.PlanWritten.TheVariants.{Refused}
-use Rattle.planfile.proofs.WriteLaws.{faulty, table-short, out-short, all_done}
-use borrow.Enum.Refused.{opened}
+use Rattle.planfile.proofs.WriteLaws.{table-short, out-short, all_done}
 use Rattle.planfile.proofs.write_plan.Goals as goal
-
-pub returns-in_default : goal.returns-in_default
-returns-in_default c = let f = c.fault_in-fault.ensures in
-    let r = faulty c.args.site c.args.table.now c.args.out.now
-    (ap is_fine (sym f) ∙ not-fine c.fault_in-fault.result (opened c.in_default.in_default-own.keys2)) in record {
-      value = ap Refused f ∙ r.0;
-      out_after = r.1;
-    }
 
 pub returns-then-table-n : goal.returns-then-table-n
 returns-then-table-n c =
-    let fine : fault_of c.args.site ≡ Fine = sym c.fault_in-fault.ensures
-    ∙ c.in-Fine.is in let all_told = table-short c.args.site c.args.table.now c.args.out.now fine
+    let fine : fault_of c.args.site ≡ Ok tt = sym c.accepted.ensures
+    ∙ c.in_ok-accepted.was in let all_told = table-short c.args.site c.args.table.now c.args.out.now fine
     (rw c.entries-n.ensures at c.if-table-n.true) in record { value = all_told.0; out_after = all_told.1 }
 
 pub returns-then-out-need : goal.returns-then-out-need
 returns-then-out-need c =
-    let fine : fault_of c.args.site ≡ Fine = sym c.fault_in-fault.ensures ∙ c.in-Fine.is in
+    let fine : fault_of c.args.site ≡ Ok tt = sym c.accepted.ensures ∙ c.in_ok-accepted.was in
     let e = c.entries-n.ensures in let all_told = out-short c.args.site c.args.table.now c.args.out.now fine (rw e at c.if-table-n.false) _
     (ap (λ (n : ℕ). head_size + 4 + bytes_for n) e) c.if-out-need.true in record { value = all_told.0; out_after = all_told.1 }
 
 pub overflow_cast-m : goal.overflow_cast-m
 overflow_cast-m c =
-    let fine : fault_of c.args.site ≡ Fine = sym c.fault_in-fault.ensures ∙ c.in-Fine.is in
+    let fine : fault_of c.args.site ≡ Ok tt = sym c.accepted.ensures ∙ c.in_ok-accepted.was in
     let few : c.entries-n.result ≤ 65536 = rw c.entries-n.ensures (few_bytes (fine-sized _ fine)) in
     omega (arith, few)
 
@@ -47,7 +37,7 @@ put_bits-requires c = rw (length-take-le _ _ c.if-table-n.false) (omega (arith, 
 
 pub returns : goal.returns
 returns c =
-    let fine : fault_of c.args.site ≡ Fine = sym c.fault_in-fault.ensures ∙ c.in-Fine.is in
+    let fine : fault_of c.args.site ≡ Ok tt = sym c.accepted.ensures ∙ c.in_ok-accepted.was in
     let n = c.entries-n.result in
     let e = c.entries-n.ensures in
     let t = c.args.table.now in

@@ -1,7 +1,7 @@
 -- `planner::plan_rows` meets its contract. At each head of the loop the run of the first i cells has given the first i rows of the table, and
 -- the bytes past the site's are as they were. Each of these rows sends in the stretch that is noted of it (`Sending`). Assumes nothing.
 use mathlib.Core.Path.{◌≡◌, refl, sym, ap, ◌∙◌}
-use Prim.Native.Nat.{◌+◌, ◌*◌, ◌-◌, ◌≤◌, ◌<◌}
+use Prim.Native.Nat.{◌+◌, ◌*◌, ◌≤◌, ◌<◌}
 use native.Mathlib.Omega.{arith}
 use lib.ListN.{length, get_or, drop, length-set}
 use lib.Seq.{length-take-le, length_front}

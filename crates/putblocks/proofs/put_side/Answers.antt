@@ -20,7 +20,7 @@ returns c =
     let lower : Part c.put_number-a.new.out c.put_number-a.result ((dash_byte ∷ []) ++ (decimal c.args.to ++ [])) = stored (decimal c.args.from)
     ((dash_byte ∷ []) ++ (decimal c.args.to ++ [])) start c.put_number-a.ensures.stored c.put_number-a.ensures.next in
     let dashed : Part c.put_byte-b.new.out c.put_byte-b.result (decimal c.args.to ++ []) = stored (dash_byte ∷ [])
-    (decimal c.args.to ++ []) lower c.put_byte-b.ensures.stored c.put_byte-b.ensures.next in
+    (decimal c.args.to ++ []) lower c.put_byte-b.ensures.stored c.put_byte-b.ensures.follows in
     let upper : Part c.put_number-2.new.out c.put_number-2.result [] = stored
     (decimal c.args.to) [] dashed c.put_number-2.ensures.stored c.put_number-2.ensures.next in
     let e = ended upper in record { stored = e.0; next = e.1 }

@@ -1,5 +1,5 @@
 -- `putblocks::slots_end` meets its contract: the search from here on is the search from the slot after t on. Assumes nothing.
-use mathlib.Core.Path.{refl, sym, ap, ap₂, ◌∙◌}
+use mathlib.Core.Path.{◌≡◌, refl, sym, ap, ap₂, ◌∙◌}
 use mathlib.Core.Bool.{Bool, not}
 use Prim.Native.Nat.{ℕ}
 use native.Mathlib.Omega.{arith}
@@ -30,4 +30,5 @@ loop-u-preserved c =
 pub returns : goal.returns
 returns c =
     let others : ℕ → Bool = λ v. let a = c.args in not (eqb (slot_word a.set.now a.channels v) (slot_word a.set.now a.channels a.t)) in
-    ended others c.loop-u.u c.args.slots c.loop-u.invariant (omega arith)
+    let e : c.args.slots ≡ c.loop-u.u = omega arith in
+    e ∙ ended others c.loop-u.u c.args.slots c.loop-u.invariant (omega arith)

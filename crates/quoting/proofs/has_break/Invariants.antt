@@ -1,12 +1,7 @@
--- `quoting::has_break` meets its contract: before byte i, it is known of those below it. Assumes nothing.
-use Prim.Native.Nat.{◌-◌, ◌≤◌}
-use mathlib.Core.Path.{◌≡◌}
-use lib.ListN.{length, take}
+-- `quoting::has_break` meets its contract: before a byte, it is known of those that stand before it. Assumes nothing.
+use Rattle.std.specs.Prelude.{◌≡◌, take}
 use Rattle.quoting.specs.Names.{has_break}
 use Rattle.quoting.proofs.has_break.Given as goal
 
-abbrev pub invariant-loop-i : goal.invariant-loop-i
-invariant-loop-i l = (l.i ≤ length l.name) × (l.any ≡ has_break (take l.i l.name))
-
-abbrev pub decreases-loop-i : goal.decreases-loop-i
-decreases-loop-i l = length l.name - l.i
+abbrev pub invariant-loop-byte : goal.invariant-loop-byte
+invariant-loop-byte l = l.any ≡ has_break (take l.byte-index l.name)

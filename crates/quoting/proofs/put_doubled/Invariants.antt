@@ -1,12 +1,8 @@
--- `quoting::put_doubled` meets its contract: before byte i, those below it are put, each quote twice. Assumes nothing.
-use Prim.Native.Nat.{◌*◌, ◌-◌, ◌≤◌}
-use lib.ListN.{length, take}
+-- `quoting::put_doubled` meets its contract: before a byte, those that stand before it are put, each quote twice. Assumes nothing.
+use Rattle.std.specs.Prelude.{◌*◌, take}
 use Rattle.phrases.specs.Put.{Put}
 use Rattle.quoting.specs.Names.{doubled}
 use Rattle.quoting.proofs.put_doubled.Given as goal
 
-abbrev pub invariant-loop-i : goal.invariant-loop-i
-invariant-loop-i l = (l.i ≤ length l.name) × Put l.initial.out l.at (doubled (take l.i l.name)) (2 * l.i) l.out l.next
-
-abbrev pub decreases-loop-i : goal.decreases-loop-i
-decreases-loop-i l = length l.name - l.i
+abbrev pub invariant-loop-byte : goal.invariant-loop-byte
+invariant-loop-byte l = Put l.initial.out l.at (doubled (take l.byte-index l.name)) (2 * l.byte-index) l.out l.next

@@ -1,65 +1,34 @@
 -- `reachpairs::put_pairs` meets its contract. The invariant: the bytes of the rows that are left end at `end`, and to store them from k on makes the answer.
--- Bytes are left only where a row is. Assumes nothing.
-use Prim.Native.Nat.{◌<◌}
-use mathlib.Core.Path.{refl, sym, ap, ◌∙◌}
-use native.Mathlib.Omega.{arith}
+-- Where no bytes are left, it is made. Assumes nothing.
+use Rattle.std.proofs.Common.{refl, sym, ap, ◌∙◌, arith}
 use lib.Seq.{sets}
 use Rattle.reachpairs.specs.Pairs.{pair_bytes}
-use Rattle.reachpairs.proofs.RowLaws.{rows-put, rows-unroll-length}
-use Rattle.reachpairs.proofs.LowestBit.{row-left, rows-done}
+use Rattle.reachpairs.proofs.RowLaws.{rows-put, rows-unroll-length, rows_end}
+use Rattle.reachpairs.proofs.LowestBit.{rows-done}
 use Rattle.reachpairs.proofs.put_pairs.Goals as goal
 
-pub loop-k-init : goal.loop-k-init
+pub loop-a-init : goal.loop-a-init
 unfolding pair_bytes
-loop-k-init c = (omega arith, refl, sym c.requires.0, refl)
+loop-a-init c = (sym c.requires.0, refl)
 
-pub offset_bounds-reach-a : goal.offset_bounds-reach-a
-offset_bounds-reach-a c =
-    let inside : c.loop-k.a < 32 = let l = c.loop-k in
-    row-left c.args.reach.now l.a l.k c.args.end l.invariant.2 c.loop-k-test.true in
-    omega (arith, inside)
-
-pub bounds-reach-a : goal.bounds-reach-a
-bounds-reach-a c =
-    let inside : c.loop-k.a < 32 = let l = c.loop-k in
-    row-left c.args.reach.now l.a l.k c.args.end l.invariant.2 c.loop-k-test.true in
-    omega (arith, inside)
+pub returns-then-k-end : goal.returns-then-k-end
+unfolding pair_bytes
+returns-then-k-end c = let l = c.loop-a in
+    sym (ap (sets l.out l.k) (rows-done c.args.reach.now l.a l.k c.args.end l.invariant.0 (omega arith))) ∙ l.invariant.1
 
 pub put_row-k-requires : goal.put_row-k-requires
-put_row-k-requires c =
-    let inside : c.loop-k.a < 32 = let l = c.loop-k in
-    row-left c.args.reach.now l.a l.k c.args.end l.invariant.2 c.loop-k-test.true in
-    let l = c.loop-k in
-    let h = inside in
-    (h, omega (arith, rows-unroll-length c.args.reach.now l.a h))
+put_row-k-requires c = let l = c.loop-a in
+    (c.loop-a-test.true, omega (arith, l.invariant.0, rows-unroll-length c.args.reach.now l.a c.loop-a-test.true))
 
-pub overflow_add-a : goal.overflow_add-a
-overflow_add-a c = omega arith
-
-pub loop-k-smaller : goal.loop-k-smaller
-loop-k-smaller c =
-    let inside : c.loop-k.a < 32 = let l = c.loop-k in
-    row-left c.args.reach.now l.a l.k c.args.end l.invariant.2 c.loop-k-test.true in
-    omega (arith, inside)
-
-pub loop-k-preserved : goal.loop-k-preserved
-loop-k-preserved c =
-    let inside : c.loop-k.a < 32 = let l = c.loop-k in
-    row-left c.args.reach.now l.a l.k c.args.end l.invariant.2 c.loop-k-test.true in
-    let l = c.loop-k in
+pub loop-a-preserved : goal.loop-a-preserved
+loop-a-preserved c = let l = c.loop-a in
     let rows = c.args.reach.now in
-    let h = inside in (
-      omega arith,
-      c.put_row-k.auto.out ∙ l.invariant.1,
-      omega (arith, c.put_row-k.ensures.value, rows-unroll-length rows l.a h),
-      rw (c.put_row-k.ensures.out_after, c.put_row-k.ensures.value) (rows-put l.out l.k rows l.a h ∙ l.invariant.3),
+    let put = c.put_row-k.ensures in (
+      omega (arith, put.value, l.invariant.0, rows-unroll-length rows l.a c.loop-a-test.true),
+      rw (put.out_after, put.value) (rows-put l.out l.k rows l.a c.loop-a-test.true ∙ l.invariant.1),
     )
-
-pub shape_of-out : goal.shape_of-out
-shape_of-out c = c.loop-k.invariant.1
 
 pub returns : goal.returns
 unfolding pair_bytes
-returns c = let l = c.loop-k in
-    let a = c.args in
-    sym (ap (sets l.out l.k) (rows-done a.reach.now l.a l.k a.end l.invariant.2 c.loop-k-test.false)) ∙ l.invariant.3
+returns c = let l = c.loop-a in
+    sym (ap (sets l.out l.k) (rows_end c.args.reach.now l.a c.loop-a-test.false)) ∙ l.invariant.1

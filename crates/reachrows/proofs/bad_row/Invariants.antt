@@ -1,6 +1,6 @@
 -- `reachrows::bad_row` meets its contract: where the pass found nothing, no index passes;
 -- else a search, whose invariant says that the search that is left gives the answer. Assumes nothing.
-use Prim.Native.Nat.{ℕ, ◌-◌}
+use Prim.Native.Nat.{ℕ}
 use mathlib.Core.Path.{◌≡◌}
 use mathlib.Core.Bool.{Bool}
 use Rattle.laws.specs.Search.{first}
@@ -14,6 +14,3 @@ test cells reach k = row_bad cells (get_or reach k 0) k
 
 abbrev pub invariant-loop-k : goal.invariant-loop-k
 invariant-loop-k l = first (test l.cells l.reach) 0 32 ≡ first (test l.cells l.reach) l.k 32
-
-abbrev pub decreases-loop-k : goal.decreases-loop-k
-decreases-loop-k l = 32 - l.k

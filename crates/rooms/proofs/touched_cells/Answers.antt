@@ -15,6 +15,6 @@ overflow_sub-k c = let k = c.args.k in omega (arith, one_shl k c.requires, pow_p
 pub returns : goal.returns
 returns c = let args = c.args in
     let low = one_shl args.k c.requires in
-    c.joined.ensures
+    c.with_bit.ensures
     ∙ ap (λ (x : ℕ). set_bit x args.k)
     (c.apart-above.ensures.0 ∙ ap (λ (n : ℕ). word_of (λ b. bit_at (bit_and args.who args.row) b && not (bit_at (n - 1) b)) 32) low)

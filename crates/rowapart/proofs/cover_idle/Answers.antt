@@ -1,7 +1,6 @@
 -- `rowapart::cover_idle` meets its contract: before position k, those below it are covered. Assumes nothing.
 use mathlib.Core.Path.{◌≡◌, sym, ◌∙◌}
 use mathlib.Core.List.{[]}
-use Prim.Native.Nat.{◌-◌}
 use native.Mathlib.Omega.{arith}
 use lib.ListN.{length-set}
 use Rattle.laws.specs.Part.{list_of}

@@ -1,14 +1,9 @@
 -- `rowapart::forbid_by` meets its contract. At each head of the loop the row is the one handed in, marked by the first p positions of row j: before `start` and
 -- from `end` on there is nothing to mark. Assumes nothing.
-use mathlib.Core.Path.{◌≡◌}
-use Prim.Native.Nat.{◌-◌, ◌*◌, ◌≤◌}
-use lib.ListN.{length, take}
+use Rattle.std.specs.Prelude.{◌≡◌, ◌*◌, take}
 use Rattle.laws.specs.Part.{part}
 use Rattle.theory.specs.Greedy.{forbid}
 use Rattle.rowapart.proofs.forbid_by.Given as goal
 
 abbrev pub invariant-loop-p : goal.invariant-loop-p
-invariant-loop-p l = (l.p ≤ l.end) × (length l.row ≡ l.n) × (l.row ≡ forbid (take l.p (part (l.j * l.n) l.n l.table)) l.initial.row)
-
-abbrev pub decreases-loop-p : goal.decreases-loop-p
-decreases-loop-p l = l.end - l.p
+invariant-loop-p l = l.row ≡ forbid (take l.p (part (l.j * l.n) l.n l.table)) l.initial.row

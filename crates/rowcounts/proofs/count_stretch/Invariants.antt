@@ -1,8 +1,7 @@
 -- `rowcounts::count_stretch` meets its contract: before position p, those below p are counted. Assumes nothing.
 use mathlib.Core.Path.{◌≡◌}
-use Prim.Native.Nat.{◌-◌, ◌≤◌}
+use Prim.Native.Nat.{◌≤◌}
 use lib.ListN.{length}
-use Rattle.laws.specs.Sum.{count}
 use Rattle.theory.specs.Greedy.{held}
 use Rattle.rowcounts.proofs.count_stretch.Given as goal
 

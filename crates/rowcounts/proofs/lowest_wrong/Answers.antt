@@ -1,7 +1,6 @@
 -- `rowcounts::lowest_wrong` meets its contract: a search: what is left gives the answer. Assumes nothing.
 use Rattle.rowcounts.proofs.Rows.{is-wrong, is_right}
 use mathlib.Core.Path.{refl}
-use Prim.Native.Nat.{◌-◌}
 use native.Mathlib.Omega.{arith}
 use Rattle.laws.proofs.Search.{found, missed, ended}
 use Rattle.laws.proofs.Grid.{row_before}
@@ -30,4 +29,4 @@ loop-i-preserved c = let a = c.args in
 
 pub returns : goal.returns
 returns c = let a = c.args in
-    ended (wrong_in (load_net a.cells a.n a.loads) (reserved a.n a.table.now)) c.loop-i.i a.cells c.loop-i.invariant (omega arith)
+    omega (arith, ended (wrong_in (load_net a.cells a.n a.loads) (reserved a.n a.table.now)) c.loop-i.i a.cells c.loop-i.invariant c.loop-i-test.false)

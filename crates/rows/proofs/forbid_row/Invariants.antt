@@ -1,13 +1,8 @@
 -- `rows::forbid_row` meets its contract. At each head of the loop the table is the one handed in with the first p positions of row i marked
 -- (`half`): before `start` and from `end` on there is nothing to mark. Assumes nothing.
-use mathlib.Core.Path.{◌≡◌}
-use Prim.Native.Nat.{◌-◌, ◌≤◌}
-use lib.ListN.{length}
+use Rattle.std.specs.Prelude.{◌≡◌}
 use Rattle.rows.proofs.Forbid.{half}
 use Rattle.rows.proofs.forbid_row.Given as goal
 
 abbrev pub invariant-loop-p : goal.invariant-loop-p
-invariant-loop-p l = (l.p ≤ l.end) × (length l.table ≡ length l.initial.table) × (l.table ≡ half l.n l.j l.i l.p l.initial.table)
-
-abbrev pub decreases-loop-p : goal.decreases-loop-p
-decreases-loop-p l = l.end - l.p
+invariant-loop-p l = l.table ≡ half l.n l.j l.i l.p l.initial.table

@@ -1,9 +1,5 @@
 -- `say_cells::channels_at` meets its contract: before channel f, the word of the channels below it. Assumes nothing.
-use Prim.Native.Nat.{ℕ, ◌+◌, ◌*◌, ◌-◌, ◌≤◌}
-use mathlib.Core.Path.{◌≡◌}
-use mathlib.Core.Bool.{Bool}
-use mathlib.Core.List.{List}
-use lib.ListN.{get_or}
+use Rattle.std.specs.Prelude.{ℕ, ◌+◌, ◌*◌, ◌≡◌, Bool, List, get_or}
 use Rattle.laws.specs.Bits.{word_of}
 use Rattle.site.specs.Reach.{clash_rows}
 use Rattle.site.specs.declared.Site.{Site}
@@ -16,7 +12,4 @@ abbrev pub test : Site → List ℕ → SentAs → (i slot : ℕ) → ℕ → Bo
 test s t kind i slot f = held_as kind (get_or (clash_rows s) i 0) i (place_of s t (slot * s.channels + f))
 
 abbrev pub invariant-loop-f : goal.invariant-loop-f
-invariant-loop-f l = (l.f ≤ l.channels) × (l.word ≡ word_of (test l.site l.table l.kind l.i l.slot) l.f)
-
-abbrev pub decreases-loop-f : goal.decreases-loop-f
-decreases-loop-f l = l.channels - l.f
+invariant-loop-f l = l.word ≡ word_of (test l.site l.table l.kind l.i l.slot) l.f

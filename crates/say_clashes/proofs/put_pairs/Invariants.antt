@@ -1,11 +1,8 @@
 -- `say_clashes::put_pairs` meets its contract: before second cell b, the lines of the cells below it are put. Assumes nothing.
-use Prim.Native.Nat.{◌*◌, ◌-◌, ◌≤◌}
+use Rattle.std.specs.Prelude.{◌*◌}
 use Rattle.phrases.specs.Put.{Put}
 use Rattle.say_clashes.specs.Said.{pairs_said}
 use Rattle.say_clashes.proofs.put_pairs.Given as goal
 
 abbrev pub invariant-loop-b : goal.invariant-loop-b
-invariant-loop-b l = (l.b ≤ 32) × Put l.initial.out l.at (pairs_said l.rule l.reach l.a l.b) (700 * l.b) l.out l.next
-
-abbrev pub decreases-loop-b : goal.decreases-loop-b
-decreases-loop-b l = 32 - l.b
+invariant-loop-b l = Put l.initial.out l.at (pairs_said l.rule l.reach l.a l.b) (700 * l.b) l.out l.next

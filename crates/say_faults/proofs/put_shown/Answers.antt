@@ -11,4 +11,4 @@ returns-then-not-shows c = rw (sym c.shows.ensures ∙ c.if-not-shows.true) (put
 
 pub returns : goal.returns
 unfolding faults_said
-returns c = rw (sym c.shows.ensures ∙ c.if-not-shows.false, append-nil _) (rw c.answer.ensures at c.put_check.ensures)
+returns c = rw (sym c.shows.ensures ∙ c.if-not-shows.false, append-nil _, ← c.answer.ensures) c.put_check.ensures

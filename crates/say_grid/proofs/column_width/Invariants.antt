@@ -1,5 +1,5 @@
 -- `say_grid::column_width` meets its contract: before a line, the greatest width of the lines above it. Assumes nothing.
-use Prim.Native.Nat.{ℕ, ◌-◌, ◌≤◌}
+use Prim.Native.Nat.{ℕ, ◌≤◌}
 use mathlib.Core.Path.{◌≡◌}
 use mathlib.Core.List.{List}
 use lib.ListN.{length}
@@ -12,7 +12,4 @@ abbrev pub wide : Site → List ℕ → (slot line : ℕ) → ℕ
 wide s t slot line = length (entry_said s t line slot)
 
 abbrev pub invariant-loop-line : goal.invariant-loop-line
-invariant-loop-line l = (l.line ≤ l.lines) × (l.widest ≡ most (wide l.site l.table l.slot) l.line) × (l.widest ≤ 156)
-
-abbrev pub decreases-loop-line : goal.decreases-loop-line
-decreases-loop-line l = l.lines - l.line
+invariant-loop-line l = (l.widest ≡ most (wide l.site l.table l.slot) l.line) × (l.widest ≤ 156)

@@ -12,13 +12,13 @@ use Rattle.say_grid.proofs.put_columns.Goals as goal
 
 pub loop-j-init : goal.loop-j-init
 unfolding in_turn
-loop-j-init c = (omega arith, put-none _ _ _)
+loop-j-init c = put-none _ _ _
 
 pub overflow_add-from : goal.overflow_add-from
 overflow_add-from c = omega (arith, c.requires.line_le_channels.1)
 
 pub put_column-next-requires : goal.put_column-next-requires
-put_column-next-requires c = let p = c.loop-j.invariant.1 in
+put_column-next-requires c = let p = c.loop-j.invariant in
     let few = (ready-sizes c.args.site c.args.table.now c.requires.table_value.0).slots_most in record {
       table_value = c.requires.table_value;
       line_le_channels = (
@@ -33,12 +33,9 @@ pub loop-j-preserved : goal.loop-j-preserved
 loop-j-preserved c = let a = c.args in
     let said : ℕ → List ℕ = λ x. column_said a.site a.table.now a.line (a.from + x) in
     let j = c.loop-j.j in
-    (omega arith, rw (turn_more said j) (put-wide (314 * (j + 1)) (omega arith) (put_both (in_turn said j) _ c.loop-j.invariant.1 c.put_column-next.ensures)))
-
-pub shape_of-out : goal.shape_of-out
-shape_of-out c = put-long c.loop-j.invariant.1
+    rw (turn_more said j) (put-wide (314 * (j + 1)) (omega arith) (put_both (in_turn said j) _ c.loop-j.invariant c.put_column-next.ensures))
 
 pub returns : goal.returns
 returns c = let few = (ready-sizes c.args.site c.args.table.now c.requires.table_value.0).slots_most in
     let e : c.loop-j.j ≡ c.args.many = omega arith in
-    put-wide 40192 (omega (arith, few, c.requires.line_le_channels.1)) (rw e at c.loop-j.invariant.1)
+    put-wide 40192 (omega (arith, few, c.requires.line_le_channels.1)) (rw e at c.loop-j.invariant)

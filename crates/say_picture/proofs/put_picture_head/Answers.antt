@@ -1,11 +1,10 @@
 -- `say_picture::put_picture_head` meets its contract: before a row, the rows above it are put. Assumes nothing.
-use Prim.Native.Nat.{◌+◌, ◌*◌, ◌-◌, ◌≤◌}
-use mathlib.Core.Path.{◌≡◌}
+use Prim.Native.Nat.{◌+◌, ◌*◌, ◌≤◌}
 use native.Mathlib.Nat.{mul-le-mul}
 use native.Mathlib.Omega.{arith}
 use Rattle.faults.specs.Faults.{in_turn}
 use Rattle.faults.proofs.InTurn.{turn_more}
-use Rattle.phrases.proofs.Put.{put_both, put-wide, put-none, put-long}
+use Rattle.phrases.proofs.Put.{put_both, put-wide, put-none}
 use Rattle.drawing.proofs.Places.{wide-most}
 use Rattle.drawing.proofs.Reach.{step-most}
 use Rattle.say_picture.proofs.Sizes.{every-most}
@@ -22,22 +21,8 @@ overflow_mul-long c = let few : c.cell_step.result ≤ 860 = omega (arith, c.cel
 
 pub loop-k-init : goal.loop-k-init
 unfolding in_turn
-loop-k-init c = (omega arith, put-none _ _ _)
-
-pub put_head_row-next-requires : goal.put_head_row-next-requires
-put_head_row-next-requires c = let p = c.loop-k.invariant.1 in
-    omega (arith, put-long p, p.follows, p.short, c.requires.1)
+loop-k-init c = put-none _ _ _
 
 pub loop-k-preserved : goal.loop-k-preserved
-loop-k-preserved c = (
-  omega arith,
-  rw (turn_more _ c.loop-k.k)
-      (put-wide (1000 * (c.loop-k.k + 1)) (omega arith) (put_both _ _ c.loop-k.invariant.1 c.put_head_row-next.ensures)),
-)
-
-pub shape_of-out : goal.shape_of-out
-shape_of-out c = put-long c.loop-k.invariant.1
-
-pub returns : goal.returns
-returns c = let e : c.loop-k.k ≡ 47 = omega arith in
-    put-wide 47000 (omega arith) (rw (e, c.tall-height.ensures, c.every_slot.ensures, c.slot_wide.ensures, c.cell_step.ensures) at c.loop-k.invariant.1)
+loop-k-preserved c = rw (turn_more _ c.loop-k.k)
+    (put-wide (1000 * (c.loop-k.k + 1)) (omega arith) (put_both _ _ c.loop-k.invariant c.put_head_row-next.ensures))

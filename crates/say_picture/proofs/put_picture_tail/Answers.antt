@@ -1,10 +1,9 @@
 -- `say_picture::put_picture_tail` meets its contract: before a row, the rows above it are put. Assumes nothing.
-use Prim.Native.Nat.{◌+◌, ◌*◌, ◌-◌}
-use mathlib.Core.Path.{◌≡◌}
+use Prim.Native.Nat.{◌+◌, ◌*◌}
 use native.Mathlib.Omega.{arith}
 use Rattle.faults.specs.Faults.{in_turn}
 use Rattle.faults.proofs.InTurn.{turn_more}
-use Rattle.phrases.proofs.Put.{put_both, put-wide, put-none, put-long}
+use Rattle.phrases.proofs.Put.{put_both, put-wide, put-none}
 use Rattle.say_picture.proofs.Sizes.{tall-least, tall-most}
 use Rattle.say_picture.proofs.put_picture_tail.Goals as goal
 
@@ -16,25 +15,11 @@ overflow_sub-y c = omega (arith, c.tall-height.ensures, tall-least c.args.site)
 
 pub loop-k-init : goal.loop-k-init
 unfolding in_turn
-loop-k-init c = (omega arith, put-none _ _ _)
+loop-k-init c = put-none _ _ _
 
 pub overflow_add-y : goal.overflow_add-y
 overflow_add-y c = omega (arith, c.tall-height.ensures, tall-most c.args.site c.requires.0)
 
-pub put_tail_row-next-requires : goal.put_tail_row-next-requires
-put_tail_row-next-requires c = let p = c.loop-k.invariant.1 in
-    omega (arith, put-long p, p.follows, p.short, c.requires.1)
-
 pub loop-k-preserved : goal.loop-k-preserved
-loop-k-preserved c = (
-  omega arith,
-  rw (turn_more _ c.loop-k.k)
-      (put-wide (1000 * (c.loop-k.k + 1)) (omega arith) (put_both _ _ c.loop-k.invariant.1 c.put_tail_row-next.ensures)),
-)
-
-pub shape_of-out : goal.shape_of-out
-shape_of-out c = put-long c.loop-k.invariant.1
-
-pub returns : goal.returns
-returns c = let e : c.loop-k.k ≡ 11 = omega arith in
-    put-wide 11000 (omega arith) (rw (e, c.tall-height.ensures) at c.loop-k.invariant.1)
+loop-k-preserved c = rw (turn_more _ c.loop-k.k)
+    (put-wide (1000 * (c.loop-k.k + 1)) (omega arith) (put_both _ _ c.loop-k.invariant c.put_tail_row-next.ensures))

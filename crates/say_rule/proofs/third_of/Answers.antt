@@ -1,6 +1,5 @@
 -- `say_rule::third_of` meets its contract: a search, whose invariant says that the search that is left gives the answer. Assumes nothing.
-use Prim.Native.Nat.{◌-◌}
-use mathlib.Core.Path.{sym, ◌∙◌}
+use mathlib.Core.Path.{◌≡◌, sym, ◌∙◌}
 use native.Mathlib.Omega.{arith}
 use Rattle.laws.proofs.Search.{found, missed, ended}
 use Rattle.site.specs.Reach.{reaches}
@@ -16,4 +15,5 @@ loop-c-preserved c = missed _ c.loop-c.c 32 c.loop-c.invariant (omega arith) (sy
 
 pub returns : goal.returns
 unfolding third_of reaches
-returns c = ended _ c.loop-c.c 32 c.loop-c.invariant (omega arith)
+returns c = let all : 32 ≡ c.loop-c.c = omega arith in
+    all ∙ ended _ c.loop-c.c 32 c.loop-c.invariant (omega arith)

@@ -1,5 +1,5 @@
 -- `say_rule::third_of` meets its contract: a search, whose invariant says that the search that is left gives the answer. Assumes nothing.
-use Prim.Native.Nat.{ℕ, ◌-◌}
+use Prim.Native.Nat.{ℕ}
 use mathlib.Core.Bool.{Bool, not, ◌&&◌}
 use mathlib.Core.Path.{◌≡◌}
 use lib.Dec.{eqb}
@@ -12,6 +12,3 @@ test x y a b c = not (eqb c a) && (not (eqb c b) && (bit_at x c && bit_at y c))
 
 abbrev pub invariant-loop-c : goal.invariant-loop-c
 invariant-loop-c l = lowest (test l.first l.second l.a l.b) 0 32 ≡ lowest (test l.first l.second l.a l.b) l.c 32
-
-abbrev pub decreases-loop-c : goal.decreases-loop-c
-decreases-loop-c l = 32 - l.c

@@ -1,5 +1,5 @@
 -- `say_runs::first_used` meets its contract: a search: what is left gives the answer. Assumes nothing.
-use Prim.Native.Nat.{ℕ, ◌-◌}
+use Prim.Native.Nat.{ℕ}
 use mathlib.Core.Path.{◌≡◌}
 use mathlib.Core.Bool.{Bool, not}
 use mathlib.Core.List.{List}
@@ -13,6 +13,3 @@ used row j = not (eqb (get_or row j 0) 0)
 
 abbrev pub invariant-loop-j : goal.invariant-loop-j
 invariant-loop-j l = first (used l.row) 0 (length l.row) ≡ first (used l.row) l.j (length l.row)
-
-abbrev pub decreases-loop-j : goal.decreases-loop-j
-decreases-loop-j l = length l.row - l.j

@@ -1,5 +1,5 @@
 -- `say_runs::run_end` meets its contract: a search: what is left gives the answer. Assumes nothing.
-use Prim.Native.Nat.{ℕ, ◌-◌, ◌≤◌, ◌<◌}
+use Prim.Native.Nat.{ℕ}
 use mathlib.Core.Path.{◌≡◌}
 use mathlib.Core.Bool.{Bool, not}
 use mathlib.Core.List.{List}
@@ -13,7 +13,4 @@ abbrev pub other : List ℕ → ℕ → ℕ → Bool
 other row i j = not (eqb (get_or row j 0) (get_or row i 0))
 
 abbrev pub invariant-loop-j : goal.invariant-loop-j
-invariant-loop-j l = (l.i < l.j) × (l.j ≤ length l.row) × (run_stop l.row l.i ≡ first (other l.row l.i) l.j (length l.row))
-
-abbrev pub decreases-loop-j : goal.decreases-loop-j
-decreases-loop-j l = length l.row - l.j
+invariant-loop-j l = run_stop l.row l.i ≡ first (other l.row l.i) l.j (length l.row)

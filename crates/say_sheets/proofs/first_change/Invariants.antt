@@ -1,5 +1,5 @@
 -- `say_sheets::first_change` meets its contract: a search, whose invariant says that the search that is left gives the answer. Assumes nothing.
-use Prim.Native.Nat.{ℕ, ◌+◌, ◌-◌, ◌≤◌}
+use Prim.Native.Nat.{ℕ, ◌+◌}
 use mathlib.Core.Bool.{Bool, not}
 use mathlib.Core.List.{List}
 use mathlib.Core.Path.{◌≡◌}
@@ -12,7 +12,4 @@ abbrev pub made : List ℕ → ℕ → Bool
 made s k = not (eqb (changes_of s (k + 1)).times 0)
 
 abbrev pub invariant-loop-done : goal.invariant-loop-done
-invariant-loop-done l = (l.done ≤ 8) × (first (made l.sheet) 0 8 ≡ first (made l.sheet) l.done 8)
-
-abbrev pub decreases-loop-done : goal.decreases-loop-done
-decreases-loop-done l = 8 - l.done
+invariant-loop-done l = first (made l.sheet) 0 8 ≡ first (made l.sheet) l.done 8

@@ -1,4 +1,4 @@
--- `say_slots::channel_high` meets its contract: it is the less of two, as it is said. Assumes nothing.
+-- `say_slots::channel_high` meets its contract: it is a minimum, as it is said. Assumes nothing.
 use native.Mathlib.Omega.{arith}
 use Rattle.drawing.specs.Places.{channel_high}
 use Rattle.drawing.proofs.Places.{rows-some, rows-most}
@@ -12,4 +12,4 @@ nonzero_div-rows c = omega (arith, rows-some c.args.site c.requires)
 
 pub returns : goal.returns
 unfolding channel_high
-returns c = c.less_of.ensures
+returns c = omega (arith, c.min.ensures)

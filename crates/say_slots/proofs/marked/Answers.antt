@@ -17,7 +17,7 @@ returns-then-mark-eq-BLOCKED c = rw (eq-eqb _ _ c.if-mark-eq-BLOCKED.true) c.is_
 pub returns-then-mark-eq-CLEAR : goal.returns-then-mark-eq-CLEAR
 unfolding marked_as
 returns-then-mark-eq-CLEAR c = rw (ne_eqb _ _ c.if-mark-eq-BLOCKED.false, eq-eqb _ _ c.if-mark-eq-CLEAR.true)
-    (c.keeps_clear.ensures ∙ clear-rows c.args.site c.args.table.now c.args.clash c.requires.0 c.args.i c.args.k)
+    (c.keeps_clear.ensures ∙ clear-rows c.args.site.now c.args.table.now c.args.clash.now c.requires.0 c.args.i c.args.k)
 
 pub returns-then-mark-eq-SENDS : goal.returns-then-mark-eq-SENDS
 unfolding marked_as
@@ -30,4 +30,4 @@ returns-then-mark-eq-SENDS c = rw (
 pub returns : goal.returns
 unfolding marked_as
 returns c = rw (ne_eqb _ _ c.if-mark-eq-BLOCKED.false, ne_eqb _ _ c.if-mark-eq-CLEAR.false, ne_eqb _ _ c.if-mark-eq-SENDS.false)
-    (c.sends_wrong.ensures ∙ wrong-rows c.args.site c.args.table.now c.args.clash c.requires.0 c.args.i c.args.k)
+    (c.sends_wrong.ensures ∙ wrong-rows c.args.site.now c.args.table.now c.args.clash.now c.requires.0 c.args.i c.args.k)

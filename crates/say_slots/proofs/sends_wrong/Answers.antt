@@ -10,13 +10,13 @@ pub overflow_mul-n : goal.overflow_mul-n
 overflow_mul-n c = omega (arith, few-positions c.requires.0)
 
 pub overflow_mul-i : goal.overflow_mul-i
-overflow_mul-i c = omega (arith, row-most c.args.site c.requires.0 c.args.i c.requires.2)
+overflow_mul-i c = omega (arith, row-most c.args.site.now c.requires.0 c.args.i c.requires.2)
 
 pub overflow_add-i : goal.overflow_add-i
-overflow_add-i c = omega (arith, c.requires.3, row-most c.args.site c.requires.0 c.args.i c.requires.2)
+overflow_add-i c = omega (arith, c.requires.3, row-most c.args.site.now c.requires.0 c.args.i c.requires.2)
 
 pub bounds-table-i : goal.bounds-table-i
-bounds-table-i c = omega (arith, c.requires.3, row-in c.args.site c.requires.0 c.args.table.now c.requires.1 c.args.i c.requires.2)
+bounds-table-i c = omega (arith, c.requires.3, row-in c.args.site.now c.requires.0 c.args.table.now c.requires.1 c.args.i c.requires.2)
 
 pub returns-then-table-i-ne1 : goal.returns-then-table-i-ne1
 returns-then-table-i-ne1 c = simp (ne_eqb _ _ c.if-table-i-ne1.true)

@@ -36,13 +36,13 @@ returns-then-tries-limit c = let p = c.loop-d in
       stack = λ k l. absurd (omega arith);
     }
 
-pub loop-d-preserved-then-has : goal.loop-d-preserved-then-has
-loop-d-preserved-then-has c = let p = c.loop-d in
+pub loop-d-preserved-then-has_bit : goal.loop-d-preserved-then-has_bit
+loop-d-preserved-then-has_bit c = let p = c.loop-d in
     let a = c.args in (
       refl,
       going-taken a.owner.now a.opens.now a.clash.now a.limit p.at p.words p.d p.i p.tries p.invariant.1
           c.requires.distinct
-          c.loop-d-test.true (omega arith) c.has.result c.has.ensures (omega arith) c.if-has.true,
+          c.loop-d-test.true (omega arith) c.has_bit.result c.has_bit.ensures (omega arith) c.if-has_bit.true,
     )
 
 pub entered-requires : goal.entered-requires
@@ -65,8 +65,8 @@ loop-d-preserved c = let p = c.loop-d in
       rw c.start-i.ensures
           (going-placed a.owner.now a.opens.now a.clash.now a.limit p.at p.words p.d p.i p.tries p.invariant.1
           c.requires.distinct
-          c.loop-d-test.true (omega arith) c.has.result
-          c.has.ensures (omega arith) (omega arith) c.if-has.false c.entered.result
+          c.loop-d-test.true (omega arith) c.has_bit.result
+          c.has_bit.ensures (omega arith) (omega arith) c.if-has_bit.false c.entered.result
           c.entered.ensures),
     )
 

@@ -1,6 +1,6 @@
 -- `sets::first_positions` meets its contract: before word j, that many words are stored. Assumes nothing.
 use mathlib.Core.Path.{◌≡◌, refl, ap, ◌∙◌}
-use Prim.Native.Nat.{ℕ, ◌-◌}
+use Prim.Native.Nat.{ℕ}
 use native.Mathlib.Omega.{arith}
 use lib.Dec.{ltb}
 use lib.ListN.{length-set}
@@ -19,7 +19,7 @@ loop-j-preserved c = let p = c.loop-j in
       omega arith,
       length-set p.set p.j _ ∙ p.invariant.1,
       sets_more (word_in (λ k. ltb k a.n)) p.j _ p.set a.set.now
-          (c.low_word.ensures ∙ ap (λ (m : ℕ). word_of (λ b. ltb b m) 64) c.less.ensures ∙ low_word a.n p.j) p.invariant.2,
+          (c.low_word.ensures ∙ ap (λ (m : ℕ). word_of (λ b. ltb b m) 64) c.saturating_sub.ensures ∙ low_word a.n p.j) p.invariant.2,
     )
 
 pub returns : goal.returns

@@ -1,7 +1,6 @@
 -- `sets::meet_of` meets its contract: before word j, that many words are stored. Assumes nothing.
 use mathlib.Core.Path.{◌≡◌, refl, ◌∙◌}
 use mathlib.Core.Bool.{◌&&◌}
-use Prim.Native.Nat.{◌-◌}
 use native.Mathlib.Omega.{arith}
 use lib.ListN.{length-set}
 use Rattle.laws.proofs.Stores.{sets-none, sets_more}

@@ -1,6 +1,6 @@
 -- `sets::put_set` meets its contract: before word j, that many words are stored. Assumes nothing.
 use mathlib.Core.Path.{◌≡◌, refl, ◌∙◌}
-use Prim.Native.Nat.{◌+◌, ◌-◌}
+use Prim.Native.Nat.{◌+◌}
 use native.Mathlib.Omega.{arith}
 use lib.ListN.{get_or, length-set}
 use Rattle.laws.specs.Part.{list_of}

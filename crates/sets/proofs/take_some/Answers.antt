@@ -1,6 +1,6 @@
 -- `sets::take_some` meets its contract: before word j, the words below it have the first m positions, and what is left of m is known. Assumes nothing.
 use mathlib.Core.Path.{◌≡◌, refl, ap, ◌∙◌}
-use Prim.Native.Nat.{ℕ, ◌-◌}
+use Prim.Native.Nat.{ℕ}
 use native.Mathlib.Nat.{le_refl}
 use native.Mathlib.Omega.{arith}
 use lib.ListN.{get_or, length-set}
@@ -30,7 +30,7 @@ loop-j-preserved c = let p = c.loop-j in
       sets_more (word_in (first_few (in_set s) a.m)) p.j _ p.set s
           (c.first_few.ensures ∙ ap (λ (x : ℕ). word_of (first_few (bit_at x) p.left) 64) same
           ∙ few-word s a.m p.j p.left p.invariant.3) p.invariant.2,
-      omega (arith, c.less-left.ensures, n, p.invariant.3, count_word s p.j),
+      omega (arith, c.saturating_sub-left.ensures, n, p.invariant.3, count_word s p.j),
     )
 
 pub returns : goal.returns

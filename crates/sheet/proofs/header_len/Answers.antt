@@ -4,30 +4,12 @@ use Rattle.sheet.proofs.WriteLaws.{columns-next, columns-none, header-long}
 use Rattle.sheet.proofs.header_len.Goals as goal
 
 pub loop-k-init : goal.loop-k-init
-loop-k-init c = (omega arith, omega (arith, header-long c.args.n), omega arith)
-
-pub overflow_add-k : goal.overflow_add-k
-overflow_add-k c = omega arith
-
-pub overflow_cast-k : goal.overflow_cast-k
-overflow_cast-k c = omega arith
-
-pub overflow_add-need : goal.overflow_add-need
-overflow_add-need c = omega (arith, c.digits.ensures.upper_bound)
-
-pub overflow_add-need-in-loop-k : goal.overflow_add-need-in-loop-k
-overflow_add-need-in-loop-k c = omega (arith, c.digits.ensures.upper_bound)
-
-pub overflow_add-k-in-loop-k : goal.overflow_add-k-in-loop-k
-overflow_add-k-in-loop-k c = omega arith
-
-pub loop-k-smaller : goal.loop-k-smaller
-loop-k-smaller c = omega arith
+loop-k-init c = (omega (arith, header-long c.args.n), omega arith)
 
 pub loop-k-preserved : goal.loop-k-preserved
 loop-k-preserved c = let l = c.loop-k in
     let n = columns-next l.k c.args.n (omega arith) in
-    (omega arith, omega (arith, n, c.digits.ensures.value), omega (arith, c.digits.ensures.upper_bound))
+    (omega (arith, n, c.digits.ensures.value), omega (arith, c.digits.ensures.upper_bound))
 
 pub returns : goal.returns
 returns c = let l = c.loop-k in record { value = omega (arith, columns-none l.k c.args.n (omega arith)); upper_bound = omega arith }

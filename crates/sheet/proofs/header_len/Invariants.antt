@@ -6,7 +6,4 @@ use Rattle.lines.specs.Format.{columns, header}
 use Rattle.sheet.proofs.header_len.Given as goal
 
 abbrev pub invariant-loop-k : goal.invariant-loop-k
-invariant-loop-k l = (l.k ≤ l.n) × (l.need + length (columns l.k (l.n - l.k)) ≡ length (header l.n)) × (l.need ≤ 11 + 6 * l.k)
-
-abbrev pub decreases-loop-k : goal.decreases-loop-k
-decreases-loop-k l = l.n - l.k
+invariant-loop-k l = (l.need + length (columns l.k (l.n - l.k)) ≡ length (header l.n)) × (l.need ≤ 11 + 6 * l.k)

@@ -10,22 +10,8 @@ use Rattle.sheet.proofs.WriteLaws.{lines_next, lines_none, lines-all, plain, lin
 use Rattle.sheet.proofs.put_lines.Goals as goal
 
 pub loop-k-init : goal.loop-k-init
-loop-k-init c = let a = c.args in (
-  omega arith,
-  said (lines-all (plain a.s.cells a.s.loads a.s.reach) a.s.cells) (begun _ _ _),
-)
-
-pub offset_bounds-loads-k : goal.offset_bounds-loads-k
-offset_bounds-loads-k c = omega arith
-
-pub bounds-loads-k : goal.bounds-loads-k
-bounds-loads-k c = omega arith
-
-pub offset_bounds-reach-k : goal.offset_bounds-reach-k
-offset_bounds-reach-k c = omega arith
-
-pub bounds-reach-k : goal.bounds-reach-k
-bounds-reach-k c = omega arith
+loop-k-init c = let a = c.args in
+    said (lines-all (plain a.s.cells a.s.loads a.s.reach) a.s.cells) (begun _ _ _)
 
 pub put_cell-p-requires : goal.put_cell-p-requires
 unfolding line_of
@@ -37,29 +23,21 @@ put_cell-p-requires c =
       omega (arith, c.requires.0),
       room (line_of (plain a.s.cells a.s.loads a.s.reach) c.loop-k.k)
           (lines_from (plain a.s.cells a.s.loads a.s.reach) (c.loop-k.k + 1) (a.s.cells - (c.loop-k.k + 1)))
-          (said (lines_next (plain a.s.cells a.s.loads a.s.reach) c.loop-k.k a.s.cells (omega arith)) c.loop-k.invariant.1) fits,
+          (said (lines_next (plain a.s.cells a.s.loads a.s.reach) c.loop-k.k a.s.cells (omega arith)) c.loop-k.invariant) fits,
     )
-
-pub overflow_add-k : goal.overflow_add-k
-overflow_add-k c = omega arith
-
-pub loop-k-smaller : goal.loop-k-smaller
-loop-k-smaller c = omega arith
 
 pub loop-k-preserved : goal.loop-k-preserved
 unfolding line_of
-loop-k-preserved c = let a = c.args in (
-  omega arith,
-  stored (line_of (plain a.s.cells a.s.loads a.s.reach) c.loop-k.k)
-      (lines_from (plain a.s.cells a.s.loads a.s.reach) (c.loop-k.k + 1) (a.s.cells - (c.loop-k.k + 1)))
-      (said (lines_next (plain a.s.cells a.s.loads a.s.reach) c.loop-k.k a.s.cells
-      (omega arith)) c.loop-k.invariant.1) c.put_cell-p.ensures.stored c.put_cell-p.ensures.next,
-)
+loop-k-preserved c = let a = c.args in
+    stored (line_of (plain a.s.cells a.s.loads a.s.reach) c.loop-k.k)
+    (lines_from (plain a.s.cells a.s.loads a.s.reach) (c.loop-k.k + 1) (a.s.cells - (c.loop-k.k + 1)))
+    (said (lines_next (plain a.s.cells a.s.loads a.s.reach) c.loop-k.k a.s.cells
+    (omega arith)) c.loop-k.invariant) c.put_cell-p.ensures.stored c.put_cell-p.ensures.next
 
 pub shape_of-out : goal.shape_of-out
-shape_of-out c = c.loop-k.invariant.1.long
+shape_of-out c = c.loop-k.invariant.long
 
 pub returns : goal.returns
 returns c = let a = c.args in
-    (ended (said (lines_none (plain a.s.cells a.s.loads a.s.reach) c.loop-k.k a.s.cells (omega arith)) c.loop-k.invariant.1)).0
+    (ended (said (lines_none (plain a.s.cells a.s.loads a.s.reach) c.loop-k.k a.s.cells (omega arith)) c.loop-k.invariant)).0
     ∙ ap (sets a.out.now a.at) (sym (lines-plain a.s a.s.cells 0))

@@ -11,12 +11,6 @@ use Rattle.sheet.proofs.read_cells.Goals as goal
 pub loop-k-init : goal.loop-k-init
 loop-k-init c = begun c.args.s.now c.args.at c.args.n
 
-pub read_line-line-requires : goal.read_line-line-requires
-read_line-line-requires c = (omega arith, omega arith, omega arith)
-
-pub overflow_add-k : goal.overflow_add-k
-overflow_add-k c = omega arith
-
 pub returns-then-next : goal.returns-then-next
 returns-then-next c =
     let shorter : length c.args.s.now < nowhere = omega arith in
@@ -26,33 +20,12 @@ returns-then-next c =
     c.read_line-line.ensures
     c.if-next.true (omega arith)
 
-pub offset_bounds-loads-k : goal.offset_bounds-loads-k
-offset_bounds-loads-k c = omega arith
-
-pub bounds-loads-k : goal.bounds-loads-k
-bounds-loads-k c = omega arith
-
-pub offset_bounds-reach-k : goal.offset_bounds-reach-k
-offset_bounds-reach-k c = omega arith
-
-pub bounds-reach-k : goal.bounds-reach-k
-bounds-reach-k c = omega arith
-
-pub overflow_add-k-in-loop-k : goal.overflow_add-k-in-loop-k
-overflow_add-k-in-loop-k c = omega arith
-
-pub loop-k-smaller : goal.loop-k-smaller
-loop-k-smaller c = omega arith
-
 pub loop-k-preserved : goal.loop-k-preserved
 loop-k-preserved c =
     let shorter : length c.args.s.now < nowhere = omega arith in
     let w = c.loop-k in
     passed _ _ _ w.loads w.reach w.p w.k 0 0 [] 0 w.invariant shorter c.read_line-line.result c.read_line-line.ensures c.if-next.false
     (omega arith)
-
-pub overflow_add-n : goal.overflow_add-n
-overflow_add-n c = omega arith
 
 pub returns-then-p-s : goal.returns-then-p-s
 returns-then-p-s c =

@@ -8,30 +8,14 @@ use Rattle.sheet.specs.Sheet.{line_of, lines_from}
 use Rattle.sheet.proofs.WriteLaws.{plain, line-long, lines_next, lines_none, sheet-long, as_long}
 use Rattle.sheet.proofs.sheet_len.Goals as goal
 
-pub header_len-need-requires : goal.header_len-need-requires
-header_len-need-requires c = omega arith
-
 pub loop-k-init : goal.loop-k-init
 loop-k-init c = let s = c.args.s in
-    (omega arith, omega (arith, sheet-long (plain s.cells s.loads []), c.header_len-need.ensures.value), omega (arith, c.header_len-need.ensures.upper_bound))
-
-pub line_len-need-requires : goal.line_len-need-requires
-line_len-need-requires c = (omega arith, omega arith)
-
-pub overflow_add-need : goal.overflow_add-need
-overflow_add-need c = omega (arith, c.line_len-need.ensures.upper_bound)
-
-pub overflow_add-k : goal.overflow_add-k
-overflow_add-k c = omega arith
-
-pub loop-k-smaller : goal.loop-k-smaller
-loop-k-smaller c = omega arith
+    (omega (arith, sheet-long (plain s.cells s.loads []), c.header_len-need.ensures.value), omega (arith, c.header_len-need.ensures.upper_bound))
 
 pub loop-k-preserved : goal.loop-k-preserved
 loop-k-preserved c = let s = c.args.s in
     let p = plain s.cells s.loads [] in
     let e = ap length (lines_next p c.loop-k.k s.cells (omega arith)) in (
-      omega arith,
       omega (
         arith,
         e,

@@ -8,8 +8,5 @@ use Rattle.sheet.proofs.WriteLaws.{plain}
 use Rattle.sheet.proofs.sheet_len.Given as goal
 
 abbrev pub invariant-loop-k : goal.invariant-loop-k
-invariant-loop-k l = (l.k ≤ l.n) × (l.need + length (lines_from (plain l.n l.loads []) l.k (l.n - l.k)) ≡ length (sheet_bytes (plain l.n l.loads []))) ×
+invariant-loop-k l = (l.need + length (lines_from (plain l.n l.loads []) l.k (l.n - l.k)) ≡ length (sheet_bytes (plain l.n l.loads []))) ×
     (l.need ≤ 300 + 100 * l.k)
-
-abbrev pub decreases-loop-k : goal.decreases-loop-k
-decreases-loop-k l = l.n - l.k

@@ -11,7 +11,7 @@ use Rattle.records.proofs.Laws.{Opening}
 use Rattle.reachpairs.specs.Loop.{PairsRead, reach_read}
 use Rattle.reachpairs.specs.Pairs.{reach_of_body}
 use Rattle.records.specs.Layout.{body_at}
-use Rattle.records.specs.declared.ReadAnswer.TheVariants.{Done}
+use Rattle.std.specs.Prelude.{Ok}
 use Rattle.blockbits.specs.Loop.{blocks_read}
 use Rattle.sitefile.specs.Reasons.{reach_at, last_at, positions_of_head}
 use Rattle.sitefile.specs.Read.{refused_site, site_of_file, site_answer}
@@ -37,7 +37,7 @@ returns-in_default c =
     let said : c.read_reach-first.result ≡ (Rows (c.args.bytes.now)).answer = c.read_reach-first.ensures.answer ∙
     (λ j. (reach_read (c.args.bytes.now) ((c.requires).place j) ((c.requires).cells_are j)).answer) in
     let e = c.in_default.is in
-    c.refused.ensures ∙ ap refused_site e ∙ refuse _ _ _ (rows-stop (c.args.bytes.now) (c.requires).head (c.requires).found (Rows (c.args.bytes.now)) refl _ _
+    c.refused.ensures ∙ ap refused_site e ∙ refuse _ _ (rows-stop (c.args.bytes.now) (c.requires).head (c.requires).found (Rows (c.args.bytes.now)) refl _
     (sym said ∙ e))
 
 pub two_bytes-slots-requires : goal.two_bytes-slots-requires
@@ -55,7 +55,7 @@ overflow_add-end c =
     let said : c.read_reach-first.result ≡ (Rows (c.args.bytes.now)).answer = c.read_reach-first.ensures.answer ∙
     (λ j. (reach_read (c.args.bytes.now) ((c.requires).place j) ((c.requires).cells_are j)).answer) in
     let given : LoadsRead (c.args.bytes.now) c.args.at c.args.cells c.args.loads = c.requires in
-    let done : (Rows (c.args.bytes.now)).answer ≡ Done = sym said ∙ c.in-Done.is in
+    let done : (Rows (c.args.bytes.now)).answer ≡ Ok tt = sym said ∙ c.in-Ok.is in
     let opening : Opening (c.args.bytes.now) (reach_at (c.args.bytes.now)) 3 Pairs (reach_at (c.args.bytes.now) + 4)
     (le16 (c.args.bytes.now) (reach_at (c.args.bytes.now)) - 2) = reach-open (c.args.bytes.now) given.head given.found
     (Rows (c.args.bytes.now)) refl done in
@@ -66,7 +66,7 @@ two_bytes-requires c =
     let said : c.read_reach-first.result ≡ (Rows (c.args.bytes.now)).answer = c.read_reach-first.ensures.answer ∙
     (λ j. (reach_read (c.args.bytes.now) ((c.requires).place j) ((c.requires).cells_are j)).answer) in
     let given : LoadsRead (c.args.bytes.now) c.args.at c.args.cells c.args.loads = c.requires in
-    let done : (Rows (c.args.bytes.now)).answer ≡ Done = sym said ∙ c.in-Done.is in
+    let done : (Rows (c.args.bytes.now)).answer ≡ Ok tt = sym said ∙ c.in-Ok.is in
     let opening : Opening (c.args.bytes.now) (reach_at (c.args.bytes.now)) 3 Pairs (reach_at (c.args.bytes.now) + 4)
     (le16 (c.args.bytes.now) (reach_at (c.args.bytes.now)) - 2) = reach-open (c.args.bytes.now) given.head given.found
     (Rows (c.args.bytes.now)) refl done in
@@ -77,7 +77,7 @@ overflow_add-end-2 c =
     let said : c.read_reach-first.result ≡ (Rows (c.args.bytes.now)).answer = c.read_reach-first.ensures.answer ∙
     (λ j. (reach_read (c.args.bytes.now) ((c.requires).place j) ((c.requires).cells_are j)).answer) in
     let given : LoadsRead (c.args.bytes.now) c.args.at c.args.cells c.args.loads = c.requires in
-    let done : (Rows (c.args.bytes.now)).answer ≡ Done = sym said ∙ c.in-Done.is in
+    let done : (Rows (c.args.bytes.now)).answer ≡ Ok tt = sym said ∙ c.in-Ok.is in
     let opening : Opening (c.args.bytes.now) (reach_at (c.args.bytes.now)) 3 Pairs (reach_at (c.args.bytes.now) + 4)
     (le16 (c.args.bytes.now) (reach_at (c.args.bytes.now)) - 2) = reach-open (c.args.bytes.now) given.head given.found
     (Rows (c.args.bytes.now)) refl done in
@@ -106,7 +106,7 @@ returns-in_default-answer c =
     let said : c.read_reach-first.result ≡ (Rows (c.args.bytes.now)).answer = c.read_reach-first.ensures.answer ∙
     (λ j. (reach_read (c.args.bytes.now) ((c.requires).place j) ((c.requires).cells_are j)).answer) in
     let given : LoadsRead (c.args.bytes.now) c.args.at c.args.cells c.args.loads = c.requires in
-    let done : (Rows (c.args.bytes.now)).answer ≡ Done = sym said ∙ c.in-Done.is in
+    let done : (Rows (c.args.bytes.now)).answer ≡ Ok tt = sym said ∙ c.in-Ok.is in
     let end_is : c.args.at + 2 + c.two_bytes.result ≡ last_at ((c.args.bytes.now)) = let at = c.args.at in
     ap (λ (x : ℕ). at + 2 + x) c.two_bytes.ensures ∙ ap (λ (k : ℕ). k + 2 + le16 ((c.args.bytes.now)) k) given.place in
     let positions-are : c.two_bytes-slots.result * c.two_bytes-channels.result ≡ positions_of_head
@@ -116,7 +116,7 @@ returns-in_default-answer c =
     let told : site_answer ((c.args.bytes.now)) ≡ c.read_blocks-last.result.answer = site-is (c.args.bytes.now) given.head given.found
     (Rows (c.args.bytes.now)) refl done c.read_blocks-last.result last in
     let e = c.in_default-answer.is in
-    c.refused-in_default-answer.ensures ∙ ap refused_site e ∙ refuse _ _ _ (told ∙ e)
+    c.refused-in_default-answer.ensures ∙ ap refused_site e ∙ refuse _ _ (told ∙ e)
 
 pub rule_of-rule-requires : goal.rule_of-rule-requires
 rule_of-rule-requires c =
@@ -129,7 +129,7 @@ returns c =
     let said : c.read_reach-first.result ≡ (Rows (c.args.bytes.now)).answer = c.read_reach-first.ensures.answer ∙
     (λ j. (reach_read (c.args.bytes.now) ((c.requires).place j) ((c.requires).cells_are j)).answer) in
     let given : LoadsRead (c.args.bytes.now) c.args.at c.args.cells c.args.loads = c.requires in
-    let done : (Rows (c.args.bytes.now)).answer ≡ Done = sym said ∙ c.in-Done.is in
+    let done : (Rows (c.args.bytes.now)).answer ≡ Ok tt = sym said ∙ c.in-Ok.is in
     let stated : (reach_read (c.args.bytes.now) c.args.at c.args.cells).reach ≡ reach_of_body (body_at (c.args.bytes.now) (reach_at (c.args.bytes.now))) =
     (λ j. (reach_read (c.args.bytes.now) (given.place j) (given.cells_are j)).reach) ∙ rows_are (c.args.bytes.now) given.head given.found
     (Rows (c.args.bytes.now)) refl done in
@@ -142,7 +142,7 @@ returns c =
     let told : site_answer ((c.args.bytes.now)) ≡ c.read_blocks-last.result.answer = site-is (c.args.bytes.now) given.head given.found
     (Rows (c.args.bytes.now)) refl done c.read_blocks-last.result last in
     let g = given in
-    let e = c.in-Done-answer.is in
+    let e = c.in-Ok-answer.is in
     (λ j. record {
       site = site_of (g.cells_are j) (c.two_bytes-slots.ensures j) (c.two_bytes-channels.ensures j) (g.loads_are j)
           ((c.read_reach-first.ensures.rows ∙ stated) j)

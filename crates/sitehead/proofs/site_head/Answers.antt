@@ -7,7 +7,7 @@ use Rattle.sitehead.proofs.Head.{head-short, head-ruled, head_plain}
 use Rattle.sitehead.proofs.site_head.Goals as goal
 
 pub returns-then-s-lt4 : goal.returns-then-s-lt4
-returns-then-s-lt4 c = sym (head-short _ (omega arith))
+returns-then-s-lt4 c = rw c.refuse.ensures (sym (head-short _ (omega arith)))
 
 pub returns-then-kind-eq-RULED_KIND : goal.returns-then-kind-eq-RULED_KIND
 returns-then-kind-eq-RULED_KIND c = c.ruled_head.ensures ∙ sym

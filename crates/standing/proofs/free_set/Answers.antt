@@ -1,6 +1,6 @@
 -- `standing::free_set` meets its contract: before each clashing cell, the sets of those below it are taken away. Assumes nothing.
 use mathlib.Core.Path.{◌≡◌, refl}
-use Prim.Native.Nat.{◌+◌, ◌-◌}
+use Prim.Native.Nat.{◌+◌}
 use native.Mathlib.Omega.{arith}
 use Rattle.laws.specs.Bits.{bit_at}
 use Rattle.laws.proofs.Grid.{row_before}

@@ -114,7 +114,7 @@ loop-rest-preserved c =
       omega (arith, inside),
       rw bit
           (turn_more a.clash.now a.left.now a.need a.most a.cells l.invariant.0 l.word l.run l.met l.rest l.invariant.1 l.invariant.3
-          l.invariant.4 some (omega (arith, c.requires.0)) free c.least-run.result c.least-run.ensures),
+          l.invariant.4 some (omega (arith, c.requires.0)) free c.min-run.result c.min-run.ensures),
       left-more a.clash.now a.left.now a.need a.most a.cells l.invariant.0 l.word l.run l.met l.rest l.invariant.1 l.invariant.3
           l.invariant.4 some (omega (arith, c.requires.0)) free,
     )

@@ -3,11 +3,11 @@
 -- And the cells in need are those of what is left then. Assumes nothing.
 use mathlib.Core.Path.{◌≡◌, refl, ap, ◌∙◌}
 use mathlib.Core.Bool.{◌&&◌, not}
-use Prim.Native.Nat.{◌+◌, ◌*◌, ◌%◌, ◌^◌, ◌<◌, zero-le}
+use Prim.Native.Nat.{ℕ, ◌+◌, ◌-◌, ◌*◌, ◌%◌, ◌^◌, ◌<◌, zero-le}
 use native.Mathlib.Omega.{arith}
 use lib.Count.{count_trailing_zeros, trailing_le}
 use lib.Dec.{eqb}
-use lib.ListN.{length-set}
+use lib.ListN.{get_or, length-set}
 use Rattle.laws.specs.Bits.{bit_at, word_of}
 use Rattle.laws.specs.Choice.{pick}
 use Rattle.laws.proofs.Bits.{one_shl}
@@ -37,8 +37,22 @@ bounds-left-i c =
     walk_inside (bit_at a.word) a.cells l.invariant.0 l.rest l.invariant.4 (λ e. omega (arith, c.loop-rest-test.true)) (omega arith) in
     omega (arith, inside, c.loop-rest.invariant.2)
 
-pub less-has-requires : goal.less-has-requires
-less-has-requires c =
+pub overflow_sub-has : goal.overflow_sub-has
+overflow_sub-has c =
+    let inside : count_trailing_zeros 32 c.loop-rest.rest < c.args.cells = let a = c.args in
+    let l = c.loop-rest in
+    walk_inside (bit_at a.word) a.cells l.invariant.0 l.rest l.invariant.4 (λ e. omega (arith, c.loop-rest-test.true)) (omega arith) in
+    let l = c.loop-rest in
+    let some : l.rest ≡ 0 → ⊥ = λ e. omega (arith, c.loop-rest-test.true) in
+    let here = walk_here (bit_at c.args.word) c.args.cells l.invariant.0 l.rest l.invariant.4 some c.requires.cells_bound.0 in
+    omega (
+      arith,
+      not_yet c.args.left.now c.args.word c.args.run c.args.cells l.invariant.0 l.rest l.left l.invariant.3 l.invariant.4 some c.requires.cells_bound.0,
+      c.requires.by_index (count_trailing_zeros 32 l.rest) inside here,
+    )
+
+pub overflow_cast-has : goal.overflow_cast-has
+overflow_cast-has c =
     let inside : count_trailing_zeros 32 c.loop-rest.rest < c.args.cells = let a = c.args in
     let l = c.loop-rest in
     walk_inside (bit_at a.word) a.cells l.invariant.0 l.rest l.invariant.4 (λ e. omega (arith, c.loop-rest-test.true)) (omega arith) in
@@ -94,20 +108,20 @@ loop-rest-preserved c =
     walk_inside (bit_at a.word) a.cells l.invariant.0 l.rest l.invariant.4 (λ e. omega (arith, c.loop-rest-test.true)) (omega arith) in
     let a = c.args in
     let l = c.loop-rest in
-    let v = c.less-has in
+    let v : ℕ = get_or l.left (count_trailing_zeros 32 l.rest) 0 - a.run in
     let some : l.rest ≡ 0 → ⊥ = λ e. omega (arith, c.loop-rest-test.true) in
     let bit : 1 * 2 ^ count_trailing_zeros 32 l.rest % 4294967296 ≡ 2 ^ count_trailing_zeros 32 l.rest
     = one_shl (count_trailing_zeros 32 l.rest) (omega (arith, inside)) in (
       count_trailing_zeros 32 l.rest + 1,
       omega (arith, inside),
-      length-set l.left (count_trailing_zeros 32 l.rest) v.result ∙ l.invariant.2,
+      length-set l.left (count_trailing_zeros 32 l.rest) v ∙ l.invariant.2,
       spent-more a.left.now a.word a.run a.cells l.invariant.0 l.rest l.left l.invariant.3 l.invariant.4 some (omega arith)
-          v.result v.ensures,
+          v refl,
       walk-off (bit_at a.word) a.cells l.invariant.0 l.rest l.invariant.4 some (omega arith),
-      need-more l.left a.cells l.still a.run (count_trailing_zeros 32 l.rest) v.result (omega arith) (omega (arith, l.invariant.2)) inside
-          l.invariant.5 v.ensures c.apart-still.result
+      need-more l.left a.cells l.still a.run (count_trailing_zeros 32 l.rest) v (omega arith) (omega (arith, l.invariant.2)) inside
+          l.invariant.5 refl c.apart-still.result
           (c.apart-still.ensures.0
-          ∙ ap (λ x. word_of (λ b. bit_at l.still b && not (bit_at x b)) 32) (c.emptied.ensures ∙ ap (λ x. pick (eqb v.result 0) x 0) bit))
+          ∙ ap (λ x. word_of (λ b. bit_at l.still b && not (bit_at x b)) 32) (c.emptied.ensures ∙ ap (λ x. pick (eqb v 0) x 0) bit))
           c.apart-still.ensures.1,
     )
 

@@ -1,5 +1,5 @@
 -- `whytext::put_all_thirds` meets its contract: before first cell a, the lines of the cells below it are laid. Assumes nothing.
-use Prim.Native.Nat.{ℕ, ◌+◌, ◌≤◌}
+use Prim.Native.Nat.{ℕ, ◌+◌}
 use mathlib.Core.Path.{◌≡◌, refl, sym, ap, ◌∙◌}
 use native.Mathlib.Nat.{add-zero}
 use native.Mathlib.Omega.{arith}
@@ -13,32 +13,26 @@ use Rattle.whytext.proofs.put_all_thirds.Goals as goal
 
 pub loop-a-init : goal.loop-a-init
 unfolding firsts_said
-loop-a-init c = (omega arith, refl, refl, sym (add-zero _))
+loop-a-init c = (refl, sym (add-zero _))
 
 pub put_thirds-n-requires : goal.put_thirds-n-requires
-put_thirds-n-requires c = (omega arith, omega (arith, c.requires.in_bounds, c.loop-a.invariant.1))
+put_thirds-n-requires c = (omega arith, omega (arith, c.requires.in_bounds, c.loop-a.auto.line))
 
 pub slice_bounds-put_text-end : goal.slice_bounds-put_text-end
-slice_bounds-put_text-end c =
-    let room : 22400 ≤ length c.loop-a.line = omega (arith, c.requires.in_bounds, c.loop-a.invariant.1) in
-    put-inside c.put_thirds-n.ensures room
+slice_bounds-put_text-end c = put-inside c.put_thirds-n.ensures (omega (arith, c.requires.in_bounds, c.loop-a.auto.line))
 
 pub slice_bounds-put_text-end-in-loop-a : goal.slice_bounds-put_text-end-in-loop-a
-slice_bounds-put_text-end-in-loop-a c =
-    let room : 22400 ≤ length c.loop-a.line = omega (arith, c.requires.in_bounds, c.loop-a.invariant.1) in
-    put_whole c.put_thirds-n.ensures room
+slice_bounds-put_text-end-in-loop-a c = put_whole c.put_thirds-n.ensures (omega (arith, c.requires.in_bounds, c.loop-a.auto.line))
 
 pub put_text-next-requires : goal.put_text-next-requires
-put_text-next-requires c =
-    let room : 22400 ≤ length c.loop-a.line = omega (arith, c.requires.in_bounds, c.loop-a.invariant.1) in
-    let site = c.args.site in
+put_text-next-requires c = let site = c.args.site in
     let a = c.loop-a.a in
     omega (
       arith,
-      put_whole c.put_thirds-n.ensures room,
+      put_whole c.put_thirds-n.ensures (omega (arith, c.requires.in_bounds, c.loop-a.auto.line)),
       put-end c.put_thirds-n.ensures,
-      c.loop-a.invariant.3,
-      ap length c.loop-a.invariant.2,
+      c.loop-a.invariant.1,
+      ap length c.loop-a.invariant.0,
       length-sets c.args.out.now c.args.at (firsts_said site a),
       ap length (first_more site a),
       length-append (firsts_said site a) (thirds_said site a),
@@ -47,39 +41,28 @@ put_text-next-requires c =
     )
 
 pub loop-a-preserved : goal.loop-a-preserved
-loop-a-preserved c =
-    let room : 22400 ≤ length c.loop-a.line = omega (arith, c.requires.in_bounds, c.loop-a.invariant.1) in
-    let s = c.args in
+loop-a-preserved c = let s = c.args in
     let a = c.loop-a.a in
-    let kept = put-kept c.put_thirds-n.ensures room in
+    let kept = put-kept c.put_thirds-n.ensures (omega (arith, c.requires.in_bounds, c.loop-a.auto.line)) in
     let more = first_more s.site a in (
-      omega arith,
-      c.put_thirds-n.auto.out ∙ c.loop-a.invariant.1,
       c.put_text-next.ensures.stored
           ∙ ap (sets c.loop-a.out c.loop-a.next) kept
-          ∙ rw (c.loop-a.invariant.2, c.loop-a.invariant.3) (sym (sets-append s.out.now s.at (firsts_said s.site a) (thirds_said s.site a)))
+          ∙ rw (c.loop-a.invariant.0, c.loop-a.invariant.1) (sym (sets-append s.out.now s.at (firsts_said s.site a) (thirds_said s.site a)))
           ∙ ap (sets s.out.now s.at) (sym more),
       omega (
         arith,
         c.put_text-next.ensures.next,
         ap length kept,
-        c.loop-a.invariant.3,
+        c.loop-a.invariant.1,
         ap length more,
         length-append (firsts_said s.site a)
             (thirds_said s.site a),
       ),
     )
 
-pub shape_of-out : goal.shape_of-out
-shape_of-out c = let s = c.args in
-    ap length c.loop-a.invariant.2 ∙ length-sets s.out.now s.at (firsts_said s.site c.loop-a.a)
-
-pub shape_of-line : goal.shape_of-line
-shape_of-line c = c.loop-a.invariant.1
-
 pub returns : goal.returns
 returns c = let s = c.args in
     let e : c.loop-a.a ≡ 32 = omega arith in record {
-      stored = c.loop-a.invariant.2 ∙ ap (λ (k : ℕ). sets s.out.now s.at (firsts_said s.site k)) e;
-      next = c.loop-a.invariant.3 ∙ ap (λ (k : ℕ). s.at + length (firsts_said s.site k)) e;
+      stored = c.loop-a.invariant.0 ∙ ap (λ (k : ℕ). sets s.out.now s.at (firsts_said s.site k)) e;
+      next = c.loop-a.invariant.1 ∙ ap (λ (k : ℕ). s.at + length (firsts_said s.site k)) e;
     }

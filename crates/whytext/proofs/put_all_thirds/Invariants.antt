@@ -1,5 +1,5 @@
 -- `whytext::put_all_thirds` meets its contract: before first cell a, the lines of the cells below it are laid. Assumes nothing.
-use Prim.Native.Nat.{◌+◌, ◌-◌, ◌≤◌}
+use Prim.Native.Nat.{◌+◌}
 use mathlib.Core.Path.{◌≡◌}
 use lib.ListN.{length}
 use lib.Seq.{sets}
@@ -7,8 +7,5 @@ use Rattle.say_rule.specs.Said.{firsts_said}
 use Rattle.whytext.proofs.put_all_thirds.Given as goal
 
 abbrev pub invariant-loop-a : goal.invariant-loop-a
-invariant-loop-a l = (l.a ≤ 32) × (length l.line ≡ length l.initial.line) × (l.out ≡ sets l.initial.out l.at (firsts_said l.site l.a)) ×
+invariant-loop-a l = (l.out ≡ sets l.initial.out l.at (firsts_said l.site l.a)) ×
     (l.next ≡ l.at + length (firsts_said l.site l.a))
-
-abbrev pub decreases-loop-a : goal.decreases-loop-a
-decreases-loop-a l = 32 - l.a

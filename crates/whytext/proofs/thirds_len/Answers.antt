@@ -10,28 +10,23 @@ use Rattle.whytext.proofs.thirds_len.Goals as goal
 
 pub loop-a-init : goal.loop-a-init
 unfolding firsts_said
-loop-a-init c = (omega arith, refl, refl, omega arith)
+loop-a-init c = (refl, omega arith)
 
 pub put_thirds-n-requires : goal.put_thirds-n-requires
-put_thirds-n-requires c = (omega arith, omega (arith, c.requires, c.loop-a.invariant.1))
+put_thirds-n-requires c = (omega arith, omega (arith, c.requires, c.loop-a.auto.line))
 
 pub overflow_add-n : goal.overflow_add-n
 overflow_add-n c = let p = c.put_thirds-n.ensures in
-    omega (arith, c.loop-a.invariant.3, put-end p, p.short, c.loop-a.invariant.0)
+    omega (arith, c.loop-a.invariant.1, put-end p, p.short, c.loop-a-test.true)
 
 pub loop-a-preserved : goal.loop-a-preserved
 loop-a-preserved c = let s = c.args.site in
     let a = c.loop-a.a in
     let e = put-end c.put_thirds-n.ensures in (
-      omega arith,
-      c.put_thirds-n.auto.out ∙ c.loop-a.invariant.1,
-      omega (arith, e, ap length (first_more s a), c.loop-a.invariant.2, length-append (firsts_said s a) (thirds_said s a)),
-      omega (arith, e, c.put_thirds-n.ensures.short, c.loop-a.invariant.3),
+      omega (arith, e, ap length (first_more s a), c.loop-a.invariant.0, length-append (firsts_said s a) (thirds_said s a)),
+      omega (arith, e, c.put_thirds-n.ensures.short, c.loop-a.invariant.1),
     )
-
-pub shape_of-line : goal.shape_of-line
-shape_of-line c = c.loop-a.invariant.1
 
 pub returns : goal.returns
 returns c = let e : c.loop-a.a ≡ 32 = omega arith in
-    (c.loop-a.invariant.2 ∙ ap (λ (k : ℕ). length (firsts_said c.args.site k)) e, omega (arith, c.loop-a.invariant.3))
+    (c.loop-a.invariant.0 ∙ ap (λ (k : ℕ). length (firsts_said c.args.site k)) e, omega (arith, c.loop-a.invariant.1))

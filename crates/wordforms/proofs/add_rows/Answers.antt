@@ -1,6 +1,5 @@
 -- `wordforms::add_rows` meets its contract: before cell i, the words have the rows of the cells below i. Assumes nothing.
 use mathlib.Core.Path.{◌≡◌, refl, ◌∙◌}
-use Prim.Native.Nat.{◌-◌}
 use native.Mathlib.Omega.{arith}
 use Rattle.laws.proofs.Bits.{one_shl}
 use Rattle.laws.proofs.Grid.{row_before}

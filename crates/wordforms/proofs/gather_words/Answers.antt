@@ -17,8 +17,8 @@ add_rows-requires c =
     ∙ sets-at (λ _. 0) _ c.args.words.now k (omega (arith, h, c.requires.1)) (omega (arith, c.requires.1)) in
     (c.requires.0, omega (arith, long, c.requires.1), c.requires.2, none)
 
-pub returns-then-lower-lt8 : goal.returns-then-lower-lt8
-returns-then-lower-lt8 c = let a = c.args in
+pub returns-then-min-lt8 : goal.returns-then-min-lt8
+returns-then-min-lt8 c = let a = c.args in
     sets_last (word_at a.cells (reserved a.n a.table.now)) a.n a.words.now (c.lay.new.words) c.add_rows.new.words c.requires.1
     c.lay.ensures c.add_rows.ensures
 
@@ -27,7 +27,7 @@ add_eights-requires c =
     let long : length (c.lay.new.words) ≡ length c.args.words.now = sets-long _ _ _ (c.lay.new.words) c.lay.ensures in
     let none : Zeros c.args.n (c.lay.new.words) = λ k h. ap (λ (z : List ℕ). get_or z k 0) c.lay.ensures
     ∙ sets-at (λ _. 0) _ c.args.words.now k (omega (arith, h, c.requires.1)) (omega (arith, c.requires.1)) in
-    (omega (arith, c.lower.ensures, c.if-lower-lt8.false), c.requires.0, omega (arith, long, c.requires.1), c.requires.2, none)
+    (omega (arith, c.min.ensures, c.if-min-lt8.false), c.requires.0, omega (arith, long, c.requires.1), c.requires.2, none)
 
 pub returns : goal.returns
 returns c = let a = c.args in

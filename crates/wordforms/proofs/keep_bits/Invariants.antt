@@ -1,6 +1,6 @@
 -- `wordforms::keep_bits` meets its contract: before byte k, that many bits are stored, and the byte at k is still the first one. Assumes nothing.
 use mathlib.Core.Path.{◌≡◌}
-use Prim.Native.Nat.{◌-◌, ◌≤◌}
+use Prim.Native.Nat.{◌≤◌}
 use lib.ListN.{length}
 use lib.Seq.{sets}
 use Rattle.laws.specs.Part.{list_of}

@@ -1,7 +1,7 @@
 -- `wordforms::lay_bits` meets its contract: before byte k, that many bits are stored, and the bytes past them are still the first ones. Assumes nothing.
 use mathlib.Core.Path.{◌≡◌, refl, ap, ◌∙◌}
 use mathlib.Core.List.{List}
-use Prim.Native.Nat.{ℕ, ◌+◌, ◌-◌}
+use Prim.Native.Nat.{ℕ, ◌+◌}
 use native.Mathlib.Omega.{arith}
 use lib.ListN.{get_or, length-set}
 use Rattle.laws.specs.Bits.{bit_at}

@@ -1,6 +1,6 @@
 -- `wordforms::lay_row` meets its contract: before word k, that many bytes are stored. Assumes nothing.
 use mathlib.Core.Path.{◌≡◌}
-use Prim.Native.Nat.{◌-◌, ◌≤◌}
+use Prim.Native.Nat.{◌≤◌}
 use lib.ListN.{length}
 use lib.Seq.{sets}
 use Rattle.laws.specs.Part.{list_of}

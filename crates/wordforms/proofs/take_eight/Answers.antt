@@ -1,6 +1,6 @@
 -- `wordforms::take_eight` meets its contract: before position k, that many bytes are stored. Assumes nothing.
 use mathlib.Core.Path.{◌≡◌, refl, ◌∙◌}
-use Prim.Native.Nat.{◌+◌, ◌-◌}
+use Prim.Native.Nat.{◌+◌}
 use native.Mathlib.Omega.{arith}
 use lib.ListN.{length-set}
 use Rattle.laws.proofs.Stores.{sets-none, sets_more}

@@ -1,30 +1,14 @@
--- `words::second_in` meets its contract: a search: what is left gives the answer. Assumes nothing.
-use mathlib.Core.Path.{refl, sym, ◌∙◌}
-use native.Mathlib.Omega.{arith}
-use lib.ListN.{get_or}
-use borrow.Author.Tests.{eq-eqb, ne_eqb}
-use Rattle.laws.proofs.Search.{found, missed, ended}
-use Rattle.words.specs.Clashes.{second_in}
+-- `words::second_in` meets its contract: the lowest bit above a of what the row and the word share. Assumes nothing.
+use Rattle.std.proofs.Common.{arith, ◌∙◌, ◌+◌, ◌&&◌, get_or, bit_and}
+use Rattle.laws.specs.Bits.{bit_at}
 use Rattle.laws.proofs.Bits.{bit-and}
-use Rattle.words.proofs.second_in.Invariants.{test}
+use Rattle.laws.proofs.Search.{first-same}
+use Rattle.words.specs.Clashes.{second_in}
 use Rattle.words.proofs.second_in.Goals as goal
 
-pub loop-c-init : goal.loop-c-init
-unfolding second_in
-loop-c-init c = (omega arith, refl)
-
-pub returns-then-both-c-eq1 : goal.returns-then-both-c-eq1
-returns-then-both-c-eq1 c = let a = c.args in
-    found (test a.word a.clash.now a.a) c.loop-c.c a.cells c.loop-c.invariant.1 (omega arith)
-    (sym (bit-and (get_or a.clash.now a.a 0) a.word c.loop-c.c) ∙ eq-eqb _ _ c.if-both-c-eq1.true)
-
-pub loop-c-preserved : goal.loop-c-preserved
-loop-c-preserved c = let a = c.args in (
-  omega arith,
-  missed (test a.word a.clash.now a.a) c.loop-c.c a.cells c.loop-c.invariant.1 (omega arith)
-      (sym (bit-and (get_or a.clash.now a.a 0) a.word c.loop-c.c) ∙ ne_eqb _ _ c.if-both-c-eq1.false),
-)
-
 pub returns : goal.returns
+unfolding second_in
 returns c = let a = c.args in
-    ended (test a.word a.clash.now a.a) c.loop-c.c a.cells c.loop-c.invariant.1 (omega arith)
+    let row = get_or a.clash.now a.a 0 in
+    c.lowest.ensures
+    ∙ first-same (bit_at (bit_and row a.word)) (λ j. bit_at row j && bit_at a.word j) (a.a + 1) a.cells (omega arith) (λ j _ _. bit-and row a.word j)

@@ -2,12 +2,13 @@
 use Prim.Native.Nat.{◌<◌}
 use native.Mathlib.Omega.{arith}
 use lib.ListN.{get_or}
+use Rattle.checker.proofs.Judged.{second-most}
 use Rattle.wordtable.proofs.Runs.{none-counted}
-use Rattle.wordtable.proofs.Judged.{first-inside, second-most, is-clash, is-count, is-valid}
+use Rattle.wordtable.proofs.Judged.{first-inside, is-valid}
 use Rattle.wordtable.proofs.judge_open.Goals as goal
 
-pub walk-p-requires : goal.walk-p-requires
-walk-p-requires c = record { cells_bound = c.requires; counted_to = none-counted c.args.cells c.args.words.now c.requires.0 }
+pub walk-p-requires-clause-counted_to : goal.walk-p-requires-clause-counted_to
+walk-p-requires-clause-counted_to c = none-counted c.args.cells c.args.words.now c.requires.0
 
 pub second_in-c-requires : goal.second_in-c-requires
 second_in-c-requires c =
@@ -28,19 +29,9 @@ overflow_add-result-then-p-n c =
     omega (
       arith,
       c.second_in-c.ensures,
-      second-most c.args.cells c.args.n c.args.loads c.args.clash.now c.args.words.now
-          (get_or c.args.words.now c.walk-p.result 0) c.first_in-a.result inside,
+      second-most c.args.cells c.args.clash.now (get_or c.args.words.now c.walk-p.result 0) c.first_in-a.result inside,
       c.requires.0,
     )
-
-pub returns-then-p-n : goal.returns-then-p-n
-returns-then-p-n c = is-clash c.args.cells c.args.n c.args.loads c.args.clash.now c.args.words.now c.walk-p.ensures.lowest
-    c.if-p-n.true c.first_in-a.ensures c.second_in-c.ensures
-
-pub returns-then-i-cells : goal.returns-then-i-cells
-returns-then-i-cells c = let none = c.if-p-n.false in
-    is-count c.args.cells c.args.n c.args.loads c.args.clash.now c.args.words.now c.walk-p.ensures.lowest none c.walk-p.new.counts
-    (c.walk-p.ensures.counted none) c.lowest_wrong-i.ensures c.if-i-cells.true
 
 pub returns : goal.returns
 returns c = let none = c.if-p-n.false in

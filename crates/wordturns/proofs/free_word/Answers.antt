@@ -1,6 +1,6 @@
 -- `wordturns::free_word` meets its contract: before cell a, the words of the clashing cells below it are taken away. Assumes nothing.
 use mathlib.Core.Path.{◌≡◌, refl, ◌∙◌}
-use Prim.Native.Nat.{◌-◌, ◌^◌, ◌<◌}
+use Prim.Native.Nat.{◌^◌, ◌<◌}
 use native.Mathlib.Omega.{arith}
 use Rattle.wordturns.proofs.Turn.{all-free, one_free}
 use borrow.Author.Rules.{rules}

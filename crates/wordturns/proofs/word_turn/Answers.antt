@@ -6,10 +6,10 @@ use Rattle.wordturns.proofs.word_turn.Goals as goal
 
 pub returns : goal.returns
 returns c = let a = c.args in
-    let lacking = c.more_than-lacking.ensures ∙ ap (λ (n : ℕ). a.load - n) c.bits_in.ensures in record {
+    let lacking = c.saturating_sub-lacking.ensures ∙ ap (λ (n : ℕ). a.load - n) c.bits_in.ensures in record {
       here = turn-here a.free a.old a.load c.shared.ensures c.first_few-kept.ensures lacking c.without-rest.ensures c.first_few.ensures
           c.either-here.ensures;
-      short = c.more_than-short.ensures ∙ ap (λ (n : ℕ). c.more_than-lacking.result - n) c.bits_in-2.ensures
+      short = c.saturating_sub-short.ensures ∙ ap (λ (n : ℕ). c.saturating_sub-lacking.result - n) c.bits_in-2.ensures
           ∙ turn-short a.free a.old a.load c.shared.ensures c.first_few-kept.ensures lacking c.without-rest.ensures
           c.first_few.ensures c.either-here.ensures;
       changes = c.differing.ensures

@@ -1,8 +1,0 @@
--- `reachpairs::raised` meets its contract: `1 << b` is the power of two. Assumes nothing.
-use Rattle.laws.specs.Bits.{set_bit}
-use Rattle.laws.proofs.Bits.{one_shl}
-use Rattle.reachpairs.proofs.raised.Goals as goal
-
-pub returns : goal.returns
-unfolding set_bit
-returns c = simp (one_shl c.args.b c.requires)

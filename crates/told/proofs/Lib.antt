@@ -1,2 +1,0 @@
--- The proofs of crate `told`, module by module.
-pub mod Tells
