@@ -18,6 +18,36 @@ pub const THIRD_NAME: usize = 4;
 // The most bytes of an argument that is a command or a number.
 const WORD: usize = 64;
 
+// The commands of the desk, each by its word: Plan is `plan`, ReportHead is `report-head`.
+#[derive(Clone, Copy)]
+pub enum Command {
+    Admit,
+    Audit,
+    Carry,
+    Check,
+    Clashes,
+    Counts,
+    Diff,
+    Find,
+    Heading,
+    Load,
+    Mend,
+    Picture,
+    Plan,
+    Renumber,
+    ReportHead,
+    ReportPart,
+    Room,
+    Search,
+    Set,
+    Share,
+    Sheet,
+    Show,
+    Site,
+    Tidy,
+    Why,
+}
+
 // Puts argument i at the start of a buffer and says how many bytes it has: 0 where there is none, or where it does not fit.
 pub fn put(rt: &impl Env, i: usize, buffer: &mut [u8]) -> usize
     ensures { result ≤ length buffer.new }
@@ -39,14 +69,38 @@ pub fn count(rt: &impl Env) -> usize {
     usize::MAX
 }
 
-// Whether argument 1 is this name, all of it.
-pub fn is(rt: &impl Env, name: &[u8]) -> bool {
+// The command that argument 1 names, all of it; none where it is no command's word.
+pub fn read_command(rt: &impl Env) -> Option<Command> {
     let mut word = [0u8; WORD];
     let n = put(rt, 1, &mut word);
-    if n != name.len() {
-        return false;
+    match &word[..n] {
+        b"admit" => Some(Command::Admit),
+        b"audit" => Some(Command::Audit),
+        b"carry" => Some(Command::Carry),
+        b"check" => Some(Command::Check),
+        b"clashes" => Some(Command::Clashes),
+        b"counts" => Some(Command::Counts),
+        b"diff" => Some(Command::Diff),
+        b"find" => Some(Command::Find),
+        b"heading" => Some(Command::Heading),
+        b"load" => Some(Command::Load),
+        b"mend" => Some(Command::Mend),
+        b"picture" => Some(Command::Picture),
+        b"plan" => Some(Command::Plan),
+        b"renumber" => Some(Command::Renumber),
+        b"report-head" => Some(Command::ReportHead),
+        b"report-part" => Some(Command::ReportPart),
+        b"room" => Some(Command::Room),
+        b"search" => Some(Command::Search),
+        b"set" => Some(Command::Set),
+        b"share" => Some(Command::Share),
+        b"sheet" => Some(Command::Sheet),
+        b"show" => Some(Command::Show),
+        b"site" => Some(Command::Site),
+        b"tidy" => Some(Command::Tidy),
+        b"why" => Some(Command::Why),
+        _ => None,
     }
-    lines::eat_text(&word, 0, name) == n
 }
 
 // Argument i as a number; 0 where it is none up to 65,535. No call takes 0 for slots, channels, a rule, a burst, a period or repeats.

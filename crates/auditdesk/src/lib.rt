@@ -4,7 +4,7 @@
 
 ghost use Rattle.std.specs.Prelude.{◌≤◌, length};
 
-use arguments::{is, number, tries};
+use arguments::{number, tries};
 use auditing::{Extent, Form};
 use finder::{FindError, Way};
 use infiles::same_size;
@@ -126,7 +126,7 @@ fn put_planned(
     text: &mut [u8],
     end: usize,
     to: usize,
-    plan: PlanTold,
+    plan: Option<PlanTold>,
     mark: u8,
 ) -> bool
     requires { 65536 ≤ length text.old }
@@ -156,8 +156,8 @@ fn audit_plan(
     let answer = plan.answer;
     let Ok(()) = answer else {
         let end = say_audit::put_plan_refused(text, at, answer);
-        let mark = say_tally::mark_of(found, PlanSaid::Refused);
-        return put_planned(rt, text, end, to, PlanTold::Refused(answer), mark);
+        let mark = say_tally::mark_of(found, Some(PlanSaid::Refused));
+        return put_planned(rt, text, end, to, Some(PlanTold::Refused(answer)), mark);
     };
     if !same_size(site, plan) {
         let end = say_audit::put_other_size(
@@ -167,21 +167,21 @@ fn audit_plan(
             plan.slots as usize,
             plan.channels as usize,
         );
-        let mark = say_tally::mark_of(found, PlanSaid::Refused);
-        return put_planned(rt, text, end, to, PlanTold::OtherSize, mark);
+        let mark = say_tally::mark_of(found, Some(PlanSaid::Refused));
+        return put_planned(rt, text, end, to, Some(PlanTold::OtherSize), mark);
     }
     let verdict = checker::check(site, old);
     let unseen = oneway::unseen(site, old);
     let mended = mender::mend_only(site, old);
     let end = say_audit::put_checked(text, at, site, verdict, mended, unseen);
     let said = say_tally::verdict_said(verdict, unseen);
-    let mark = say_tally::mark_of(found, said);
+    let mark = say_tally::mark_of(found, Some(said));
     put_planned(
         rt,
         text,
         end,
         to,
-        PlanTold::Checked(verdict, mended, unseen),
+        Some(PlanTold::Checked(verdict, mended, unseen)),
         mark,
     )
 }
@@ -217,12 +217,12 @@ fn audit_alone(
 {
     if absent {
         let end = say_audit::put_line_end(text, place(at));
-        let mark = say_tally::mark_of(found, PlanSaid::Absent);
-        return put_planned(rt, text, end, to, PlanTold::Absent, mark);
+        let mark = say_tally::mark_of(found, None);
+        return put_planned(rt, text, end, to, None, mark);
     }
     let end = say_audit::put_unread_plan(text, place(at));
-    let mark = say_tally::mark_of(found, PlanSaid::Refused);
-    put_planned(rt, text, end, to, PlanTold::Unread, mark)
+    let mark = say_tally::mark_of(found, Some(PlanSaid::Refused));
+    put_planned(rt, text, end, to, Some(PlanTold::Unread), mark)
 }
 
 // What the sheet says of a site before its plan, where it is asked for; the place after it.
@@ -412,17 +412,19 @@ fn audit_one(rt: &HostRuntime, i: usize, tries: u64, asked: u16) -> bool {
 }
 
 // Every file that is named. Where a line can't be written it stops: the tally is short then, and the script says so.
-fn audit(rt: &HostRuntime, tries: u64, asked: u16) {
+pub fn run_audit(rt: &HostRuntime) {
+    let limit = tries(rt);
+    let asked = number(rt, ASKED);
     let end = arguments::count(rt);
     for i in NAMES..end {
-        if !audit_one(rt, i, tries, asked) {
+        if !audit_one(rt, i, limit, asked) {
             return;
         }
     }
 }
 
 // The last lines, by the tally of all files.
-fn put_counts(rt: &HostRuntime, tally: &[u8], text: &mut [u8])
+pub fn run_counts(rt: &HostRuntime, tally: &[u8], text: &mut [u8])
     requires in_bounds { 65536 ≤ length text.old }
     requires tally_len_bound { length tally.now ≤ 65536 }
 {
@@ -439,31 +441,9 @@ fn put_counts(rt: &HostRuntime, tally: &[u8], text: &mut [u8])
 }
 
 // The first line of the sheet.
-fn put_heading(rt: &HostRuntime, text: &mut [u8])
+pub fn run_heading(rt: &HostRuntime, text: &mut [u8])
     requires { 65536 ≤ length text.old }
 {
     let end = say_csv::put_first(text, 0);
     reply::yes(rt, text, end);
-}
-
-// Does what the command says, if it is one of an audit; whether it is.
-pub fn audit_commands(rt: &HostRuntime, input: &[u8], text: &mut [u8]) -> bool
-    requires in_bounds { 65536 ≤ length text.old }
-    requires input_len_bound { length input.now ≤ 65536 }
-{
-    if is(rt, b"audit") {
-        let limit = tries(rt);
-        let asked = number(rt, ASKED);
-        audit(rt, limit, asked);
-        return true;
-    }
-    if is(rt, b"heading") {
-        put_heading(rt, text);
-        return true;
-    }
-    if is(rt, b"counts") {
-        put_counts(rt, input, text);
-        return true;
-    }
-    false
 }

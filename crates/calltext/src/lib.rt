@@ -10,6 +10,7 @@ use say_answers::put_call;
 use text::put_text;
 
 // A text laid into the output, where there is room for it.
+// It only looks like `tidying::lay`: each answers with an error of its own.
 fn lay_text(text: &[u8], out: &mut [u8]) -> Result<usize, WriteError>
     ensures answer { result ≡ written text.now out.old }
     ensures out { out.new ≡ laid_over text.now out.old }

@@ -83,6 +83,7 @@ pub extern "C" fn dugg_set_load(site: Site, cell: u16, load: u16) -> EditedSite
     EditedSite::from(site.set_load(cell as usize, load))
 }
 
+// It only looks like `dugg_clear_reach`: C needs each call by its own name.
 #[unsafe(no_mangle)]
 pub extern "C" fn dugg_set_reach(site: Site, from: u16, to: u16) -> EditedSite
     ensures { result ≡ told_edited (set_reach_of site from to) }
@@ -97,6 +98,7 @@ pub extern "C" fn dugg_clear_reach(site: Site, from: u16, to: u16) -> EditedSite
     EditedSite::from(site.clear_reach(from as usize, to as usize))
 }
 
+// It only looks like `dugg_chain`, `dugg_class`, `dugg_least` and `dugg_renumber`: C needs each call by its own name.
 #[unsafe(no_mangle)]
 pub extern "C" fn dugg_load_test(site: Site) -> Answer
     ensures { result ≡ told (load_given (load_answer site)) }
@@ -132,6 +134,7 @@ pub extern "C" fn dugg_heaviest(site: Site) -> Answer
     Answer::from(heaviest::heaviest(site))
 }
 
+// It only looks like `dugg_write_site`, `dugg_write_sheet` and `dugg_why`: C needs each call by its own name.
 #[unsafe(no_mangle)]
 pub extern "C" fn dugg_plan(site: Site, table: &mut [u8]) -> Answer
     ensures value { result ≡ told (plan_given (plan_answer site table.old)) }
@@ -288,6 +291,7 @@ pub extern "C" fn dugg_write_site(site: Site, out: &mut [u8]) -> Answer
     Answer::from(sitefile::write_site(site, out))
 }
 
+// It only looks like `dugg_tidy` and `dugg_list`: C needs each call by its own name.
 #[unsafe(no_mangle)]
 pub extern "C" fn dugg_read_plan(bytes: &[u8], table: &mut [u8]) -> PlanReadC
     ensures value { result ≡ told_plan_read (read_plan bytes.now table.old) }
@@ -334,6 +338,7 @@ pub extern "C" fn dugg_tidy(sheet: &[u8], out: &mut [u8]) -> Answer
     Answer::from(tidying::tidy(sheet, out))
 }
 
+// It only looks like `dugg_admit_beside`: C needs each call by its own name.
 #[unsafe(no_mangle)]
 pub extern "C" fn dugg_admit(site: Site, flows: &[Flow]) -> Answer
     ensures { result ≡ told (admit_given (admit_answer site flows.now)) }

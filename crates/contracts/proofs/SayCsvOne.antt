@@ -1,6 +1,6 @@
 -- For any arguments one answer and one content of what is lent meet the contract, and no other, in crate `say_csv`: by its equalities alone.
 -- Made by tools/surface from the source. Assumes nothing.
-use Rattle.std.specs.Prelude.{List, Result, length, refl, ℕ, ◌+◌, ◌≡◌}
+use Rattle.std.specs.Prelude.{List, Option, Result, length, refl, ℕ, ◌+◌, ◌≡◌}
 use Rattle.auditing.specs.declared.Extent.{Extent}
 use Rattle.auditing.specs.declared.Form.{Form}
 use Rattle.contracts.specs.SayCsvSays.{SayCsvPutFirst, SayCsvPutPlanFields, SayCsvPutRefusedFields, SayCsvPutSite, SayCsvPutUnreadFields}
@@ -57,7 +57,7 @@ say_csv_put_site-one out at site form found takes room = (
 )
 
 -- say_csv::put_plan_fields
-pub say_csv_put_plan_fields-one : (out : List ℕ) (at : ℕ) (plan : PlanTold)
+pub say_csv_put_plan_fields-one : (out : List ℕ) (at : ℕ) (plan : Option PlanTold)
     → (r : ℕ) × (out' : List ℕ) × (SayCsvPutPlanFields out at plan r out')
     × ((q : ℕ) (out'' : List ℕ) → SayCsvPutPlanFields out at plan q out'' → (q ≡ r) × (out'' ≡ out'))
 say_csv_put_plan_fields-one out at plan = (

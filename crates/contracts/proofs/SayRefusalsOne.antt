@@ -1,6 +1,6 @@
 -- For any arguments one answer and one content of what is lent meet the contract, and no other, in crate `say_refusals`: by its equalities alone.
 -- Made by tools/surface from the source. Assumes nothing.
-use Rattle.std.specs.Prelude.{List, length, refl, ℕ, ◌+◌, ◌≡◌}
+use Rattle.std.specs.Prelude.{List, Option, length, refl, ℕ, ◌+◌, ◌≡◌}
 use Rattle.contracts.specs.SayRefusalsSays.{SayRefusalsPutRefused, SayRefusalsPutSentence}
 use Rattle.say_refusals.specs.Said.{refused_line}
 use Rattle.say_refusals.specs.Sentences.{sentence_in}
@@ -9,7 +9,7 @@ use Rattle.say_refusals.specs.declared.Sentence.{Sentence}
 use Rattle.std.proofs.lemmas.List.Edits.{sets}
 
 -- say_refusals::put_refused
-pub say_refusals_put_refused-one : (out : List ℕ) (at : ℕ) (number : ℕ) (place : Place)
+pub say_refusals_put_refused-one : (out : List ℕ) (at : ℕ) (number : ℕ) (place : Option Place)
     → (r : ℕ) × (out' : List ℕ) × (SayRefusalsPutRefused out at number place r out')
     × ((q : ℕ) (out'' : List ℕ) → SayRefusalsPutRefused out at number place q out'' → (q ≡ r) × (out'' ≡ out'))
 say_refusals_put_refused-one out at number place = (

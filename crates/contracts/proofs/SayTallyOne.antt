@@ -1,6 +1,6 @@
 -- For any arguments one answer and one content of what is lent meet the contract, and no other, in crate `say_tally`: by its equalities alone.
 -- Made by tools/surface from the source. Assumes nothing.
-use Rattle.std.specs.Prelude.{Bool, List, Result, length, refl, ℕ, ◌+◌, ◌≡◌}
+use Rattle.std.specs.Prelude.{Bool, List, Option, Result, length, refl, ℕ, ◌+◌, ◌≡◌}
 use Rattle.checker.specs.declared.CheckError.{CheckError}
 use Rattle.contracts.specs.SayTallySays.{SayTallyAllWell, SayTallyMarkOf, SayTallyPutTotals, SayTallyRefusedMark, SayTallyVerdictSaid}
 use Rattle.finder.specs.declared.FindError.{FindError}
@@ -21,7 +21,7 @@ say_tally_verdict_said-one verdict unseen = (
 )
 
 -- say_tally::mark_of
-pub say_tally_mark_of-one : (found : Result Way FindError) (plan : PlanSaid)
+pub say_tally_mark_of-one : (found : Result Way FindError) (plan : Option PlanSaid)
     → (r : ℕ) × (SayTallyMarkOf found plan r)
     × ((q : ℕ) → SayTallyMarkOf found plan q → (q ≡ r))
 say_tally_mark_of-one found plan = (

@@ -1,6 +1,6 @@
 -- The equalities that the contracts of crate `say_csv` state: r is the answer, and x' what a lent x holds afterwards.
 -- Made by tools/surface from the source.
-use Rattle.std.specs.Prelude.{List, Result, length, ℕ, ◌+◌, ◌≡◌}
+use Rattle.std.specs.Prelude.{List, Option, Result, length, ℕ, ◌+◌, ◌≡◌}
 use Rattle.auditing.specs.declared.Extent.{Extent}
 use Rattle.auditing.specs.declared.Form.{Form}
 use Rattle.finder.specs.declared.FindError.{FindError}
@@ -33,6 +33,6 @@ pub record SayCsvPutSite (out : List ℕ) (at : ℕ) (site : Site) (form : Form)
   pub out_after : out' ≡ sets out at (site_fields site form found takes room)
 
 -- say_csv::put_plan_fields
-pub record SayCsvPutPlanFields (out : List ℕ) (at : ℕ) (plan : PlanTold) (r : ℕ) (out' : List ℕ) : Type 0 where
+pub record SayCsvPutPlanFields (out : List ℕ) (at : ℕ) (plan : Option PlanTold) (r : ℕ) (out' : List ℕ) : Type 0 where
   pub answer : r ≡ at + length (plan_field plan)
   pub out_after : out' ≡ sets out at (plan_field plan)

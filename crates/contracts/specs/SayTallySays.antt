@@ -1,6 +1,6 @@
 -- The equalities that the contracts of crate `say_tally` state: r is the answer, and x' what a lent x holds afterwards.
 -- Made by tools/surface from the source.
-use Rattle.std.specs.Prelude.{Bool, List, Result, length, ℕ, ◌+◌, ◌≡◌}
+use Rattle.std.specs.Prelude.{Bool, List, Option, Result, length, ℕ, ◌+◌, ◌≡◌}
 use Rattle.checker.specs.declared.CheckError.{CheckError}
 use Rattle.finder.specs.declared.FindError.{FindError}
 use Rattle.finder.specs.declared.Way.{Way}
@@ -14,7 +14,7 @@ pub record SayTallyVerdictSaid (verdict : Result Unit CheckError) (unseen : Bool
   pub answer : r ≡ verdict_said verdict unseen
 
 -- say_tally::mark_of
-pub record SayTallyMarkOf (found : Result Way FindError) (plan : PlanSaid) (r : ℕ) : Type 0 where
+pub record SayTallyMarkOf (found : Result Way FindError) (plan : Option PlanSaid) (r : ℕ) : Type 0 where
   pub answer : r ≡ mark_of found plan
 
 -- say_tally::refused_mark

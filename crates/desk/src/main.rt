@@ -8,74 +8,14 @@
 
 ghost use Rattle.std.specs.Prelude.{◌≤◌, length};
 
+use arguments::{Command, NUMBERS, number};
 use infiles::{FIRST, SECOND, THIRD, read_input};
 use reply::no;
 
-// The commands that say what is in a plan, and write none; whether it is one of them.
-fn seen_asked(
-    rt: &HostRuntime,
-    input: &[u8],
-    second: &[u8],
-    third: &[u8],
-    old: &mut [u8],
-    table: &mut [u8],
-    text: &mut [u8],
-) -> bool
-    requires { 65536 ≤ length text.old }
-{
-    showdesk::show::show_commands(rt, input, second, table, text)
-        || showdesk::picture::picture_commands(rt, input, second, table, text)
-        || showdesk::list::list_commands(rt, input, second, third, old, table, text)
-}
-
-// The commands that look at a plan; whether it is one of them.
-fn plan_asked(
-    rt: &HostRuntime,
-    input: &[u8],
-    second: &[u8],
-    third: &[u8],
-    old: &mut [u8],
-    table: &mut [u8],
-    out: &mut [u8],
-    text: &mut [u8],
-) -> bool
-    requires { 65536 ≤ length text.old }
-{
-    seen_asked(rt, input, second, third, old, table, text)
-        || plandesk::plan::plan_commands(rt, input, second, old, table, out, text)
-        || plandesk::number::number_commands(rt, input, second, old, table, out, text)
-}
-
-// The commands that look at a site or a sheet alone; whether it is one of them.
-fn site_asked(
-    rt: &HostRuntime,
-    input: &[u8],
-    table: &mut [u8],
-    out: &mut [u8],
-    text: &mut [u8],
-) -> bool
-    requires in_bounds { 65536 ≤ length table.old }
-    requires in_bounds_2 { 65536 ≤ length text.old }
-{
-    plandesk::find::find_commands(rt, input, table, out, text)
-        || plandesk::room::room_commands(rt, input, table, text)
-        || sitedesk::sheets::sheet_commands(rt, input, out, text)
-        || sitedesk::set::set_commands(rt, input, out, text)
-}
-
-// The commands on flows, on all sites at once, and the parts of a report; whether it is one of them.
-fn text_asked(rt: &HostRuntime, input: &[u8], second: &[u8], ended: bool, text: &mut [u8]) -> bool
-    requires in_bounds { 65536 ≤ length text.old }
-    requires input_len_bound { length input.now ≤ 65536 }
-{
-    sitedesk::flow::flow_commands(rt, input, second, ended, text)
-        || auditdesk::audit_commands(rt, input, text)
-        || showdesk::report::report_commands(rt, input, text)
-}
-
-// Does what the command says: each module of the desk's crates knows its own commands. `ended` is whether the second input was read to its end.
+// Does what the command says. `ended` is whether the second input was read to its end.
 fn answer(
     rt: &HostRuntime,
+    command: Command,
     input: &[u8],
     second: &[u8],
     ended: bool,
@@ -89,11 +29,35 @@ fn answer(
     requires in_bounds_2 { 65536 ≤ length text.old }
     requires input_len_bound { length input.now ≤ 65536 }
 {
-    let known = site_asked(rt, input, table, out, text)
-        || text_asked(rt, input, second, ended, text)
-        || plan_asked(rt, input, second, third, old, table, out, text);
-    if !known {
-        no(rt, b"duggfrask: there is no such command\n", 36);
+    match command {
+        Command::Admit => sitedesk::flow::run_admit(rt, input, second, ended, text),
+        Command::Audit => auditdesk::run_audit(rt),
+        Command::Carry => plandesk::number::run_carry(rt, input, second, old, table, out, text),
+        Command::Check if number(rt, NUMBERS) == 1 => {
+            showdesk::list::run_check_all(rt, input, second, table, text)
+        }
+        Command::Check => plandesk::plan::run_check(rt, input, second, table, text),
+        Command::Clashes => showdesk::list::run_clashes(rt, input, text),
+        Command::Counts => auditdesk::run_counts(rt, input, text),
+        Command::Diff => showdesk::list::run_diff(rt, input, second, third, old, table, text),
+        Command::Find => plandesk::find::run_find(rt, input, table, out, text),
+        Command::Heading => auditdesk::run_heading(rt, text),
+        Command::Load => plandesk::plan::run_load(rt, input, second, old, table, out, text),
+        Command::Mend => plandesk::plan::run_mend(rt, input, second, old, table, out, text),
+        Command::Picture => showdesk::show::run_picture(rt, input, second, table, text),
+        Command::Plan => plandesk::plan::run_plan(rt, input, table, out, text),
+        Command::Renumber => plandesk::number::run_renumber(rt, input, out, text),
+        Command::ReportHead => showdesk::report::run_report_head(rt, input, text),
+        Command::ReportPart => showdesk::report::run_report_part(rt, input, text),
+        Command::Room => plandesk::room::run_room(rt, input, table, text),
+        Command::Search => plandesk::plan::run_search(rt, input, table, out, text),
+        Command::Set => sitedesk::set::run_set(rt, input, out, text),
+        Command::Share => sitedesk::flow::run_share(rt, text),
+        Command::Sheet => sitedesk::sheets::run_sheet(rt, input, out, text),
+        Command::Show => showdesk::show::run_show(rt, input, second, table, text),
+        Command::Site => sitedesk::sheets::run_site(rt, input, out, text),
+        Command::Tidy => sitedesk::sheets::run_tidy(rt, input, out, text),
+        Command::Why => plandesk::find::run_why(rt, input, table, text),
     }
 }
 
@@ -105,12 +69,17 @@ fn main(rt: HostRuntime) {
     let next = read_input(&rt, SECOND, first.own, &mut second);
     let mut third = [0u8; 65536];
     let last = read_input(&rt, THIRD, first.own & next.own, &mut third);
+    let Some(command) = arguments::read_command(&rt) else {
+        no(&rt, b"duggfrask: there is no such command\n", 36);
+        return;
+    };
     let mut table = [0u8; 65536];
     let mut old = [0u8; 65536];
     let mut out = [0u8; 65536];
     let mut text = [0u8; 65536];
     answer(
         &rt,
+        command,
         &input[..first.size],
         &second[..next.size],
         next.ended,

@@ -1,6 +1,6 @@
 -- The line of `duggfrask find`: the last word, and what there is to say beside it. And the exit status: "Status of `why` and `find`: 0 a plan, 1 proved full or
 -- refused, 3 not known". And the tries that `why` makes at most.
-use Rattle.std.specs.Prelude.{ℕ, ◌+◌, Bool, List, [], ◌++◌, ltb, Result, Ok, Err}
+use Rattle.std.specs.Prelude.{ℕ, ◌+◌, Bool, List, [], ◌++◌, ltb, Result, Ok, Err, None}
 use Rattle.laws.specs.Choice.{pick}
 use Rattle.theory.specs.Net.{room}
 use Rattle.site.specs.Record.{positions, fault_of}
@@ -17,7 +17,6 @@ use Rattle.phrases.specs.Phrases.{phrase}
 use Rattle.phrases.specs.declared.Phrase.{Phrase}
 use Rattle.phrases.specs.declared.Phrase.TheVariants.{Silent, Row}
 use Rattle.say_refusals.specs.Said.{refused_line}
-use Rattle.say_refusals.specs.declared.Place.TheVariants.{Nowhere}
 use Rattle.verdicts.specs.Said.{fault_said}
 use Rattle.finds.specs.Lines.{find_lines, found_sizes_row, it_needs_row, they_need_row, no_plan_row, stopped_there_row, too_large_row}
 use Rattle.finds.specs.Last.{several_in, last_word}
@@ -57,7 +56,7 @@ find_refused (Err (Full x)) = []
 find_refused (Err FullInClass) = []
 find_refused (Err (FullSearched n)) = []
 find_refused (Err (NotKnown n)) = []
-find_refused (Err TableShort) = refused_line 4 Nowhere
+find_refused (Err TableShort) = refused_line 4 None
 find_refused (Err (Record f)) = fault_said f
 
 -- of an accepted site

@@ -45,7 +45,7 @@ fn tell(rt: &HostRuntime, out: &mut [u8], file: &[u8])
         out,
         0,
         refusal.number as usize,
-        Place::Byte(refusal.place),
+        Some(Place::Byte(refusal.place)),
     );
     reply::no(rt, out, end);
 }

@@ -1,7 +1,7 @@
 // The commands of the desk that look for a plan by every proved way: find, and why, whose last word is what find says.
 ghost use Rattle.std.specs.Prelude.{◌≤◌, length};
 
-use arguments::{NUMBERS, is, tries};
+use arguments::{NUMBERS, tries};
 use finder::{FindError, Way};
 use infiles::{give_plan, site_of};
 use site::Site;
@@ -45,7 +45,7 @@ pub fn found(rt: &HostRuntime, site: Site, table: &mut [u8]) -> Result<Way, Find
 }
 
 // A plan of a site by any proved way, and a line that says by which; or why there is none, or that it is not known.
-fn find(rt: &HostRuntime, input: &[u8], table: &mut [u8], out: &mut [u8], text: &mut [u8])
+pub fn run_find(rt: &HostRuntime, input: &[u8], table: &mut [u8], out: &mut [u8], text: &mut [u8])
     requires { 65536 ≤ length text.old }
 {
     let Some(site) = site_of(rt, input, text) else {
@@ -68,7 +68,7 @@ fn find(rt: &HostRuntime, input: &[u8], table: &mut [u8], out: &mut [u8], text: 
 }
 
 // The verdicts on a site, in English, that it has no numbering where it has none, its rule, and the last word.
-fn why(rt: &HostRuntime, input: &[u8], table: &mut [u8], text: &mut [u8])
+pub fn run_why(rt: &HostRuntime, input: &[u8], table: &mut [u8], text: &mut [u8])
     requires in_bounds { 65536 ≤ length table.old }
     requires in_bounds_2 { 65536 ≤ length text.old }
 {
@@ -92,26 +92,4 @@ fn why(rt: &HostRuntime, input: &[u8], table: &mut [u8], text: &mut [u8])
         return;
     }
     put_status(rt, say_find::status(found));
-}
-
-// Does what the command says, if it is one of these; whether it is.
-pub fn find_commands(
-    rt: &HostRuntime,
-    input: &[u8],
-    table: &mut [u8],
-    out: &mut [u8],
-    text: &mut [u8],
-) -> bool
-    requires in_bounds { 65536 ≤ length table.old }
-    requires in_bounds_2 { 65536 ≤ length text.old }
-{
-    if is(rt, b"find") {
-        find(rt, input, table, out, text);
-        return true;
-    }
-    if is(rt, b"why") {
-        why(rt, input, table, text);
-        return true;
-    }
-    false
 }

@@ -1,7 +1,6 @@
 // The commands of the desk that number the cells of a site anew, and carry a plan of that site back.
 ghost use Rattle.std.specs.Prelude.{◌≤◌, length};
 
-use arguments::is;
 use infiles::{give_plan, read_pair, site_of};
 use reply::no;
 use site::Site;
@@ -24,7 +23,7 @@ fn put_renumbered(rt: &HostRuntime, site: Site, out: &mut [u8], text: &[u8], end
 }
 
 // Numbers the cells of a site anew.
-fn renumber(rt: &HostRuntime, input: &[u8], out: &mut [u8], text: &mut [u8])
+pub fn run_renumber(rt: &HostRuntime, input: &[u8], out: &mut [u8], text: &mut [u8])
     requires { 65536 ≤ length text.old }
 {
     let Some(site) = site_of(rt, input, text) else {
@@ -43,7 +42,7 @@ fn renumber(rt: &HostRuntime, input: &[u8], out: &mut [u8], text: &mut [u8])
 }
 
 // Carries a plan of the renumbered site back into the old numbers.
-fn carry(
+pub fn run_carry(
     rt: &HostRuntime,
     input: &[u8],
     second: &[u8],
@@ -68,27 +67,4 @@ fn carry(
         return;
     }
     reply::fine(rt);
-}
-
-// Does what the command says, if it is one of these; whether it is.
-pub fn number_commands(
-    rt: &HostRuntime,
-    input: &[u8],
-    second: &[u8],
-    old: &mut [u8],
-    table: &mut [u8],
-    out: &mut [u8],
-    text: &mut [u8],
-) -> bool
-    requires { 65536 ≤ length text.old }
-{
-    if is(rt, b"renumber") {
-        renumber(rt, input, out, text);
-        return true;
-    }
-    if is(rt, b"carry") {
-        carry(rt, input, second, old, table, out, text);
-        return true;
-    }
-    false
 }

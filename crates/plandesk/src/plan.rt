@@ -2,7 +2,7 @@
 // functions over slices; here it is only written, by way of `reply`.
 ghost use Rattle.std.specs.Prelude.{◌≤◌, length};
 
-use arguments::{NUMBERS, is, number, tries};
+use arguments::{NUMBERS, number, tries};
 use changelines::put_all_changes;
 use infiles::{give_plan, read_pair, site_of};
 use reply::{no, yes};
@@ -13,7 +13,7 @@ use site::Site;
 const SHOWN: usize = 5;
 
 // Plans a site: the plan file, and a line that says what was planned.
-fn plan(rt: &HostRuntime, input: &[u8], table: &mut [u8], out: &mut [u8], text: &mut [u8])
+pub fn run_plan(rt: &HostRuntime, input: &[u8], table: &mut [u8], out: &mut [u8], text: &mut [u8])
     requires { 65536 ≤ length text.old }
 {
     let Some(site) = site_of(rt, input, text) else {
@@ -34,7 +34,7 @@ fn plan(rt: &HostRuntime, input: &[u8], table: &mut [u8], out: &mut [u8], text: 
 }
 
 // Checks a plan file: valid, or the first thing wrong.
-fn check(rt: &HostRuntime, input: &[u8], second: &[u8], table: &mut [u8], text: &mut [u8])
+pub fn run_check(rt: &HostRuntime, input: &[u8], second: &[u8], table: &mut [u8], text: &mut [u8])
     requires { 65536 ≤ length text.old }
 {
     let Some(site) = read_pair(rt, input, second, table, text) else {
@@ -77,7 +77,7 @@ fn put_mended(
 }
 
 // Mends a plan. It is read twice: one table is mended, and the other keeps what it was.
-fn mend(
+pub fn run_mend(
     rt: &HostRuntime,
     input: &[u8],
     second: &[u8],
@@ -159,12 +159,10 @@ fn change(
 }
 
 // Changes one load of a site and of its plan. A plan that is not the site's own is taken as it was read, and is refused.
-fn load(
+pub fn run_load(
     rt: &HostRuntime,
     input: &[u8],
     second: &[u8],
-    cell: u16,
-    load: u16,
     read: &mut [u8],
     table: &mut [u8],
     out: &mut [u8],
@@ -175,6 +173,8 @@ fn load(
     let Some(site) = read_pair(rt, input, second, read, text) else {
         return;
     };
+    let cell = number(rt, NUMBERS);
+    let load = number(rt, NUMBERS + 1);
     if own_plan(site, second, table, out) {
         change(rt, site, cell, load, table, out, text);
         return;
@@ -186,35 +186,26 @@ fn load(
 fn sought(
     rt: &HostRuntime,
     site: Site,
-    tries: u64,
-    shown: bool,
     table: &mut [u8],
     text: &mut [u8],
 ) -> Result<u64, SearchError>
     requires { 65536 ≤ length text.old }
 {
-    if shown {
-        return crate::searching::search_shown(rt, site, tries, table, text);
+    let limit = tries(rt);
+    if number(rt, SHOWN) == 1 {
+        return crate::searching::search_shown(rt, site, limit, table, text);
     }
-    search::search(site, tries, table)
+    search::search(site, limit, table)
 }
 
 // Searches for a plan of a site: the plan file, and a line that says how the search ended.
-fn search(
-    rt: &HostRuntime,
-    input: &[u8],
-    tries: u64,
-    shown: bool,
-    table: &mut [u8],
-    out: &mut [u8],
-    text: &mut [u8],
-)
+pub fn run_search(rt: &HostRuntime, input: &[u8], table: &mut [u8], out: &mut [u8], text: &mut [u8])
     requires { 65536 ≤ length text.old }
 {
     let Some(site) = site_of(rt, input, text) else {
         return;
     };
-    let found = sought(rt, site, tries, shown, table, text);
+    let found = sought(rt, site, table, text);
     let end = say_search::put_search(text, 0, found);
     let Ok(_) = found else {
         no(rt, text, end);
@@ -226,58 +217,4 @@ fn search(
     }
     reply::message(rt, text, end);
     reply::fine(rt);
-}
-
-// The commands that have a plan beside the site; whether it is one of them.
-fn pair_commands(
-    rt: &HostRuntime,
-    input: &[u8],
-    second: &[u8],
-    old: &mut [u8],
-    table: &mut [u8],
-    out: &mut [u8],
-    text: &mut [u8],
-) -> bool
-    requires { 65536 ≤ length text.old }
-{
-    if is(rt, b"mend") {
-        mend(rt, input, second, old, table, out, text);
-        return true;
-    }
-    if is(rt, b"load") {
-        let cell = number(rt, NUMBERS);
-        let new = number(rt, NUMBERS + 1);
-        load(rt, input, second, cell, new, old, table, out, text);
-        return true;
-    }
-    false
-}
-
-// Does what the command says, if it is one on a plan; whether it is.
-pub fn plan_commands(
-    rt: &HostRuntime,
-    input: &[u8],
-    second: &[u8],
-    old: &mut [u8],
-    table: &mut [u8],
-    out: &mut [u8],
-    text: &mut [u8],
-) -> bool
-    requires { 65536 ≤ length text.old }
-{
-    if is(rt, b"plan") {
-        plan(rt, input, table, out, text);
-        return true;
-    }
-    if is(rt, b"check") {
-        check(rt, input, second, table, text);
-        return true;
-    }
-    if is(rt, b"search") {
-        let limit = tries(rt);
-        let shown = number(rt, SHOWN) == 1;
-        search(rt, input, limit, shown, table, out, text);
-        return true;
-    }
-    pair_commands(rt, input, second, old, table, out, text)
 }

@@ -2,7 +2,6 @@
 ghost use Rattle.std.specs.Prelude.{◌≤◌, length};
 
 use crate::find::found;
-use arguments::is;
 use finder::{FindError, Way};
 use infiles::site_of;
 use site::Site;
@@ -33,7 +32,7 @@ fn put_rooms(rt: &HostRuntime, site: Site, reply: Result<Way, FindError>, text: 
 }
 
 // How much more each cell of a site could carry, with all else as it is; and how many slots would do.
-fn tell_room(rt: &HostRuntime, input: &[u8], table: &mut [u8], text: &mut [u8])
+pub fn run_room(rt: &HostRuntime, input: &[u8], table: &mut [u8], text: &mut [u8])
     requires { 65536 ≤ length text.old }
 {
     let Some(site) = site_of(rt, input, text) else {
@@ -54,15 +53,4 @@ fn tell_room(rt: &HostRuntime, input: &[u8], table: &mut [u8], text: &mut [u8])
         return;
     }
     reply::fine(rt);
-}
-
-// Does what the command says, if it is `room`; whether it is.
-pub fn room_commands(rt: &HostRuntime, input: &[u8], table: &mut [u8], text: &mut [u8]) -> bool
-    requires { 65536 ≤ length text.old }
-{
-    if is(rt, b"room") {
-        tell_room(rt, input, table, text);
-        return true;
-    }
-    false
 }

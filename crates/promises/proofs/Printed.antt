@@ -14,7 +14,7 @@ use native.Mathlib.Omega.{arith}
 use borrow.Author.Tests.{eqb-true}
 use lib.Dec.{ltb, eqb}
 use lib.ListN.{get_or}
-use Rattle.std.specs.Prelude.{Result, Ok, Err}
+use Rattle.std.specs.Prelude.{Result, Ok, Err, Option, Some, None}
 use Rattle.laws.specs.Choice.{pick}
 use Rattle.theory.specs.Net.{Valid}
 use Rattle.theory.specs.Greedy.{reserved}
@@ -66,22 +66,22 @@ refusing words = eqb (begins words) 114 || eqb (begins words) 0
 apart : (l m : List ℕ) → l ≡ m → refusing l ≡ true → refusing m ≡ false → ⊥
 apart l m e p q = true≢false (sym p ∙ ap refusing e ∙ q)
 
-refused-r : (n : ℕ) (p : Place) → refusing (refused_line n p) ≡ true
+refused-r : (n : ℕ) (p : Option Place) → refusing (refused_line n p) ≡ true
 unfolding refusal_heads refused_line spoken
-refused-r n place.Nowhere = refl
-refused-r n (place.Byte k) = refl
-refused-r n (place.PlanByte k) = refl
-refused-r n (place.Line k) = refl
-refused-r n (place.Cell k) = refl
-refused-r n (place.Flow k) = refl
-refused-r n (place.Position k) = refl
+refused-r n None = refl
+refused-r n (Some (place.Byte k)) = refl
+refused-r n (Some (place.PlanByte k)) = refl
+refused-r n (Some (place.Line k)) = refl
+refused-r n (Some (place.Cell k)) = refl
+refused-r n (Some (place.Flow k)) = refl
+refused-r n (Some (place.Position k)) = refl
 
 fault-r : (f : Fault) → refusing (fault_said f) ≡ true
-fault-r Size = refused-r 1 place.Nowhere
-fault-r Rule = refused-r 24 place.Nowhere
-fault-r (Load k) = refused-r 2 (place.Cell k)
-fault-r (Reach k) = refused-r 3 (place.Cell k)
-fault-r (Blocked k) = refused-r 20 (place.Position k)
+fault-r Size = refused-r 1 None
+fault-r Rule = refused-r 24 None
+fault-r (Load k) = refused-r 2 (Some (place.Cell k))
+fault-r (Reach k) = refused-r 3 (Some (place.Cell k))
+fault-r (Blocked k) = refused-r 20 (Some (place.Position k))
 
 chosen-r : (t : Bool) (x y : Sentence) → refusing (sentence verdict_lines x) ≡ true → refusing (sentence verdict_lines y) ≡ true
     → refusing (sentence verdict_lines (pick t x y)) ≡ true
@@ -100,21 +100,21 @@ unfolding clash_sentence
 clash-r s p a c =
     let slot = p / s.channels + 1 in
     let channel = p % s.channels + 1 in
-    chosen-r (ltb 0 s.channels && ltb p 65536) (way_sentence (reach_named s a c) (reach_named s c a) a c slot channel) (Refusal 6 place.Nowhere)
-    (way-r (reach_named s a c) (reach_named s c a) a c slot channel) (refused-r 6 place.Nowhere)
+    chosen-r (ltb 0 s.channels && ltb p 65536) (way_sentence (reach_named s a c) (reach_named s c a) a c slot channel) (Refusal 6 None)
+    (way-r (reach_named s a c) (reach_named s c a) a c slot channel) (refused-r 6 None)
 
 blocked-r : (s : Site) (p c : ℕ) → refusing (check_said s (Err (check.Blocked p c))) ≡ true
 unfolding blocked_sentence verdict_lines spoken
 blocked-r s p c =
-    chosen-r (ltb 0 s.channels && ltb p 65536) (line blocked_row c (p / s.channels + 1) (p % s.channels + 1) 0) (Refusal 22 place.Nowhere)
-    refl (refused-r 22 place.Nowhere)
+    chosen-r (ltb 0 s.channels && ltb p 65536) (line blocked_row c (p / s.channels + 1) (p % s.channels + 1) 0) (Refusal 22 None)
+    refl (refused-r 22 None)
 
 -- ---- from the words back to the answer
 
 valid-only : (s : Site) (a : Result Unit CheckError) → check_said s a ≡ valid_line → a ≡ Ok tt
 unfolding verdict_lines spoken
 valid-only s (Ok u) e = refl
-valid-only s (Err check.TableShort) e = absurd (apart _ _ e (refused-r 4 place.Nowhere) refl)
+valid-only s (Err check.TableShort) e = absurd (apart _ _ e (refused-r 4 None) refl)
 valid-only s (Err (check.Blocked p c)) e = absurd (apart _ _ e (blocked-r s p c) refl)
 valid-only s (Err (check.Clash p a c)) e = absurd (apart _ _ e (clash-r s p a c) refl)
 valid-only s (Err (check.Count i n)) e = absurd (apart _ _ e refl refl)
@@ -123,7 +123,7 @@ valid-only s (Err (check.Record f)) e = absurd (apart _ _ e (fault-r f) refl)
 planned-only : (s : Site) (a : Result Unit PlanError) (i t f : ℕ) → plan_said s a ≡ planned_line i t f → a ≡ Ok tt
 unfolding verdict_lines spoken
 planned-only s (Ok u) i t f e = refl
-planned-only s (Err plan.TableShort) i t f e = absurd (apart _ _ e (refused-r 4 place.Nowhere) refl)
+planned-only s (Err plan.TableShort) i t f e = absurd (apart _ _ e (refused-r 4 None) refl)
 planned-only s (Err (plan.NoRoom c n)) i t f e = absurd (apart _ _ e refl refl)
 planned-only s (Err (plan.Record g)) i t f e = absurd (apart _ _ e (fault-r g) refl)
 
@@ -137,17 +137,17 @@ none-changed n false p e = let z : ◌≡◌ {A = ℕ} 109 118 = ap begins e in 
 unchanged-only : (a : Result ℕ MendError) → mend_said a ≡ unchanged_line → a ≡ Ok 0
 unfolding verdict_lines spoken changes_sentence
 unchanged-only (Ok n) e = ap Ok (none-changed n (eqb n 0) refl e)
-unchanged-only (Err mend.TableShort) e = absurd (apart _ _ e (refused-r 4 place.Nowhere) refl)
+unchanged-only (Err mend.TableShort) e = absurd (apart _ _ e (refused-r 4 None) refl)
 unchanged-only (Err (mend.NoRoom c n)) e = absurd (apart _ _ e refl refl)
-unchanged-only (Err (mend.ListShort n)) e = absurd (apart _ _ e (refused-r 13 place.Nowhere) refl)
+unchanged-only (Err (mend.ListShort n)) e = absurd (apart _ _ e (refused-r 13 None) refl)
 unchanged-only (Err (mend.Record f)) e = absurd (apart _ _ e (fault-r f) refl)
 
 mended-only : (a : Result ℕ MendError) (k : ℕ) → mend_said a ≡ mended_line k → (n : ℕ) × (a ≡ Ok n)
 unfolding verdict_lines spoken
 mended-only (Ok n) k e = (n, refl)
-mended-only (Err mend.TableShort) k e = absurd (apart _ _ e (refused-r 4 place.Nowhere) refl)
+mended-only (Err mend.TableShort) k e = absurd (apart _ _ e (refused-r 4 None) refl)
 mended-only (Err (mend.NoRoom c n)) k e = absurd (apart _ _ e refl refl)
-mended-only (Err (mend.ListShort n)) k e = absurd (apart _ _ e (refused-r 13 place.Nowhere) refl)
+mended-only (Err (mend.ListShort n)) k e = absurd (apart _ _ e (refused-r 13 None) refl)
 mended-only (Err (mend.Record f)) k e = absurd (apart _ _ e (fault-r f) refl)
 
 -- ---- what is printed

@@ -2,10 +2,11 @@
 -- Assumes nothing.
 use mathlib.Core.Path.{◌≡◌, refl}
 use mathlib.Core.List.{[], ◌∷◌}
+use Rattle.std.specs.Prelude.{Some, None}
 use Rattle.text.specs.Decimal.{digits_of, decimal}
 use Rattle.speech.specs.Speech.{bytes, spoken}
 use Rattle.say_refusals.specs.Said.{refused_line}
-use Rattle.say_refusals.specs.declared.Place.TheVariants.{Nowhere, Byte, PlanByte, Line, Cell, Flow, Position}
+use Rattle.say_refusals.specs.declared.Place.TheVariants.{Byte, PlanByte, Line, Cell, Flow, Position}
 use Rattle.say_answers.specs.Lines.{answer_lines}
 use Rattle.say_answers.specs.Said.{other_says, done_says, own_says, place_given, answer_says, call_said}
 
@@ -84,7 +85,8 @@ more-said = refl
 places-said :
     call_said 11 2 7 0 0 ∷ call_said 26 2 7 0 0 ∷ call_said 26 3 7 0 0 ∷ call_said 27 15 7 0 0 ∷ call_said 24 15 0 0 0 ∷ call_said 28 9 7 0 0
     ∷ call_said 30 9 7 0 0 ∷ call_said 30 4 0 0 0 ∷ call_said 32 17 7 0 0 ∷ call_said 32 20 7 0 0 ∷ call_said 22 23 0 0 0 ∷ []
-    ≡ refused_line 2 (Cell 7) ∷ refused_line 2 Nowhere ∷ refused_line 3 (Cell 7) ∷ refused_line 15 (Flow 7) ∷ refused_line 15 Nowhere ∷ refused_line 9 (Byte 7)
-    ∷ refused_line 9 (PlanByte 7) ∷ refused_line 4 Nowhere ∷ refused_line 17 (Line 7) ∷ refused_line 20 (Position 7) ∷ refused_line 23 Nowhere ∷ []
+    ≡ refused_line 2 (Some (Cell 7)) ∷ refused_line 2 None ∷ refused_line 3 (Some (Cell 7)) ∷ refused_line 15 (Some (Flow 7)) ∷ refused_line 15 None
+    ∷ refused_line 9 (Some (Byte 7)) ∷ refused_line 9 (Some (PlanByte 7)) ∷ refused_line 4 None ∷ refused_line 17 (Some (Line 7))
+    ∷ refused_line 20 (Some (Position 7)) ∷ refused_line 23 None ∷ []
 unfolding own_says place_given answer_says
 places-said = refl

@@ -1,12 +1,12 @@
 -- An answer of any call in words: "gives an answer of any call in the words of NUMBERS.md". A call that is done has its row, or another of its forms by its
 -- values; a refusal has the sentence of its number, with the place where the values have one. 5, 6, 7, 13 and 22 come with more than a place, and have rows of
 -- their own.
-use Rattle.std.specs.Prelude.{ℕ, List, eqb, ltb}
+use Rattle.std.specs.Prelude.{ℕ, List, eqb, ltb, Option, Some, None}
 use Rattle.laws.specs.Choice.{pick}
 use Rattle.phrases.specs.declared.Phrase.TheVariants.{Row}
 use Rattle.say_refusals.specs.Sentences.{sentence}
 use Rattle.say_refusals.specs.declared.Place.{Place}
-use Rattle.say_refusals.specs.declared.Place.TheVariants.{Nowhere, Byte, PlanByte, Line, Cell, Flow, Position}
+use Rattle.say_refusals.specs.declared.Place.TheVariants.{Byte, PlanByte, Line, Cell, Flow, Position}
 use Rattle.say_refusals.specs.declared.Sentence.{Sentence}
 use Rattle.say_refusals.specs.declared.Sentence.TheVariants.{Plain, Refusal}
 use Rattle.say_answers.specs.Lines.{answer_lines, clash_asked, load_test_asked, chain_asked, class_asked, least_asked, search_asked, find_asked}
@@ -74,20 +74,20 @@ own_says call number =
     (pick (eqb number 13) (short_of call) 0))))
 
 -- of a record: the cell, or the position
-abbrev pub record_place : ℕ → ℕ → Place
-record_place number a = pick (eqb number 2) (Cell a) (pick (eqb number 3) (Cell a) (pick (eqb number 20) (Position a) Nowhere))
+abbrev pub record_place : ℕ → ℕ → Option Place
+record_place number a = pick (eqb number 2) (Some (Cell a)) (pick (eqb number 3) (Some (Cell a)) (pick (eqb number 20) (Some (Position a)) None))
 
 -- of an admission: the flow. Its 2 may be the record's: "dugg_fault tells which it is"
-abbrev pub flow_place : ℕ → ℕ → Place
-flow_place number a = pick (eqb number 15) (Flow a) (pick (eqb number 16) (Flow a) (pick (eqb number 2) Nowhere (record_place number a)))
+abbrev pub flow_place : ℕ → ℕ → Option Place
+flow_place number a = pick (eqb number 15) (Some (Flow a)) (pick (eqb number 16) (Some (Flow a)) (pick (eqb number 2) None (record_place number a)))
 
 -- of a file: the offset; of a sheet: the line
-unfoldable pub place_given : ℕ → ℕ → ℕ → Place
+unfoldable pub place_given : ℕ → ℕ → ℕ → Option Place
 place_given call number a =
-    pick (eqb number 4) Nowhere
-    (pick (eqb call read_site_asked) (Byte a)
-    (pick (eqb call read_plan_asked) (PlanByte a)
-    (pick (eqb number 17) (Line a)
+    pick (eqb number 4) None
+    (pick (eqb call read_site_asked) (Some (Byte a))
+    (pick (eqb call read_plan_asked) (Some (PlanByte a))
+    (pick (eqb number 17) (Some (Line a))
     (pick (eqb call admit_asked) (flow_place number a)
     (pick (eqb call admit_beside_asked) (flow_place number a)
     (record_place number a))))))

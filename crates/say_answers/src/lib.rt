@@ -220,52 +220,52 @@ fn own_row(call: usize, number: usize) -> usize
 }
 
 // The place in a record.
-fn record_place(number: usize, a: usize) -> Place
+fn record_place(number: usize, a: usize) -> Option<Place>
     ensures { result ≡ record_place number a }
 {
     if number == 2 {
-        return Place::Cell(a);
+        return Some(Place::Cell(a));
     }
     if number == 3 {
-        return Place::Cell(a);
+        return Some(Place::Cell(a));
     }
     if number == 20 {
-        return Place::Position(a);
+        return Some(Place::Position(a));
     }
-    Place::Nowhere
+    None
 }
 
 // The place of an admission.
-fn flow_place(number: usize, a: usize) -> Place
+fn flow_place(number: usize, a: usize) -> Option<Place>
     ensures { result ≡ flow_place number a }
 {
     if number == 15 {
-        return Place::Flow(a);
+        return Some(Place::Flow(a));
     }
     if number == 16 {
-        return Place::Flow(a);
+        return Some(Place::Flow(a));
     }
     if number == 2 {
-        return Place::Nowhere;
+        return None;
     }
     record_place(number, a)
 }
 
 // The place of any refusal.
-fn place_of(call: usize, number: usize, a: usize) -> Place
+fn place_of(call: usize, number: usize, a: usize) -> Option<Place>
     ensures { result ≡ place_given call number a }
 {
     if number == 4 {
-        return Place::Nowhere;
+        return None;
     }
     if call == READ_SITE_CALL {
-        return Place::Byte(a);
+        return Some(Place::Byte(a));
     }
     if call == READ_PLAN_CALL {
-        return Place::PlanByte(a);
+        return Some(Place::PlanByte(a));
     }
     if number == 17 {
-        return Place::Line(a);
+        return Some(Place::Line(a));
     }
     if call == ADMIT_CALL {
         return flow_place(number, a);

@@ -2,7 +2,7 @@
 use mathlib.Core.Path.{◌≡◌, refl}
 use mathlib.Core.Bool.{true, false}
 use mathlib.Core.List.{[], ◌∷◌}
-use Rattle.std.specs.Prelude.{Ok, Err}
+use Rattle.std.specs.Prelude.{Some, None, Ok, Err}
 use Rattle.text.specs.Decimal.{digits_of, decimal}
 use Rattle.speech.specs.Speech.{bytes, spoken}
 use Rattle.records.specs.Reasons.{refusal}
@@ -31,9 +31,10 @@ unfolding csv_lines spoken decimal digits_of
 found-said = refl
 
 plan-said :
-    plan_field plan.Absent ∷ plan_field plan.Unread ∷ plan_field plan.OtherSize ∷ plan_field (plan.Refused (Err (refusal 9 10)))
-    ∷ plan_field (plan.Checked (Ok tt) (Ok 0) false) ∷ plan_field (plan.Checked (Err (check.Clash 4 1 2)) (Ok 5) true)
-    ∷ plan_field (plan.Checked (Err (check.Count 1 2)) (Err (mend.NoRoom 2 1)) false) ∷ plan_field (plan.Checked (Err (check.Blocked 1 2)) (Ok 12) false) ∷ []
+    plan_field None ∷ plan_field (Some plan.Unread) ∷ plan_field (Some plan.OtherSize) ∷ plan_field (Some (plan.Refused (Err (refusal 9 10))))
+    ∷ plan_field (Some (plan.Checked (Ok tt) (Ok 0) false)) ∷ plan_field (Some (plan.Checked (Err (check.Clash 4 1 2)) (Ok 5) true))
+    ∷ plan_field (Some (plan.Checked (Err (check.Count 1 2)) (Err (mend.NoRoom 2 1)) false))
+    ∷ plan_field (Some (plan.Checked (Err (check.Blocked 1 2)) (Ok 12) false)) ∷ []
     ≡ bytes ",,,\r\n" ∷ bytes ",unread,,\r\n" ∷ bytes ",size,,\r\n" ∷ bytes ",9,,\r\n"
     ∷ bytes ",0,0,0\r\n" ∷ bytes ",6,5,1\r\n" ∷ bytes ",7,,0\r\n" ∷ bytes ",22,12,0\r\n" ∷ []
 unfolding csv_lines spoken decimal digits_of

@@ -1,7 +1,7 @@
 -- The fields of a line of the sheet: "refused: the number, and then all else is empty. found: planned, renumbered, searched, full, not known; tries where a
 -- search was made; set: the cells with blanks between. plan: 0 valid, else the number, or `size`; changes: what mend would make, 0 for a valid plan, empty
 -- where it finds no room; oneway: 1 or 0. Empty where there is nothing to say." A file that can't be read has no number: its field says `unread`.
-use Rattle.std.specs.Prelude.{ℕ, zero, suc, ◌+◌, Bool, List, [], ◌++◌, ltb, Result, Ok, Err}
+use Rattle.std.specs.Prelude.{ℕ, zero, suc, ◌+◌, Bool, List, [], ◌++◌, ltb, Option, Some, None, Result, Ok, Err}
 use Rattle.laws.specs.Bits.{bit_at}
 use Rattle.laws.specs.Choice.{pick}
 use Rattle.laws.specs.Sum.{bit}
@@ -91,12 +91,12 @@ abbrev pub changes_fields : Result Unit CheckError → Result ℕ MendError → 
 changes_fields verdict (Ok number) unseen = Row csv_checked_row (check_given verdict).number number (bit unseen) 0
 changes_fields verdict (Err e) unseen = Row csv_not_mended_row (check_given verdict).number 0 (bit unseen) 0
 
-abbrev pub plan_fields : PlanTold → Phrase
-plan_fields plan.Absent = Row csv_no_plan_row 0 0 0 0
-plan_fields plan.Unread = Row csv_plan_unread_row 0 0 0 0
-plan_fields (plan.Refused answer) = Row csv_plan_refused_row (read_given answer).number 0 0 0
-plan_fields plan.OtherSize = Row csv_size_row 0 0 0 0
-plan_fields (plan.Checked verdict mended unseen) = changes_fields verdict mended unseen
+abbrev pub plan_fields : Option PlanTold → Phrase
+plan_fields None = Row csv_no_plan_row 0 0 0 0
+plan_fields (Some plan.Unread) = Row csv_plan_unread_row 0 0 0 0
+plan_fields (Some (plan.Refused answer)) = Row csv_plan_refused_row (read_given answer).number 0 0 0
+plan_fields (Some plan.OtherSize) = Row csv_size_row 0 0 0 0
+plan_fields (Some (plan.Checked verdict mended unseen)) = changes_fields verdict mended unseen
 
-abbrev pub plan_field : PlanTold → List ℕ
+abbrev pub plan_field : Option PlanTold → List ℕ
 plan_field p = phrase csv_lines (plan_fields p)

@@ -61,11 +61,10 @@ const CHECKED: usize = 20;
 
 const NOT_MENDED: usize = 21;
 
-// What the sheet says of the plan file beside a site: there is none; it can't be read; it is refused; it is for another size; or the check's verdict, mend's
-// answer, and whether it is valid if only two-way ranges clashed.
+// What the sheet says of the plan file beside a site, where there is one: it can't be read; it is refused; it is for another size; or the check's verdict,
+// mend's answer, and whether it is valid if only two-way ranges clashed.
 #[derive(Clone, Copy)]
 pub enum PlanTold {
-    Absent,
     Unread,
     Refused(Result<(), Refusal>),
     OtherSize,
@@ -203,6 +202,7 @@ fn cell_field(set: u32, low: usize, j: usize) -> Phrase
 }
 
 // The cells of a set.
+// It only looks like `say_find::put_later`: each puts phrases of its own in its own table, with 400 bytes for a cell here and 40 there.
 fn put_cells(out: &mut [u8], at: usize, set: u32) -> usize
     requires { at + 12800 ≤ length out.old }
     ensures { Put out.old at (cells_field set 32) 12800 out.new result }
@@ -275,21 +275,21 @@ fn changes_fields(
     }
 }
 
-// The fields of the plan file.
-fn plan_fields(plan: PlanTold) -> Phrase
+// The fields of the plan file, where there is one.
+fn plan_fields(plan: Option<PlanTold>) -> Phrase
     ensures { result ≡ plan_fields plan }
 {
     match plan {
-        PlanTold::Absent => Phrase::Row(NO_PLAN, 0, 0, 0, 0),
-        PlanTold::Unread => Phrase::Row(PLAN_UNREAD, 0, 0, 0, 0),
-        PlanTold::Refused(answer) => Phrase::Row(PLAN_REFUSED, read_number(answer), 0, 0, 0),
-        PlanTold::OtherSize => Phrase::Row(PLAN_SIZE, 0, 0, 0, 0),
-        PlanTold::Checked(verdict, mended, unseen) => changes_fields(verdict, mended, unseen),
+        None => Phrase::Row(NO_PLAN, 0, 0, 0, 0),
+        Some(PlanTold::Unread) => Phrase::Row(PLAN_UNREAD, 0, 0, 0, 0),
+        Some(PlanTold::Refused(answer)) => Phrase::Row(PLAN_REFUSED, read_number(answer), 0, 0, 0),
+        Some(PlanTold::OtherSize) => Phrase::Row(PLAN_SIZE, 0, 0, 0, 0),
+        Some(PlanTold::Checked(verdict, mended, unseen)) => changes_fields(verdict, mended, unseen),
     }
 }
 
 // The fields of the plan file, and the line's end.
-pub fn put_plan_fields(out: &mut [u8], at: usize, plan: PlanTold) -> usize
+pub fn put_plan_fields(out: &mut [u8], at: usize, plan: Option<PlanTold>) -> usize
     requires { at + 400 ≤ length out.old }
     ensures { Put out.old at (plan_field plan) 400 out.new result }
 {

@@ -20,7 +20,6 @@ use finder::{FindError, Way};
 use loads::loads_of_many;
 use phrases::{Phrase, put_phrase};
 use positions::open_count;
-use say_refusals::Place;
 use say_search::tries_phrase;
 use site::Site;
 use text::put_text;
@@ -320,7 +319,7 @@ fn put_refusal(out: &mut [u8], at: usize, reply: Result<Way, FindError>) -> usiz
     ensures { Put out.old at (find_refused reply) 2000 out.new result }
 {
     match reply {
-        Err(FindError::TableShort) => say_refusals::put_refused(out, at, 4, Place::Nowhere),
+        Err(FindError::TableShort) => say_refusals::put_refused(out, at, 4, None),
         Err(FindError::Record(fault)) => say_verdicts::put_fault(out, at, fault),
         _ => at,
     }

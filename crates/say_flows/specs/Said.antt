@@ -1,6 +1,6 @@
 -- The text of `duggfrask admit`: that the loads of the site do not count; for each flow its cell, its share and its value, and whether it is taken; what the
 -- flows that are taken are worth; or why there is no answer.
-use Rattle.std.specs.Prelude.{ℕ, zero, suc, ◌+◌, List, [], ◌++◌, Result, Ok, Err}
+use Rattle.std.specs.Prelude.{ℕ, zero, suc, ◌+◌, List, [], ◌++◌, Result, Ok, Err, Some, None}
 use Rattle.laws.specs.Bits.{bit_at}
 use Rattle.laws.specs.Choice.{pick}
 use Rattle.theory.specs.Net.{everyone}
@@ -51,22 +51,22 @@ split_line a b i = phrase nineteen_lines (Row nineteen_row a b i 0)
 -- the first three cells that show a site outside the class, by number
 abbrev pub split_said : ClassVerdict → List ℕ
 split_said (outside a b i) = split_line (a + 1) (b + 1) (i + 1)
-split_said in_class = refused_line 19 place.Nowhere
+split_said in_class = refused_line 19 None
 
 -- W9: "Admission then accepts the class, all cells counted as loaded; refusal 19 is given exactly outside it." Of a record at fault, or a site in the class,
 -- it is never answered: `nineteen-said` in proofs/Outside.antt
 unfoldable pub nineteen_said : Site → List ℕ
-nineteen_said s = pick (is_fine (fault_of s)) (split_said (class_verdict (net_of s) everyone)) (refused_line 19 place.Nowhere)
+nineteen_said s = pick (is_fine (fault_of s)) (split_said (class_verdict (net_of s) everyone)) (refused_line 19 None)
 
 -- ---- the answer
 
 -- the refusal: "18 over 16 flows, 19 site not chained", W9: not nested, "then per flow 2, 15, 16 with the flow's number"
 abbrev pub refusal_said : Site → AdmitError → List ℕ
-refusal_said s admit.TooMany = refused_line 18 place.Nowhere
+refusal_said s admit.TooMany = refused_line 18 None
 refusal_said s admit.NotNested = nineteen_said s
-refusal_said s (admit.BadCell k) = refused_line 2 (place.Flow k)
-refusal_said s (admit.BadFlow k) = refused_line 15 (place.Flow k)
-refusal_said s (admit.BigShare k) = refused_line 16 (place.Flow k)
+refusal_said s (admit.BadCell k) = refused_line 2 (Some (place.Flow k))
+refusal_said s (admit.BadFlow k) = refused_line 15 (Some (place.Flow k))
+refusal_said s (admit.BigShare k) = refused_line 16 (Some (place.Flow k))
 refusal_said s (admit.Record fault) = fault_said fault
 
 -- which flows to take, after the row that says whether the loads count, and their total value; or the refusal

@@ -17,7 +17,7 @@ use chainwords::{first_split, gap, split_of};
 use flowlist::{Flow, FlowList};
 use phrases::{Phrase, put_phrase};
 use planner::PlanError;
-use say_refusals::Place;
+use say_refusals::{Place, put_refused};
 use site::Site;
 use words::has;
 
@@ -146,7 +146,7 @@ fn put_nineteen(out: &mut [u8], at: usize, site: Site) -> usize
     ensures { Put out.old at (nineteen_said site) 2000 out.new result }
 {
     let Ok(()) = site.accepted() else {
-        return say_refusals::put_refused(out, at, 19, Place::Nowhere);
+        return put_refused(out, at, 19, None);
     };
     let cells = site.cells as usize;
     let clash = site.clash_rows();
@@ -156,7 +156,7 @@ fn put_nineteen(out: &mut [u8], at: usize, site: Site) -> usize
         let b = gap(clash[a], 4294967295 & clash[i], a, i);
         return put_split(out, at, a + 1, b + 1, i + 1);
     }
-    say_refusals::put_refused(out, at, 19, Place::Nowhere)
+    put_refused(out, at, 19, None)
 }
 
 // Why there is no answer.
@@ -165,11 +165,11 @@ fn put_refusal(out: &mut [u8], at: usize, site: Site, refused: AdmitError) -> us
     ensures { Put out.old at (refusal_said site refused) 12000 out.new result }
 {
     match refused {
-        AdmitError::TooMany => say_refusals::put_refused(out, at, 18, Place::Nowhere),
+        AdmitError::TooMany => put_refused(out, at, 18, None),
         AdmitError::NotNested => put_nineteen(out, at, site),
-        AdmitError::BadCell(flow) => say_refusals::put_refused(out, at, 2, Place::Flow(flow)),
-        AdmitError::BadFlow(flow) => say_refusals::put_refused(out, at, 15, Place::Flow(flow)),
-        AdmitError::BigShare(flow) => say_refusals::put_refused(out, at, 16, Place::Flow(flow)),
+        AdmitError::BadCell(flow) => put_refused(out, at, 2, Some(Place::Flow(flow))),
+        AdmitError::BadFlow(flow) => put_refused(out, at, 15, Some(Place::Flow(flow))),
+        AdmitError::BigShare(flow) => put_refused(out, at, 16, Some(Place::Flow(flow))),
         AdmitError::Record(f) => say_verdicts::put_fault(out, at, f),
     }
 }

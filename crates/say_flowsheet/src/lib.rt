@@ -6,7 +6,7 @@ ghost use Rattle.phrases.specs.Put.{Put};
 ghost use Rattle.say_flowsheet.specs.Said.{flow_sheet_said};
 
 use flowsheet::FlowsError;
-use say_refusals::Place;
+use say_refusals::{Place, put_refused};
 
 // A sheet of flows that was read, or its refusal.
 pub fn put_flow_sheet(out: &mut [u8], at: usize, reply: Result<(), FlowsError>) -> usize
@@ -15,7 +15,7 @@ pub fn put_flow_sheet(out: &mut [u8], at: usize, reply: Result<(), FlowsError>) 
 {
     match reply {
         Ok(()) => at,
-        Err(FlowsError::BadLine(line)) => say_refusals::put_refused(out, at, 17, Place::Line(line)),
-        Err(FlowsError::TooMany) => say_refusals::put_refused(out, at, 18, Place::Nowhere),
+        Err(FlowsError::BadLine(line)) => put_refused(out, at, 17, Some(Place::Line(line))),
+        Err(FlowsError::TooMany) => put_refused(out, at, 18, None),
     }
 }

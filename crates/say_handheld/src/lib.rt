@@ -9,7 +9,6 @@ ghost use Rattle.say_handheld.specs.Said.{change_said};
 
 use handheld::ChangeError;
 use phrases::{Phrase, put_phrase};
-use say_refusals::Place;
 
 const CHANGED: usize = 0;
 
@@ -42,8 +41,8 @@ pub fn put_change(
 {
     match reply {
         Ok(()) => put(out, at, Phrase::Row(CHANGED, cell, load, 0, 0)),
-        Err(ChangeError::TableShort) => say_refusals::put_refused(out, at, 4, Place::Nowhere),
-        Err(ChangeError::NotPlan) => say_refusals::put_refused(out, at, 26, Place::Nowhere),
+        Err(ChangeError::TableShort) => say_refusals::put_refused(out, at, 4, None),
+        Err(ChangeError::NotPlan) => say_refusals::put_refused(out, at, 26, None),
         Err(ChangeError::NoRoom(lacking, short)) => {
             put(out, at, Phrase::Row(NO_ROOM, lacking, short, 0, 0))
         }

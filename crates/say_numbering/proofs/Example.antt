@@ -4,7 +4,7 @@ use mathlib.Core.List.{List, [], ◌∷◌, ◌++◌}
 use mathlib.Core.Path.{◌≡◌, refl}
 use Prim.Native.Nat.{ℕ}
 use lib.ListN.{replicate}
-use Rattle.std.specs.Prelude.{Ok, Err}
+use Rattle.std.specs.Prelude.{Ok, Err, None}
 use Rattle.laws.specs.Bits.{word_of}
 use Rattle.laws.specs.Search.{first_of}
 use Rattle.laws.specs.Sum.{sum, any}
@@ -20,7 +20,6 @@ use Rattle.speech.specs.Speech.{bytes, spoken}
 use Rattle.numbering.specs.declared.RenumberError.TheVariants as renumber
 use Rattle.numbering.specs.declared.CarryError.TheVariants as carry
 use Rattle.say_refusals.specs.Said.{refused_line}
-use Rattle.say_refusals.specs.declared.Place.TheVariants.{Nowhere}
 use Rattle.say_numbering.specs.Lines.{number_lines, anew_lines}
 use Rattle.say_numbering.specs.Said.{numbers_said, renumber_said, carry_said}
 use Rattle.say_numbering.specs.Anew.{anew_said}
@@ -36,7 +35,7 @@ numbers-said = refl
 -- the refusals, 23 and 4, whose letters are in crate `say_refusals`; and nothing of a plan that was carried
 refusals-said :
     renumber_said new (Err renumber.NoNumbering) ∷ carry_said (Err carry.NoNumbering) ∷ carry_said (Err carry.TableShort) ∷ carry_said (Ok tt) ∷ []
-    ≡ refused_line 23 Nowhere ∷ refused_line 23 Nowhere ∷ refused_line 4 Nowhere ∷ [] ∷ []
+    ≡ refused_line 23 None ∷ refused_line 23 None ∷ refused_line 4 None ∷ [] ∷ []
 refusals-said = refl
 
 -- ---- the site in new numbers

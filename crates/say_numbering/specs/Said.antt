@@ -1,5 +1,5 @@
 -- The text of `duggfrask renumber` and `duggfrask carry`: W10, "Return old and new numbers and the renumbered site."
-use Rattle.std.specs.Prelude.{ℕ, zero, suc, ◌+◌, List, [], ◌++◌, eqb, get_or, Result, Ok, Err}
+use Rattle.std.specs.Prelude.{ℕ, zero, suc, ◌+◌, List, [], ◌++◌, eqb, get_or, Result, Ok, Err, None}
 use Rattle.laws.specs.Choice.{pick}
 use Rattle.phrases.specs.Phrases.{phrase}
 use Rattle.phrases.specs.declared.Phrase.{Phrase}
@@ -9,7 +9,6 @@ use Rattle.numbering.specs.declared.RenumberError.TheVariants as renumber
 use Rattle.numbering.specs.declared.CarryError.{CarryError}
 use Rattle.numbering.specs.declared.CarryError.TheVariants as carry
 use Rattle.say_refusals.specs.Said.{refused_line}
-use Rattle.say_refusals.specs.declared.Place.TheVariants as place
 use Rattle.verdicts.specs.Said.{fault_said}
 use Rattle.say_numbering.specs.Lines.{number_lines, numbered_row}
 
@@ -25,12 +24,12 @@ numbers_said new (suc i) = numbers_said new i ++ phrase number_lines (number_phr
 -- the numbers; 23; or what is wrong with the record
 abbrev pub renumber_said : List ℕ → Result Unit RenumberError → List ℕ
 renumber_said new (Ok u) = numbers_said new 32
-renumber_said new (Err renumber.NoNumbering) = refused_line 23 place.Nowhere
+renumber_said new (Err renumber.NoNumbering) = refused_line 23 None
 renumber_said new (Err (renumber.Record f)) = fault_said f
 
 -- a plan that was carried: nothing to say; 23; 4; or what is wrong with the record
 abbrev pub carry_said : Result Unit CarryError → List ℕ
 carry_said (Ok u) = []
-carry_said (Err carry.NoNumbering) = refused_line 23 place.Nowhere
-carry_said (Err carry.TableShort) = refused_line 4 place.Nowhere
+carry_said (Err carry.NoNumbering) = refused_line 23 None
+carry_said (Err carry.TableShort) = refused_line 4 None
 carry_said (Err (carry.Record f)) = fault_said f

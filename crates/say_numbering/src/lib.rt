@@ -13,7 +13,6 @@ ghost use Rattle.say_numbering.specs.Anew.{anew_numbered, anew_phrase, anew_said
 use judges::ClassVerdict;
 use numbering::{CarryError, RenumberError};
 use phrases::{Phrase, put_phrase};
-use say_refusals::Place;
 use site::Site;
 
 const NUMBERED: usize = 0;
@@ -62,7 +61,7 @@ pub fn put_renumber(
 {
     match reply {
         Ok(()) => put_numbers(out, at, new),
-        Err(RenumberError::NoNumbering) => say_refusals::put_refused(out, at, 23, Place::Nowhere),
+        Err(RenumberError::NoNumbering) => say_refusals::put_refused(out, at, 23, None),
         Err(RenumberError::Record(f)) => say_verdicts::put_fault(out, at, f),
     }
 }
@@ -74,8 +73,8 @@ pub fn put_carry(out: &mut [u8], at: usize, reply: Result<(), CarryError>) -> us
 {
     match reply {
         Ok(()) => at,
-        Err(CarryError::NoNumbering) => say_refusals::put_refused(out, at, 23, Place::Nowhere),
-        Err(CarryError::TableShort) => say_refusals::put_refused(out, at, 4, Place::Nowhere),
+        Err(CarryError::NoNumbering) => say_refusals::put_refused(out, at, 23, None),
+        Err(CarryError::TableShort) => say_refusals::put_refused(out, at, 4, None),
         Err(CarryError::Record(f)) => say_verdicts::put_fault(out, at, f),
     }
 }

@@ -2,7 +2,7 @@
 // are made once, by the caller, and so is the word of the heaviest clash.
 #![tactic(auto)]
 
-ghost use Rattle.std.specs.Prelude.{◌≡◌, ◌&&◌, not, ◌+◌, ◌-◌, ◌*◌, ◌≤◌, ◌<◌, ltb, length};
+ghost use Rattle.std.specs.Prelude.{◌≡◌, ◌&&◌, not, ◌+◌, ◌*◌, ◌≤◌, ◌<◌, ltb, length};
 ghost use Rattle.laws.specs.Bits.{bit_at, bit_in};
 ghost use Rattle.site.specs.Means.{Sized};
 ghost use Rattle.site.specs.Reach.{reaches, clash_of};
@@ -74,23 +74,13 @@ pub fn cell_middle(site: Site, i: usize) -> usize
     100 + (i * step + step / 2)
 }
 
-// How far two numbers are apart.
-fn apart(a: usize, b: usize) -> usize
-    ensures { result ≡ (a - b) + (b - a) }
-{
-    if a < b {
-        return b - a;
-    }
-    a - b
-}
-
 // How far up or down a line between two cells is drawn.
 fn bend(site: Site, a: usize, b: usize) -> usize
     requires { Sized site × (a < site.cells) × (b < site.cells) }
     ensures { result ≡ bend_of site a b }
 {
     let cells = site.cells as usize;
-    let far = apart(a, b);
+    let far = a.abs_diff(b);
     20 + 200 * far / (1 + (far + cells / 8))
 }
 

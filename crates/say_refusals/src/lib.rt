@@ -30,7 +30,6 @@ const POSITION: usize = 6;
 // position, counted from 0.
 #[derive(Clone, Copy)]
 pub enum Place {
-    Nowhere,
     Byte(usize),
     PlanByte(usize),
     Line(usize),
@@ -39,11 +38,11 @@ pub enum Place {
     Position(usize),
 }
 
-// What an answer says: a phrase of a table, or a refusal by its number and place.
+// What an answer says: a phrase of a table, or a refusal by its number, and its place where it has one.
 #[derive(Clone, Copy)]
 pub enum Sentence {
     Plain(Phrase),
-    Refusal(usize, Place),
+    Refusal(usize, Option<Place>),
 }
 
 // The phrase of a number.
@@ -96,22 +95,22 @@ fn put_meaning(out: &mut [u8], at: usize, number: usize) -> usize
 }
 
 // The phrase of a number and a place.
-fn head_phrase(number: usize, place: Place) -> Phrase
+fn head_phrase(number: usize, place: Option<Place>) -> Phrase
     ensures { result ≡ head_phrase number place }
 {
     match place {
-        Place::Nowhere => Phrase::Row(ALONE, number, 0, 0, 0),
-        Place::Byte(offset) => Phrase::Row(BYTE, number, offset, 0, 0),
-        Place::PlanByte(offset) => Phrase::Row(PLAN_BYTE, number, offset, 0, 0),
-        Place::Line(line) => Phrase::Row(LINE, number, line, 0, 0),
-        Place::Cell(cell) => Phrase::Row(CELL, number, cell, 0, 0),
-        Place::Flow(flow) => Phrase::Row(FLOW, number, flow, 0, 0),
-        Place::Position(position) => Phrase::Row(POSITION, number, position, 0, 0),
+        None => Phrase::Row(ALONE, number, 0, 0, 0),
+        Some(Place::Byte(offset)) => Phrase::Row(BYTE, number, offset, 0, 0),
+        Some(Place::PlanByte(offset)) => Phrase::Row(PLAN_BYTE, number, offset, 0, 0),
+        Some(Place::Line(line)) => Phrase::Row(LINE, number, line, 0, 0),
+        Some(Place::Cell(cell)) => Phrase::Row(CELL, number, cell, 0, 0),
+        Some(Place::Flow(flow)) => Phrase::Row(FLOW, number, flow, 0, 0),
+        Some(Place::Position(position)) => Phrase::Row(POSITION, number, position, 0, 0),
     }
 }
 
 // The number, and the place.
-fn put_head(out: &mut [u8], at: usize, number: usize, place: Place) -> usize
+fn put_head(out: &mut [u8], at: usize, number: usize, place: Option<Place>) -> usize
     requires { at + 1000 ≤ length out.old }
     ensures { Put out.old at (head number place) 1000 out.new result }
 {
@@ -130,7 +129,7 @@ fn put_head(out: &mut [u8], at: usize, number: usize, place: Place) -> usize
 }
 
 // The line of a refusal.
-pub fn put_refused(out: &mut [u8], at: usize, number: usize, place: Place) -> usize
+pub fn put_refused(out: &mut [u8], at: usize, number: usize, place: Option<Place>) -> usize
     requires { at + 2000 ≤ length out.old }
     ensures { Put out.old at (refused_line number place) 2000 out.new result }
 {

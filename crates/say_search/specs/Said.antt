@@ -1,5 +1,5 @@
 -- The text of `duggfrask search`: W13, "For sites outside W9's class the desk needs to know whether the site is full."
-use Rattle.std.specs.Prelude.{ℕ, ◌+◌, List, eqb, Result, Ok, Err}
+use Rattle.std.specs.Prelude.{ℕ, ◌+◌, List, eqb, Result, Ok, Err, None}
 use Rattle.laws.specs.Choice.{pick}
 use Rattle.search.specs.declared.SearchError.{SearchError}
 use Rattle.search.specs.declared.SearchError.TheVariants.{Full, Limit, TooMany, TableShort, Record}
@@ -7,7 +7,6 @@ use Rattle.phrases.specs.Phrases.{phrase}
 use Rattle.phrases.specs.declared.Phrase.{Phrase}
 use Rattle.phrases.specs.declared.Phrase.TheVariants.{Silent, Row}
 use Rattle.say_refusals.specs.Said.{refused_line}
-use Rattle.say_refusals.specs.declared.Place.TheVariants as place
 use Rattle.verdicts.specs.Said.{fault_said}
 use Rattle.say_search.specs.Lines.{search_lines, planned_after_row, exhausted_row, stopped_row, on_row}
 
@@ -29,8 +28,8 @@ abbrev pub search_said : Result ℕ SearchError → List ℕ
 search_said (Ok n) = phrase search_lines (search_phrase (Ok n))
 search_said (Err (Full n)) = phrase search_lines (search_phrase (Err (Full n)))
 search_said (Err (Limit n)) = phrase search_lines (search_phrase (Err (Limit n)))
-search_said (Err TooMany) = refused_line 25 place.Nowhere
-search_said (Err TableShort) = refused_line 4 place.Nowhere
+search_said (Err TooMany) = refused_line 25 None
+search_said (Err TableShort) = refused_line 4 None
 search_said (Err (Record f)) = fault_said f
 
 -- on a terminal, of a search with rising limits: said where a limit is met and a larger one comes

@@ -8,7 +8,6 @@ ghost use Rattle.say_search.specs.Lines.{search_lines};
 ghost use Rattle.say_search.specs.Said.{tries_phrase, search_said, on_said};
 
 use phrases::{Phrase, put_phrase};
-use say_refusals::Place;
 use search::SearchError;
 
 const PLANNED: usize = 0;
@@ -66,8 +65,8 @@ pub fn put_search(out: &mut [u8], at: usize, reply: Result<u64, SearchError>) ->
         Ok(tries) => put_tries(out, at, PLANNED, tries),
         Err(SearchError::Full(tries)) => put_tries(out, at, FULL, tries),
         Err(SearchError::Limit(tries)) => put_tries(out, at, STOPPED, tries),
-        Err(SearchError::TooMany) => say_refusals::put_refused(out, at, 25, Place::Nowhere),
-        Err(SearchError::TableShort) => say_refusals::put_refused(out, at, 4, Place::Nowhere),
+        Err(SearchError::TooMany) => say_refusals::put_refused(out, at, 25, None),
+        Err(SearchError::TableShort) => say_refusals::put_refused(out, at, 4, None),
         Err(SearchError::Record(f)) => say_verdicts::put_fault(out, at, f),
     }
 }

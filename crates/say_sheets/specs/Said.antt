@@ -1,5 +1,5 @@
 -- What is said of a bad line, of a tidied sheet, and of a site that was made of a sheet.
-use Rattle.std.specs.Prelude.{ℕ, zero, suc, ◌+◌, not, List, [], ◌++◌, eqb, Result, Ok, Err}
+use Rattle.std.specs.Prelude.{ℕ, zero, suc, ◌+◌, not, List, [], ◌++◌, eqb, Result, Ok, Err, None}
 use Rattle.laws.specs.Choice.{pick}
 use Rattle.laws.specs.Search.{first}
 use Rattle.site.specs.declared.Site.{Site}
@@ -16,7 +16,6 @@ use Rattle.phrases.specs.Phrases.{phrase}
 use Rattle.phrases.specs.declared.Phrase.{Phrase}
 use Rattle.phrases.specs.declared.Phrase.TheVariants.{Row}
 use Rattle.say_refusals.specs.Said.{refused_line}
-use Rattle.say_refusals.specs.declared.Place.TheVariants.{Nowhere}
 use Rattle.verdicts.specs.Said.{sheet_said}
 use Rattle.say_sheets.specs.Lines.{line_fault_lines, tidy_lines, made_lines, once_row, often_row, tidied_row, as_it_is_row, not_tidied_row}
 
@@ -62,7 +61,7 @@ tidied_said s =
 -- what was changed; 13; or "a sheet that can't be tidied is refused with its line"
 abbrev pub tidy_said : List ℕ → Result ℕ TidyError → List ℕ
 tidy_said s (Ok n) = tidied_said s
-tidy_said s (Err (tidying.OutShort n)) = refused_line 13 Nowhere
+tidy_said s (Err (tidying.OutShort n)) = refused_line 13 None
 tidy_said s (Err (tidying.BadLine line)) = phrase tidy_lines (Row not_tidied_row line 0 0 0)
 
 -- ---- a site that is made

@@ -14,7 +14,7 @@ use clashcount::clash_count;
 use cleaning::Tidied;
 use linefaults::{LineFault, fault_of_line};
 use phrases::{Phrase, put_phrase};
-use say_refusals::{Place, put_refused};
+use say_refusals::put_refused;
 use say_verdicts::put_sheet_read;
 use sheet::SheetError;
 use site::Site;
@@ -189,7 +189,7 @@ pub fn put_tidy(out: &mut [u8], at: usize, sheet: &[u8], reply: Result<usize, Ti
 {
     match reply {
         Ok(_) => put_tidied(out, at, sheet),
-        Err(TidyError::OutShort(_)) => put_refused(out, at, 13, Place::Nowhere),
+        Err(TidyError::OutShort(_)) => put_refused(out, at, 13, None),
         Err(TidyError::BadLine(line)) => put(out, at, Phrase::Row(NOT_TIDIED, line, 0, 0, 0)),
     }
 }

@@ -1,5 +1,5 @@
 -- The tally of an audit: a byte for each site file. Its two lowest bits say what is found for the site, and the others what is said of the plan beside it.
-use Rattle.std.specs.Prelude.{ℕ, ◌+◌, ◌/◌, ◌%◌, Bool, List, eqb, length, get_or, Result, Ok, Err}
+use Rattle.std.specs.Prelude.{ℕ, ◌+◌, ◌/◌, ◌%◌, Bool, List, eqb, length, get_or, Option, Some, None, Result, Ok, Err}
 use Rattle.laws.specs.Choice.{pick}
 use Rattle.laws.specs.Sum.{count}
 use Rattle.checker.specs.declared.CheckError.{CheckError}
@@ -8,7 +8,7 @@ use Rattle.finder.specs.declared.FindError.{FindError}
 use Rattle.finder.specs.declared.FindError.TheVariants as find
 use Rattle.oneway.specs.TwoWay.{is_valid}
 use Rattle.say_tally.specs.declared.PlanSaid.{PlanSaid}
-use Rattle.say_tally.specs.declared.PlanSaid.TheVariants.{Absent, Valid, Wrong, Unseen, Refused}
+use Rattle.say_tally.specs.declared.PlanSaid.TheVariants.{Valid, Wrong, Unseen, Refused}
 
 -- 0 a plan, 1 full, 2 not known, 3 refused
 abbrev pub found_mark : Result Way FindError → ℕ
@@ -21,17 +21,17 @@ found_mark (Err find.TableShort) = 3
 found_mark (Err (find.Record f)) = 3
 
 -- in fours: 0 none, 1 valid, 2 not valid, 3 not valid, and valid if only two-way ranges clashed, 4 refused
-abbrev pub plan_mark : PlanSaid → ℕ
-plan_mark Absent = 0
-plan_mark Valid = 4
-plan_mark Wrong = 8
-plan_mark Unseen = 12
-plan_mark Refused = 16
+abbrev pub plan_mark : Option PlanSaid → ℕ
+plan_mark None = 0
+plan_mark (Some Valid) = 4
+plan_mark (Some Wrong) = 8
+plan_mark (Some Unseen) = 12
+plan_mark (Some Refused) = 16
 
 abbrev pub verdict_said : Result Unit CheckError → Bool → PlanSaid
 verdict_said verdict unseen = pick (is_valid verdict) Valid (pick unseen Unseen Wrong)
 
-abbrev pub mark_of : Result Way FindError → PlanSaid → ℕ
+abbrev pub mark_of : Result Way FindError → Option PlanSaid → ℕ
 mark_of found plan = found_mark found + plan_mark plan
 
 -- a site file that is refused has no plan to speak of

@@ -20,10 +20,9 @@ const PLANS: usize = 2;
 
 const UNSEEN: usize = 3;
 
-// What is said of the plan beside a site: none stands there; valid; not valid; not valid, and valid if only two-way ranges clashed; refused.
+// What is said of the plan beside a site, where there is one: valid; not valid; not valid, and valid if only two-way ranges clashed; refused.
 #[derive(Clone, Copy)]
 pub enum PlanSaid {
-    Absent,
     Valid,
     Wrong,
     Unseen,
@@ -46,15 +45,15 @@ fn found_mark(found: Result<Way, FindError>) -> u8
 }
 
 // The plan's part: 0 none, 4 valid, 8 not valid, 12 not valid but for one-way ranges, 16 refused.
-fn plan_mark(plan: PlanSaid) -> u8
+fn plan_mark(plan: Option<PlanSaid>) -> u8
     ensures { (result ≡ plan_mark plan) × (result ≤ 16) }
 {
     match plan {
-        PlanSaid::Absent => 0,
-        PlanSaid::Valid => 4,
-        PlanSaid::Wrong => 8,
-        PlanSaid::Unseen => 12,
-        PlanSaid::Refused => 16,
+        None => 0,
+        Some(PlanSaid::Valid) => 4,
+        Some(PlanSaid::Wrong) => 8,
+        Some(PlanSaid::Unseen) => 12,
+        Some(PlanSaid::Refused) => 16,
     }
 }
 
@@ -72,7 +71,7 @@ pub fn verdict_said(verdict: Result<(), CheckError>, unseen: bool) -> PlanSaid
 }
 
 // The mark of a site and its plan.
-pub fn mark_of(found: Result<Way, FindError>, plan: PlanSaid) -> u8
+pub fn mark_of(found: Result<Way, FindError>, plan: Option<PlanSaid>) -> u8
     ensures { result ≡ mark_of found plan }
 {
     found_mark(found) + plan_mark(plan)

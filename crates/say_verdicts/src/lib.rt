@@ -88,11 +88,11 @@ fn fault_sentence(fault: Fault) -> Sentence
     ensures { result ≡ fault_sentence fault }
 {
     match fault {
-        Fault::Size => Sentence::Refusal(1, Place::Nowhere),
-        Fault::Rule => Sentence::Refusal(24, Place::Nowhere),
-        Fault::Load(cell) => Sentence::Refusal(2, Place::Cell(cell)),
-        Fault::Reach(cell) => Sentence::Refusal(3, Place::Cell(cell)),
-        Fault::Blocked(position) => Sentence::Refusal(20, Place::Position(position)),
+        Fault::Size => Sentence::Refusal(1, None),
+        Fault::Rule => Sentence::Refusal(24, None),
+        Fault::Load(cell) => Sentence::Refusal(2, Some(Place::Cell(cell))),
+        Fault::Reach(cell) => Sentence::Refusal(3, Some(Place::Cell(cell))),
+        Fault::Blocked(position) => Sentence::Refusal(20, Some(Place::Position(position))),
     }
 }
 
@@ -112,7 +112,10 @@ fn read_sentence(file: File, reply: Result<(), Refusal>) -> Sentence
 {
     match reply {
         Ok(()) => Sentence::Plain(Phrase::Silent),
-        Err(refusal) => Sentence::Refusal(refusal.number as usize, byte_of(file, refusal.place)),
+        Err(refusal) => Sentence::Refusal(
+            refusal.number as usize,
+            Some(byte_of(file, refusal.place)),
+        ),
     }
 }
 
@@ -122,7 +125,7 @@ fn sheet_sentence(reply: Result<(), SheetError>) -> Sentence
 {
     match reply {
         Ok(()) => Sentence::Plain(Phrase::Silent),
-        Err(SheetError::BadLine(line)) => Sentence::Refusal(17, Place::Line(line)),
+        Err(SheetError::BadLine(line)) => Sentence::Refusal(17, Some(Place::Line(line))),
         Err(SheetError::Record(fault)) => fault_sentence(fault),
     }
 }
@@ -149,10 +152,10 @@ fn blocked_sentence(site: Site, p: usize, cell: usize) -> Sentence
 {
     let channels = site.channels as usize;
     if channels < 1 {
-        return Sentence::Refusal(22, Place::Nowhere);
+        return Sentence::Refusal(22, None);
     }
     if 65535 < p {
-        return Sentence::Refusal(22, Place::Nowhere);
+        return Sentence::Refusal(22, None);
     }
     Sentence::Plain(Phrase::Row(BLOCKED, cell, p / channels + 1, p % channels + 1, 0))
 }
@@ -163,7 +166,7 @@ fn check_sentence(site: Site, reply: Result<(), CheckError>) -> Sentence
 {
     match reply {
         Ok(()) => Sentence::Plain(Phrase::Row(VALID, 0, 0, 0, 0)),
-        Err(CheckError::TableShort) => Sentence::Refusal(4, Place::Nowhere),
+        Err(CheckError::TableShort) => Sentence::Refusal(4, None),
         Err(CheckError::Blocked(p, cell)) => blocked_sentence(site, p, cell),
         Err(CheckError::Clash(p, a, c)) => clash_sentence(site, p, a, c),
         Err(CheckError::Count(cell, times)) => Sentence::Plain(Phrase::Row(
@@ -189,7 +192,7 @@ fn plan_sentence(site: Site, reply: Result<(), PlanError>) -> Sentence
             site.channels as usize,
             0,
         )),
-        Err(PlanError::TableShort) => Sentence::Refusal(4, Place::Nowhere),
+        Err(PlanError::TableShort) => Sentence::Refusal(4, None),
         Err(PlanError::NoRoom(cell, short)) => Sentence::Plain(Phrase::Row(
             NO_ROOM, cell, short, 0, 0,
         )),
@@ -235,7 +238,7 @@ fn share_sentence(
             0,
             0,
         )),
-        Err(ShareError::BigShare) => Sentence::Refusal(16, Place::Nowhere),
+        Err(ShareError::BigShare) => Sentence::Refusal(16, None),
     }
 }
 
@@ -245,7 +248,7 @@ fn mend_sentence(reply: Result<usize, MendError>) -> Sentence
 {
     match reply {
         Ok(number) => changes_sentence(number),
-        Err(MendError::TableShort) => Sentence::Refusal(4, Place::Nowhere),
+        Err(MendError::TableShort) => Sentence::Refusal(4, None),
         Err(MendError::NoRoom(cell, short)) => Sentence::Plain(Phrase::Row(
             KEPT_NO_ROOM,
             cell,
@@ -253,7 +256,7 @@ fn mend_sentence(reply: Result<usize, MendError>) -> Sentence
             0,
             0,
         )),
-        Err(MendError::ListShort(_)) => Sentence::Refusal(13, Place::Nowhere),
+        Err(MendError::ListShort(_)) => Sentence::Refusal(13, None),
         Err(MendError::Record(fault)) => fault_sentence(fault),
     }
 }

@@ -5,7 +5,7 @@ ghost use Rattle.std.specs.Prelude.{◌≡◌};
 ghost use Rattle.verdicts.specs.Said.{reach_named, way_sentence, clash_sentence, changes_sentence};
 
 use phrases::Phrase;
-use say_refusals::{Place, Sentence};
+use say_refusals::Sentence;
 use site::{Site, within};
 use words::has;
 
@@ -64,10 +64,10 @@ pub fn clash_sentence(site: Site, p: usize, a: usize, c: usize) -> Sentence
 {
     let channels = site.channels as usize;
     if channels < 1 {
-        return Sentence::Refusal(6, Place::Nowhere);
+        return Sentence::Refusal(6, None);
     }
     if 65535 < p {
-        return Sentence::Refusal(6, Place::Nowhere);
+        return Sentence::Refusal(6, None);
     }
     let forth = reaches(site, a, c);
     let back = reaches(site, c, a);

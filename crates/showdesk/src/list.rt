@@ -6,7 +6,7 @@ ghost use Rattle.site.specs.Record.{positions};
 ghost use Rattle.site.specs.Reach.{clash_of};
 ghost use Rattle.say_faults.specs.Said.{judgeable};
 
-use arguments::{NUMBERS, THIRD_NAME, is, number};
+use arguments::THIRD_NAME;
 use changelines::put_all_changes;
 use infiles::{read_pair, read_plan_of, site_of};
 use reply::{no, result, yes};
@@ -27,7 +27,7 @@ fn put_all_clashes(rt: &HostRuntime, site: Site, text: &mut [u8]) -> bool
 }
 
 // Every clash of a site, and how many they are.
-fn clashes(rt: &HostRuntime, input: &[u8], text: &mut [u8])
+pub fn run_clashes(rt: &HostRuntime, input: &[u8], text: &mut [u8])
     requires { 65536 ≤ length text.old }
 {
     let Some(site) = site_of(rt, input, text) else {
@@ -131,7 +131,13 @@ fn put_faults(rt: &HostRuntime, site: Site, table: &[u8], text: &mut [u8]) -> bo
 }
 
 // Checks a plan file: valid, or everything that is wrong.
-fn check_all(rt: &HostRuntime, input: &[u8], second: &[u8], table: &mut [u8], text: &mut [u8])
+pub fn run_check_all(
+    rt: &HostRuntime,
+    input: &[u8],
+    second: &[u8],
+    table: &mut [u8],
+    text: &mut [u8],
+)
     requires { 65536 ≤ length text.old }
 {
     let Some(site) = read_pair(rt, input, second, table, text) else {
@@ -162,7 +168,7 @@ fn put_diff(rt: &HostRuntime, site: Site, old: &[u8], new: &[u8], text: &mut [u8
 }
 
 // The changes from one plan to another.
-fn diff(
+pub fn run_diff(
     rt: &HostRuntime,
     input: &[u8],
     second: &[u8],
@@ -184,34 +190,4 @@ fn diff(
         return;
     }
     reply::fine(rt);
-}
-
-// Does what the command says, if it is one that lists; whether it is. A check is one where everything is asked for.
-pub fn list_commands(
-    rt: &HostRuntime,
-    input: &[u8],
-    second: &[u8],
-    third: &[u8],
-    old: &mut [u8],
-    table: &mut [u8],
-    text: &mut [u8],
-) -> bool
-    requires { 65536 ≤ length text.old }
-{
-    if is(rt, b"clashes") {
-        clashes(rt, input, text);
-        return true;
-    }
-    if is(rt, b"diff") {
-        diff(rt, input, second, third, old, table, text);
-        return true;
-    }
-    if !is(rt, b"check") {
-        return false;
-    }
-    if number(rt, NUMBERS) != 1 {
-        return false;
-    }
-    check_all(rt, input, second, table, text);
-    true
 }

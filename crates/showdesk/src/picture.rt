@@ -1,4 +1,4 @@
-// The desk's command that draws a site and its plan. What is drawn is made by proved functions, piece by piece; here it is only written, by way of `reply`.
+// A site and its plan, drawn. What is drawn is made by proved functions, piece by piece; here it is only written, by way of `reply`.
 ghost use Rattle.std.specs.Prelude.{◌≡◌, ◌≤◌, ◌<◌, length};
 ghost use Rattle.laws.specs.Bits.{bit_in};
 ghost use Rattle.site.specs.Means.{Sized};
@@ -7,9 +7,6 @@ ghost use Rattle.site.specs.Reach.{clash_of, net_of};
 ghost use Rattle.drawing.specs.Loads.{bar_scale};
 ghost use Rattle.say_slots.specs.Code.{Drawn};
 
-use crate::show::end_shown;
-use arguments::{NUMBERS, is, number};
-use infiles::{read_pair, site_of};
 use reply::result;
 use site::Site;
 
@@ -255,65 +252,9 @@ fn heaviest_word(site: Site) -> u32 {
 }
 
 // Draws a site and the plan in the table; whether it was written.
-fn put_picture(rt: &HostRuntime, site: Site, table: &[u8], text: &mut [u8]) -> bool
+pub fn put_picture(rt: &HostRuntime, site: Site, table: &[u8], text: &mut [u8]) -> bool
     requires { 65536 ≤ length text.old }
 {
     let heavy = heaviest_word(site);
     draw(rt, site, table, heavy, text)
-}
-
-// A plan that was given, valid or not. Where it is not, the first thing that is wrong is said besides.
-fn picture_given(rt: &HostRuntime, input: &[u8], second: &[u8], table: &mut [u8], text: &mut [u8])
-    requires { 65536 ≤ length text.old }
-{
-    let Some(site) = read_pair(rt, input, second, table, text) else {
-        return;
-    };
-    if !put_picture(rt, site, table, text) {
-        reply::unwritten(rt);
-        return;
-    }
-    end_shown(rt, site, table, text);
-}
-
-// A site and the plan that the command plan makes of it. Where it finds no room the table is idle, and its words are said besides: the range map shows why.
-fn picture_plan(rt: &HostRuntime, input: &[u8], table: &mut [u8], text: &mut [u8])
-    requires { 65536 ≤ length text.old }
-{
-    let Some(site) = site_of(rt, input, text) else {
-        return;
-    };
-    let planned = planner::plan(site, table);
-    if !put_picture(rt, site, table, text) {
-        reply::unwritten(rt);
-        return;
-    }
-    let end = say_verdicts::put_plan(text, 0, site, planned);
-    let Ok(()) = planned else {
-        reply::message(rt, text, end);
-        reply::fine(rt);
-        return;
-    };
-    reply::fine(rt);
-}
-
-// Does what the command says, if it is the one that draws; whether it is. Argument 4 is 1 where a plan is given.
-pub fn picture_commands(
-    rt: &HostRuntime,
-    input: &[u8],
-    second: &[u8],
-    table: &mut [u8],
-    text: &mut [u8],
-) -> bool
-    requires { 65536 ≤ length text.old }
-{
-    if !is(rt, b"picture") {
-        return false;
-    }
-    if number(rt, NUMBERS) == 1 {
-        picture_given(rt, input, second, table, text);
-        return true;
-    }
-    picture_plan(rt, input, table, text);
-    true
 }

@@ -2,7 +2,7 @@
 // written is made by proved functions, piece by piece; here it is only written, by way of `reply`.
 ghost use Rattle.std.specs.Prelude.{◌≤◌, ◌<◌, length};
 
-use arguments::{NUMBERS, is, number};
+use arguments::{NUMBERS, number};
 use escaping::{put_escaped, whole_part};
 use infiles::site_of;
 use reply::result;
@@ -74,7 +74,7 @@ fn put_part(rt: &HostRuntime, input: &[u8], text: &mut [u8]) -> bool
 }
 
 // The head of the page: a name, argument 4, and the size of the site.
-fn head(rt: &HostRuntime, input: &[u8], text: &mut [u8])
+pub fn run_report_head(rt: &HostRuntime, input: &[u8], text: &mut [u8])
     requires { 65536 ≤ length text.old }
 {
     let Some(site) = site_of(rt, input, text) else {
@@ -87,7 +87,7 @@ fn head(rt: &HostRuntime, input: &[u8], text: &mut [u8])
 }
 
 // A part of the page.
-fn part(rt: &HostRuntime, input: &[u8], text: &mut [u8])
+pub fn run_report_part(rt: &HostRuntime, input: &[u8], text: &mut [u8])
     requires { 65536 ≤ length text.old }
 {
     if !put_part(rt, input, text) {
@@ -95,19 +95,4 @@ fn part(rt: &HostRuntime, input: &[u8], text: &mut [u8])
         return;
     }
     reply::fine(rt);
-}
-
-// Does what the script says, if it asks for a part of a report; whether it does.
-pub fn report_commands(rt: &HostRuntime, input: &[u8], text: &mut [u8]) -> bool
-    requires { 65536 ≤ length text.old }
-{
-    if is(rt, b"report-head") {
-        head(rt, input, text);
-        return true;
-    }
-    if is(rt, b"report-part") {
-        part(rt, input, text);
-        return true;
-    }
-    false
 }

@@ -1,8 +1,9 @@
-// The desk's command that shows a plan: by channels and slots, by cells, or for a spreadsheet. What is said is made by proved functions, a line at a time; here
-// it is only written, by way of `reply`.
+// The desk's commands that show a plan: by channels and slots, by cells, for a spreadsheet, or as a picture. What is said is made by proved functions, a line
+// at a time; here it is only written, by way of `reply`.
 ghost use Rattle.std.specs.Prelude.{◌≤◌, length};
 
-use arguments::{NUMBERS, is, number};
+use crate::picture::put_picture;
+use arguments::{NUMBERS, number};
 use infiles::{read_pair, site_of};
 use reply::{no, result};
 use say_cells::SentAs;
@@ -12,6 +13,15 @@ use site::Site;
 const FORM: usize = 5;
 
 const GIVEN: usize = 6;
+
+// The forms in which a plan is shown: by channels and slots, in pieces of a width, by cells, for a spreadsheet, or as a picture.
+#[derive(Clone, Copy)]
+enum ShownAs {
+    Grid(usize),
+    Cells,
+    Sheet,
+    Picture,
+}
 
 // The lines of a piece, which has so many slots from a slot on; whether they were written.
 fn put_piece(
@@ -111,24 +121,45 @@ fn put_sheet(rt: &HostRuntime, site: Site, table: &[u8], text: &mut [u8]) -> boo
     true
 }
 
-// A plan in the form that is asked for; whether it was written.
-fn put_shown(rt: &HostRuntime, site: Site, table: &[u8], text: &mut [u8]) -> bool
-    requires { 65536 ≤ length text.old }
-{
-    let form = number(rt, FORM);
-    if form == 1 {
-        return put_cells(rt, site, table, text);
+// The form that is asked for of `show`.
+fn form_asked(rt: &HostRuntime) -> ShownAs {
+    match number(rt, FORM) {
+        1 => ShownAs::Cells,
+        2 => ShownAs::Sheet,
+        _ => ShownAs::Grid(number(rt, NUMBERS) as usize),
     }
-    if form == 2 {
-        return put_sheet(rt, site, table, text);
-    }
-    put_grid(rt, site, table, number(rt, NUMBERS) as usize, text)
 }
 
-// Ends a command that has shown a plan. Where the plan is not valid, the first thing that is wrong is said besides.
-pub fn end_shown(rt: &HostRuntime, site: Site, table: &[u8], text: &mut [u8])
+// A plan in a form; whether it was written.
+fn put_shown(rt: &HostRuntime, form: ShownAs, site: Site, table: &[u8], text: &mut [u8]) -> bool
     requires { 65536 ≤ length text.old }
 {
+    match form {
+        ShownAs::Grid(width) => put_grid(rt, site, table, width, text),
+        ShownAs::Cells => put_cells(rt, site, table, text),
+        ShownAs::Sheet => put_sheet(rt, site, table, text),
+        ShownAs::Picture => put_picture(rt, site, table, text),
+    }
+}
+
+// A plan that was given, valid or not. Where it is not, the first thing that is wrong is said besides.
+fn show_given(
+    rt: &HostRuntime,
+    form: ShownAs,
+    input: &[u8],
+    second: &[u8],
+    table: &mut [u8],
+    text: &mut [u8],
+)
+    requires { 65536 ≤ length text.old }
+{
+    let Some(site) = read_pair(rt, input, second, table, text) else {
+        return;
+    };
+    if !put_shown(rt, form, site, table, text) {
+        reply::unwritten(rt);
+        return;
+    }
     let verdict = checker::check(site, table);
     let end = say_verdicts::put_check(text, 0, site, verdict);
     if verdict.is_err() {
@@ -137,22 +168,8 @@ pub fn end_shown(rt: &HostRuntime, site: Site, table: &[u8], text: &mut [u8])
     reply::fine(rt);
 }
 
-// A plan that was given, valid or not. Where it is not, the first thing that is wrong is said besides.
-fn show_given(rt: &HostRuntime, input: &[u8], second: &[u8], table: &mut [u8], text: &mut [u8])
-    requires { 65536 ≤ length text.old }
-{
-    let Some(site) = read_pair(rt, input, second, table, text) else {
-        return;
-    };
-    if !put_shown(rt, site, table, text) {
-        reply::unwritten(rt);
-        return;
-    }
-    end_shown(rt, site, table, text);
-}
-
 // The plan of a site, as the command plan makes it.
-fn show_plan(rt: &HostRuntime, input: &[u8], table: &mut [u8], text: &mut [u8])
+fn show_plan(rt: &HostRuntime, form: ShownAs, input: &[u8], table: &mut [u8], text: &mut [u8])
     requires { 65536 ≤ length text.old }
 {
     let Some(site) = site_of(rt, input, text) else {
@@ -164,30 +181,51 @@ fn show_plan(rt: &HostRuntime, input: &[u8], table: &mut [u8], text: &mut [u8])
         no(rt, text, end);
         return;
     };
-    if !put_shown(rt, site, table, text) {
+    if !put_shown(rt, form, site, table, text) {
         reply::unwritten(rt);
         return;
     }
     reply::fine(rt);
 }
 
-// Does what the command says, if it is the one that shows a plan; whether it is.
-pub fn show_commands(
-    rt: &HostRuntime,
-    input: &[u8],
-    second: &[u8],
-    table: &mut [u8],
-    text: &mut [u8],
-) -> bool
+// Shows a plan: the one that is given, or that of the site.
+pub fn run_show(rt: &HostRuntime, input: &[u8], second: &[u8], table: &mut [u8], text: &mut [u8])
     requires { 65536 ≤ length text.old }
 {
-    if !is(rt, b"show") {
-        return false;
-    }
+    let form = form_asked(rt);
     if number(rt, GIVEN) == 1 {
-        show_given(rt, input, second, table, text);
-        return true;
+        show_given(rt, form, input, second, table, text);
+        return;
     }
-    show_plan(rt, input, table, text);
-    true
+    show_plan(rt, form, input, table, text);
+}
+
+// A site and the plan that the command plan makes of it. Where it finds no room the table is idle, and its words are said besides: the range map shows why.
+fn picture_plan(rt: &HostRuntime, input: &[u8], table: &mut [u8], text: &mut [u8])
+    requires { 65536 ≤ length text.old }
+{
+    let Some(site) = site_of(rt, input, text) else {
+        return;
+    };
+    let planned = planner::plan(site, table);
+    if !put_picture(rt, site, table, text) {
+        reply::unwritten(rt);
+        return;
+    }
+    let end = say_verdicts::put_plan(text, 0, site, planned);
+    if planned.is_err() {
+        reply::message(rt, text, end);
+    }
+    reply::fine(rt);
+}
+
+// Draws a site and a plan: the one that is given, where argument 4 is 1, or that of the site.
+pub fn run_picture(rt: &HostRuntime, input: &[u8], second: &[u8], table: &mut [u8], text: &mut [u8])
+    requires { 65536 ≤ length text.old }
+{
+    if number(rt, NUMBERS) == 1 {
+        show_given(rt, ShownAs::Picture, input, second, table, text);
+        return;
+    }
+    picture_plan(rt, input, table, text);
 }

@@ -1,7 +1,7 @@
 // The commands of the desk on flows: the share of one, and which of a sheet of them to take.
 ghost use Rattle.std.specs.Prelude.{◌≤◌, length};
 
-use arguments::{NUMBERS, SECOND_NAME, is, number};
+use arguments::{NUMBERS, SECOND_NAME, number};
 use flowlist::FlowList;
 use infiles::site_of;
 use inputs::Input;
@@ -31,9 +31,12 @@ fn share_of(
 }
 
 // The share of a flow, in English. Where no repeats were given, the first line says which were taken.
-fn share(rt: &HostRuntime, slots: u16, burst: u16, period: u16, text: &mut [u8])
+pub fn run_share(rt: &HostRuntime, text: &mut [u8])
     requires { 65536 ≤ length text.old }
 {
+    let slots = number(rt, NUMBERS);
+    let burst = number(rt, NUMBERS + 1);
+    let period = number(rt, NUMBERS + 2);
     let answer = share_of(rt, slots, burst, period);
     let Ok(_) = answer else {
         let end = say_verdicts::put_share(text, 0, burst as usize, period as usize, answer);
@@ -50,37 +53,30 @@ fn share(rt: &HostRuntime, slots: u16, burst: u16, period: u16, text: &mut [u8])
     yes(rt, text, end);
 }
 
-// Which of the flows to take, a line for each.
-fn decide(rt: &HostRuntime, site: Site, flows: FlowList, text: &mut [u8])
+// Which of the flows to take, a line for each: on top of the loads of the site, or with these set aside.
+fn decide(rt: &HostRuntime, site: Site, flows: FlowList, beside: bool, text: &mut [u8])
     requires { (65536 ≤ length text.old) × (flows.count ≤ 16) }
 {
     let count = flows.count;
-    let answer = admission::decide(site, flows, count);
-    let end = say_flows::put_admit(text, 0, site, flows, count, answer);
-    let Ok(_) = answer else {
-        no(rt, text, end);
-        return;
+    let (taken, end) = if beside {
+        let answer = admission::decide_beside(site, flows, count);
+        let end = say_flows::put_beside(text, 0, site, flows, count, answer);
+        (answer.is_ok(), end)
+    } else {
+        let answer = admission::decide(site, flows, count);
+        let end = say_flows::put_admit(text, 0, site, flows, count, answer);
+        (answer.is_ok(), end)
     };
-    yes(rt, text, end);
-}
-
-// The same on top of the loads of the site.
-fn decide_beside(rt: &HostRuntime, site: Site, flows: FlowList, text: &mut [u8])
-    requires { (65536 ≤ length text.old) × (flows.count ≤ 16) }
-{
-    let count = flows.count;
-    let answer = admission::decide_beside(site, flows, count);
-    let end = say_flows::put_beside(text, 0, site, flows, count, answer);
-    let Ok(_) = answer else {
+    if taken {
+        yes(rt, text, end);
+    } else {
         no(rt, text, end);
-        return;
-    };
-    yes(rt, text, end);
+    }
 }
 
 // Which flows of a sheet to take: on top of the loads of the site, or with these set aside. A sheet of flows may end after any line, so what a failing read cut
 // off would pass for a shorter sheet: `ended` is whether it was read to its end. Every other file says how long it is.
-fn admit(rt: &HostRuntime, input: &[u8], second: &[u8], ended: bool, beside: bool, text: &mut [u8])
+pub fn run_admit(rt: &HostRuntime, input: &[u8], second: &[u8], ended: bool, text: &mut [u8])
     requires { 65536 ≤ length text.old }
 {
     let Some(site) = site_of(rt, input, text) else {
@@ -102,34 +98,6 @@ fn admit(rt: &HostRuntime, input: &[u8], second: &[u8], ended: bool, beside: boo
         );
         return;
     }
-    if beside {
-        decide_beside(rt, site, flows.flows, text);
-        return;
-    }
-    decide(rt, site, flows.flows, text);
-}
-
-// Does what the command says, if it is one on flows; whether it is.
-pub fn flow_commands(
-    rt: &HostRuntime,
-    input: &[u8],
-    second: &[u8],
-    ended: bool,
-    text: &mut [u8],
-) -> bool
-    requires { 65536 ≤ length text.old }
-{
-    if is(rt, b"share") {
-        let slots = number(rt, NUMBERS);
-        let burst = number(rt, NUMBERS + 1);
-        let period = number(rt, NUMBERS + 2);
-        share(rt, slots, burst, period, text);
-        return true;
-    }
-    if is(rt, b"admit") {
-        let beside = number(rt, NUMBERS) == 1;
-        admit(rt, input, second, ended, beside, text);
-        return true;
-    }
-    false
+    let beside = number(rt, NUMBERS) == 1;
+    decide(rt, site, flows.flows, beside, text);
 }

@@ -2,7 +2,7 @@
 // ends it, and nothing is written.
 ghost use Rattle.std.specs.Prelude.{◌≤◌, length};
 
-use arguments::{NUMBERS, is};
+use arguments::NUMBERS;
 use blocklist::BadList;
 use editlist::{EditError, EditRead, Kind};
 use infiles::site_of;
@@ -22,8 +22,8 @@ fn say(rt: &HostRuntime, text: &mut [u8], part: Part)
 fn say_wrong(rt: &HostRuntime, text: &mut [u8], part: Part)
     requires { 65536 ≤ length text.old }
 {
-    let end = say_edits::put_part(text, 0, part);
-    reply::wrong(rt, text, end);
+    say(rt, text, part);
+    reply::wrong(rt, b"", 0);
 }
 
 // An argument as it was typed.
@@ -179,7 +179,7 @@ fn edits(rt: &HostRuntime, site: Site, count: usize, text: &mut [u8]) -> Option<
 }
 
 // Edits a site.
-fn set(rt: &HostRuntime, input: &[u8], out: &mut [u8], text: &mut [u8])
+pub fn run_set(rt: &HostRuntime, input: &[u8], out: &mut [u8], text: &mut [u8])
     requires { 65536 ≤ length text.old }
 {
     let count = arguments::count(rt);
@@ -201,15 +201,4 @@ fn set(rt: &HostRuntime, input: &[u8], out: &mut [u8], text: &mut [u8])
         return;
     };
     yes(rt, out, size);
-}
-
-// Does what the command says, if it is `set`; whether it is.
-pub fn set_commands(rt: &HostRuntime, input: &[u8], out: &mut [u8], text: &mut [u8]) -> bool
-    requires { 65536 ≤ length text.old }
-{
-    if is(rt, b"set") {
-        set(rt, input, out, text);
-        return true;
-    }
-    false
 }

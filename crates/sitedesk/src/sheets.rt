@@ -2,7 +2,7 @@
 ghost use Rattle.std.specs.Prelude.{◌≤◌, length};
 
 use crate::set::from_one;
-use arguments::{FIRST_NAME, NUMBERS, is, number};
+use arguments::{FIRST_NAME, NUMBERS, number};
 use blocklist::{BadList, ListRead};
 use infiles::site_of;
 use inputs::Input;
@@ -14,7 +14,7 @@ use site::Fault;
 const LIST: usize = 7;
 
 // A site as a range sheet.
-fn sheet(rt: &HostRuntime, input: &[u8], out: &mut [u8], text: &mut [u8])
+pub fn run_sheet(rt: &HostRuntime, input: &[u8], out: &mut [u8], text: &mut [u8])
     requires { 65536 ≤ length text.old }
 {
     let Some(site) = site_of(rt, input, text) else {
@@ -83,17 +83,12 @@ fn sheet_site(
 }
 
 // A range sheet as a site file, where the list beside it is one.
-fn site(
-    rt: &HostRuntime,
-    input: &[u8],
-    slots: u16,
-    channels: u16,
-    rule: u16,
-    out: &mut [u8],
-    text: &mut [u8],
-)
+pub fn run_site(rt: &HostRuntime, input: &[u8], out: &mut [u8], text: &mut [u8])
     requires { 65536 ≤ length text.old }
 {
+    let slots = number(rt, NUMBERS);
+    let channels = number(rt, NUMBERS + 1);
+    let rule = number(rt, NUMBERS + 2);
     let list = listed(rt, slots, channels);
     let blocked = list.blocked;
     if let Err(BadList(at)) = list.answer {
@@ -105,7 +100,7 @@ fn site(
 }
 
 // A sheet as a spreadsheet writes it, tidied, and what was changed. The changes are a part of the result: where they can't be written it is none.
-fn tidy(rt: &HostRuntime, input: &[u8], out: &mut [u8], text: &mut [u8])
+pub fn run_tidy(rt: &HostRuntime, input: &[u8], out: &mut [u8], text: &mut [u8])
     requires { 65536 ≤ length text.old }
 {
     let answer = tidying::tidy(input, out);
@@ -133,26 +128,4 @@ fn tidy(rt: &HostRuntime, input: &[u8], out: &mut [u8], text: &mut [u8])
         return;
     }
     reply::fine(rt);
-}
-
-// Does what the command says, if it is one on a sheet; whether it is.
-pub fn sheet_commands(rt: &HostRuntime, input: &[u8], out: &mut [u8], text: &mut [u8]) -> bool
-    requires { 65536 ≤ length text.old }
-{
-    if is(rt, b"sheet") {
-        sheet(rt, input, out, text);
-        return true;
-    }
-    if is(rt, b"site") {
-        let slots = number(rt, NUMBERS);
-        let channels = number(rt, NUMBERS + 1);
-        let rule = number(rt, NUMBERS + 2);
-        site(rt, input, slots, channels, rule, out, text);
-        return true;
-    }
-    if is(rt, b"tidy") {
-        tidy(rt, input, out, text);
-        return true;
-    }
-    false
 }

@@ -1,6 +1,6 @@
 -- What is said of the answers that the desk asks for: a finished table's check, a plan, a share, a file or a sheet that was read. Each answer has a sentence, a
 -- row of the lines with its values or a refusal; and the text is the sentence's.
-use Rattle.std.specs.Prelude.{ℕ, ◌+◌, ◌-◌, ◌/◌, ◌%◌, Bool, ◌&&◌, List, ltb, eqb, get_or, Result, Ok, Err}
+use Rattle.std.specs.Prelude.{ℕ, ◌+◌, ◌-◌, ◌/◌, ◌%◌, Bool, ◌&&◌, List, ltb, eqb, get_or, Result, Ok, Err, Some, None}
 use Rattle.laws.specs.Choice.{pick}
 use Rattle.site.specs.Record.{up_to}
 use Rattle.site.specs.Reach.{reaches}
@@ -23,7 +23,7 @@ use Rattle.phrases.specs.Phrases.{phrase}
 use Rattle.phrases.specs.declared.Phrase.TheVariants.{Silent, Row}
 use Rattle.say_refusals.specs.Sentences.{sentence}
 use Rattle.say_refusals.specs.declared.Place.{Place}
-use Rattle.say_refusals.specs.declared.Place.TheVariants.{Nowhere, Byte, PlanByte, Line, Cell, Position}
+use Rattle.say_refusals.specs.declared.Place.TheVariants.{Byte, PlanByte, Line, Cell, Position}
 use Rattle.say_refusals.specs.declared.Sentence.{Sentence}
 use Rattle.say_refusals.specs.declared.Sentence.TheVariants.{Plain, Refusal}
 use Rattle.verdicts.specs.Lines.{verdict_lines, valid_row, clash_forth_row, clash_back_row, clash_both_row, clash_third_row, count_row, planned_row}
@@ -43,11 +43,11 @@ line row a b c d = Plain (Row row a b c d)
 
 -- what is wrong with a record: 1; 24; 2 and 3 with the cell; 20 with the position
 abbrev pub fault_sentence : Fault → Sentence
-fault_sentence Size = Refusal 1 Nowhere
-fault_sentence Rule = Refusal 24 Nowhere
-fault_sentence (Load cell) = Refusal 2 (Cell cell)
-fault_sentence (Reach cell) = Refusal 3 (Cell cell)
-fault_sentence (Blocked position) = Refusal 20 (Position position)
+fault_sentence Size = Refusal 1 None
+fault_sentence Rule = Refusal 24 None
+fault_sentence (Load cell) = Refusal 2 (Some (Cell cell))
+fault_sentence (Reach cell) = Refusal 3 (Some (Cell cell))
+fault_sentence (Blocked position) = Refusal 20 (Some (Position position))
 
 -- a byte of the site file, or of the plan file
 abbrev pub byte_of : File → ℕ → Place
@@ -57,12 +57,12 @@ byte_of PlanFile offset = PlanByte offset
 -- a file that was read: nothing to say; or the number and the offset, with the file named
 abbrev pub read_sentence : File → Result Unit records.Refusal → Sentence
 read_sentence file (Ok u) = Plain Silent
-read_sentence file (Err r) = Refusal r.number (byte_of file r.place)
+read_sentence file (Err r) = Refusal r.number (Some (byte_of file r.place))
 
 -- a sheet that was read: nothing to say; 17 and the line; or what is wrong with the site
 abbrev pub sheet_sentence : Result Unit SheetError → Sentence
 sheet_sentence (Ok u) = Plain Silent
-sheet_sentence (Err (sheet.BadLine number)) = Refusal 17 (Line number)
+sheet_sentence (Err (sheet.BadLine number)) = Refusal 17 (Some (Line number))
 sheet_sentence (Err (sheet.Record f)) = fault_sentence f
 
 -- ---- a table's check
@@ -86,20 +86,20 @@ unfoldable pub clash_sentence : Site → (p a c : ℕ) → Sentence
 clash_sentence s p a c =
     pick (ltb 0 s.channels && ltb p 65536)
     (way_sentence (reach_named s a c) (reach_named s c a) a c (p / s.channels + 1) (p % s.channels + 1))
-    (Refusal 6 Nowhere)
+    (Refusal 6 None)
 
 -- a reservation on a blocked position, by slot and channel
 unfoldable pub blocked_sentence : Site → (p cell : ℕ) → Sentence
 blocked_sentence s p cell =
     pick (ltb 0 s.channels && ltb p 65536)
     (line blocked_row cell (p / s.channels + 1) (p % s.channels + 1) 0)
-    (Refusal 22 Nowhere)
+    (Refusal 22 None)
 
 -- "valid", or the first thing wrong, in English: which cell sends where it is blocked; which two cells, slot and channel;
 -- or which cell, how often it sends and how often it should
 abbrev pub check_sentence : Site → Result Unit CheckError → Sentence
 check_sentence s (Ok u) = line valid_row 0 0 0 0
-check_sentence s (Err check.TableShort) = Refusal 4 Nowhere
+check_sentence s (Err check.TableShort) = Refusal 4 None
 check_sentence s (Err (check.Blocked p cell)) = blocked_sentence s p cell
 check_sentence s (Err (check.Clash p a c)) = clash_sentence s p a c
 check_sentence s (Err (check.Count cell n)) = line count_row cell n (load_named s cell) 0
@@ -110,7 +110,7 @@ check_sentence s (Err (check.Record f)) = fault_sentence f
 -- one line says what was planned
 abbrev pub plan_sentence : Site → Result Unit PlanError → Sentence
 plan_sentence s (Ok u) = line planned_row s.cells s.slots s.channels 0
-plan_sentence s (Err plan.TableShort) = Refusal 4 Nowhere
+plan_sentence s (Err plan.TableShort) = Refusal 4 None
 plan_sentence s (Err (plan.NoRoom cell short)) = line no_room_row cell short 0 0
 plan_sentence s (Err (plan.Record f)) = fault_sentence f
 
@@ -123,7 +123,7 @@ abbrev pub share_sentence : (c p : ℕ) → Result Shares ShareError → Sentenc
 share_sentence c p (Ok (s, q, d)) = line share_row s.0 q.0 d.0 0
 share_sentence c p (Err share.OutOfRange) = line bad_slots_row 0 0 0 0
 share_sentence c p (Err share.BadFlow) = line (bad_flow_row c p) 0 0 0 0
-share_sentence c p (Err share.BigShare) = Refusal 16 Nowhere
+share_sentence c p (Err share.BigShare) = Refusal 16 None
 
 -- how many changes the mender makes; none exactly where the table is valid: `valid-unchanged` and `unchanged-valid` of crate `promises`
 unfoldable pub changes_sentence : ℕ → Sentence
@@ -132,9 +132,9 @@ changes_sentence number = pick (eqb number 0) (line unchanged_row 0 0 0 0) (line
 -- what the mender answers. Its changes, one by one, are crate `say_changes`'
 abbrev pub mend_sentence : Result ℕ MendError → Sentence
 mend_sentence (Ok number) = changes_sentence number
-mend_sentence (Err mend.TableShort) = Refusal 4 Nowhere
+mend_sentence (Err mend.TableShort) = Refusal 4 None
 mend_sentence (Err (mend.NoRoom cell short)) = line kept_no_room_row cell short 0 0
-mend_sentence (Err (mend.ListShort number)) = Refusal 13 Nowhere
+mend_sentence (Err (mend.ListShort number)) = Refusal 13 None
 mend_sentence (Err (mend.Record f)) = fault_sentence f
 
 -- ---- in English
