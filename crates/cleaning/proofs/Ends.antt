@@ -9,9 +9,12 @@ use lib.Dec.{eqb}
 use borrow.Author.Tests.{eqb-true, eqb-false}
 use Rattle.laws.specs.Choice.{pick}
 use Rattle.laws.specs.Sum.{bit}
+use Rattle.cleaning.specs.declared.Quotes.TheVariants.{Open, Closed}
+use Rattle.cleaning.specs.declared.Content.TheVariants.{Filled}
 use Rattle.cleaning.specs.declared.Standing.{Standing}
 use Rattle.cleaning.specs.declared.Step.{Step}
-use Rattle.cleaning.specs.Clean.{is_separator, separator_in, spoiled, on_blank, quoted, on_quote, is_reach, is_late, on_content, mend_of, on_separator, on_cr}
+use Rattle.cleaning.specs.Clean.{is_unquoted, quote_open, is_empty, is_separator, separator_in, spoiled, on_blank, quoted, on_quote, is_reach, is_late}
+use Rattle.cleaning.specs.Clean.{on_content, mend_of, on_separator, on_cr}
 use Rattle.cleaning.specs.Clean.{fed}
 use Rattle.cleaning.specs.Clean.{on_lf, after_cr, on_field, step_of, byte_out, out_of, clean_from}
 use Rattle.cleaning.specs.Means.{line_ends}
@@ -48,7 +51,7 @@ fed_by s = bit (eqb s.mend 10) + (bit (eqb s.byte 10) + bit (eqb s.feed 10))
 
 mend-not : (p : Standing) → eqb (mend_of p) 10 ≡ false
 unfolding mend_of
-mend-not p = go (eqb p.quotes 1) (eqb p.column 0 && eqb p.content 0)
+mend-not p = go (quote_open p.quotes) (eqb p.column 0 && is_empty p.content)
   where
     go : (t u : Bool) → eqb (pick t 34 (pick u 48 0)) 10 ≡ false
     go true u = refl
@@ -58,9 +61,9 @@ mend-not p = go (eqb p.quotes 1) (eqb p.column 0 && eqb p.content 0)
 module _ (p : Standing) (b : ℕ) (n : eqb b 10 ≡ false) where
   quote-fed : fed_by (on_quote p) ≡ 0
   unfolding on_quote
-  quote-fed = go (eqb p.quotes 1) (eqb p.quotes 0 && eqb p.content 0)
+  quote-fed = go (quote_open p.quotes) (is_unquoted p.quotes && is_empty p.content)
     where
-      go : (t u : Bool) → fed_by (pick t (quoted p 2) (pick u (quoted p 1) (spoiled p 34))) ≡ 0
+      go : (t u : Bool) → fed_by (pick t (quoted p Closed) (pick u (quoted p Open) (spoiled p 34))) ≡ 0
       go true u = refl
       go false true = refl
       go false false = refl
@@ -73,7 +76,7 @@ module _ (p : Standing) (b : ℕ) (n : eqb b 10 ≡ false) where
           → fed_by
           (pick t (spoiled p b)
           (record {
-            spot = record { column = p.column; quotes = p.quotes; content = 1; ended = 0 };
+            spot = record { column = p.column; quotes = p.quotes; content = Filled; ended = false };
             mend = 0;
             byte = pick u 49 b;
             feed = 0;
@@ -98,7 +101,7 @@ module _ (sep : ℕ) (other : eqb sep 10 ≡ false) where
   -- an LF for an LF, and for no other byte
   step-fed : (p : Standing) (b : ℕ) → fed_by (step_of sep p b) ≡ bit (eqb b 10)
   unfolding step_of after_cr on_separator on_lf on_cr
-  step-fed p b = go (eqb p.ended 1) (eqb b sep) refl (eqb b 10) refl (eqb b 13)
+  step-fed p b = go p.ended (eqb b sep) refl (eqb b 10) refl (eqb b 13)
     where
       go : (t u : Bool) → eqb b sep ≡ u → (v : Bool) → eqb b 10 ≡ v → (x : Bool)
           → fed_by (pick t (pick v (fed 0) (spoiled p b)) (pick u (on_separator sep p) (pick v (on_lf p 3) (pick x (on_cr p) (on_field p b))))) ≡ bit v

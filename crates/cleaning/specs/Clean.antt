@@ -1,10 +1,14 @@
 -- A range sheet as spreadsheets write it, made into the form of the format, byte by byte. A byte becomes some bytes, by the spot where it stands. What cannot
 -- be tidied is left with a quote before it: no line of the format has a quote, so the reader refuses that line.
-use Rattle.std.specs.Prelude.{ℕ, ◌+◌, ◌-◌, Bool, ◌&&◌, ◌||◌, not, List, [], ◌∷◌, ◌++◌, drop, eqb}
+use Rattle.std.specs.Prelude.{ℕ, ◌+◌, ◌-◌, Bool, true, false, ◌&&◌, ◌||◌, not, List, [], ◌∷◌, ◌++◌, drop, eqb}
 use Rattle.laws.specs.Choice.{pick}
 use Rattle.laws.specs.Sum.{bit}
 use Rattle.lines.specs.Format.{comma_byte, cr_byte, lf_byte}
 use Rattle.lines.specs.Match.{starts}
+use Rattle.cleaning.specs.declared.Quotes.{Quotes}
+use Rattle.cleaning.specs.declared.Quotes.TheVariants.{Unquoted, Open, Closed}
+use Rattle.cleaning.specs.declared.Content.{Content}
+use Rattle.cleaning.specs.declared.Content.TheVariants.{Empty, Filled, Spaced}
 use Rattle.cleaning.specs.declared.Standing.{Standing}
 use Rattle.cleaning.specs.declared.Step.{Step}
 use Rattle.cleaning.specs.declared.Tidied.{Tidied}
@@ -58,13 +62,48 @@ end_added = 8
 
 -- ---- where a byte stands
 
--- the column: 3 in the first line; in a line of a cell 2 is its number, 1 its load, 0 a mark. The quotes of the field: 0 none yet, 1 open, 2 closed. Its
--- content: 0 none yet, 1 some, 2 some and then a blank. And 1 where a CR has ended the line
+-- the quotes of the field
+
+abbrev pub is_unquoted : Quotes → Bool
+is_unquoted Unquoted = true
+is_unquoted Open = false
+is_unquoted Closed = false
+
+abbrev pub quote_open : Quotes → Bool
+quote_open Unquoted = false
+quote_open Open = true
+quote_open Closed = false
+
+abbrev pub is_closed : Quotes → Bool
+is_closed Unquoted = false
+is_closed Open = false
+is_closed Closed = true
+
+-- the content of the field
+
+abbrev pub is_empty : Content → Bool
+is_empty Empty = true
+is_empty Filled = false
+is_empty Spaced = false
+
+abbrev pub is_spaced : Content → Bool
+is_spaced Empty = false
+is_spaced Filled = false
+is_spaced Spaced = true
+
+-- with a blank more
+abbrev pub spaced_after : Content → Content
+spaced_after Empty = Empty
+spaced_after Filled = Spaced
+spaced_after Spaced = Spaced
+
+-- the column: 3 in the first line; in a line of a cell 2 is its number, 1 its load, 0 a mark. The quotes of the field, its content, and whether a CR has ended
+-- the line
 abbrev pub first_spot : Standing
-first_spot = record { column = 3; quotes = 0; content = 0; ended = 0 }
+first_spot = record { column = 3; quotes = Unquoted; content = Empty; ended = false }
 
 abbrev pub line_spot : Standing
-line_spot = record { column = 2; quotes = 0; content = 0; ended = 0 }
+line_spot = record { column = 2; quotes = Unquoted; content = Empty; ended = false }
 
 unfoldable pub next_column : ℕ → ℕ
 next_column c = pick (eqb c 3) 3 (c - 1)
@@ -79,7 +118,7 @@ spoiled p b = record { spot = p; mend = quote_byte; byte = b; feed = 0; change =
 unfoldable pub on_blank : Standing → Step
 on_blank p =
     record {
-      spot = record { column = p.column; quotes = p.quotes; content = pick (eqb p.content 1) 2 p.content; ended = 0 };
+      spot = record { column = p.column; quotes = p.quotes; content = spaced_after p.content; ended = false };
       mend = 0;
       byte = 0;
       feed = 0;
@@ -87,10 +126,10 @@ on_blank p =
     }
 
 -- the spot with these quotes
-abbrev pub quoted : Standing → ℕ → Step
+abbrev pub quoted : Standing → Quotes → Step
 quoted p q =
     record {
-      spot = record { column = p.column; quotes = q; content = p.content; ended = 0 };
+      spot = record { column = p.column; quotes = q; content = p.content; ended = false };
       mend = 0;
       byte = 0;
       feed = 0;
@@ -100,22 +139,22 @@ quoted p q =
 -- "quotes around a field dropped": an open quote is closed; before any content one is opened
 unfoldable pub on_quote : Standing → Step
 on_quote p =
-    pick (eqb p.quotes 1) (quoted p 2)
-    (pick (eqb p.quotes 0 && eqb p.content 0) (quoted p 1) (spoiled p quote_byte))
+    pick (quote_open p.quotes) (quoted p Closed)
+    (pick (is_unquoted p.quotes && is_empty p.content) (quoted p Open) (spoiled p quote_byte))
 
 -- "`x` to .. 1 (an x is a reach)", also a capital one: the first byte of a mark
 unfoldable pub is_reach : Standing → ℕ → Bool
-is_reach p b = eqb p.column 0 && (eqb p.content 0 && (eqb b 120 || eqb b 88))
+is_reach p b = eqb p.column 0 && (is_empty p.content && (eqb b 120 || eqb b 88))
 
 -- any other byte is content: none may come after a closed quote, or after a blank that came after content
 unfoldable pub is_late : Standing → ℕ → Bool
-is_late p b = eqb b 0 || (eqb p.quotes 2 || eqb p.content 2)
+is_late p b = eqb b 0 || (is_closed p.quotes || is_spaced p.content)
 
 unfoldable pub on_content : Standing → ℕ → Step
 on_content p b =
     pick (is_late p b) (spoiled p b)
     (record {
-      spot = record { column = p.column; quotes = p.quotes; content = 1; ended = 0 };
+      spot = record { column = p.column; quotes = p.quotes; content = Filled; ended = false };
       mend = 0;
       byte = pick (is_reach p b) 49 b;
       feed = 0;
@@ -124,7 +163,7 @@ on_content p b =
 
 -- a field ends: "a blank mark .. to 0", 48; an open quote spoils the line
 unfoldable pub mend_of : Standing → ℕ
-mend_of p = pick (eqb p.quotes 1) quote_byte (pick (eqb p.column 0 && eqb p.content 0) 48 0)
+mend_of p = pick (quote_open p.quotes) quote_byte (pick (eqb p.column 0 && is_empty p.content) 48 0)
 
 -- "semicolons or tabs to commas"
 unfoldable pub comma_change : ℕ → ℕ
@@ -133,7 +172,7 @@ comma_change sep = pick (eqb sep comma_byte) 0 comma_put
 unfoldable pub on_separator : ℕ → Standing → Step
 on_separator sep p =
     record {
-      spot = record { column = next_column p.column; quotes = 0; content = 0; ended = 0 };
+      spot = record { column = next_column p.column; quotes = Unquoted; content = Empty; ended = false };
       mend = mend_of p;
       byte = comma_byte;
       feed = 0;
@@ -144,7 +183,7 @@ on_separator sep p =
 unfoldable pub on_cr : Standing → Step
 on_cr p =
     record {
-      spot = record { column = p.column; quotes = 0; content = 0; ended = 1 };
+      spot = record { column = p.column; quotes = Unquoted; content = Empty; ended = true };
       mend = mend_of p;
       byte = cr_byte;
       feed = 0;
@@ -168,19 +207,19 @@ on_field p b = pick (eqb b blank_byte) (on_blank p) (pick (eqb b quote_byte) (on
 
 unfoldable pub step_of : ℕ → Standing → ℕ → Step
 step_of sep p b =
-    pick (eqb p.ended 1) (after_cr p b)
+    pick p.ended (after_cr p b)
     (pick (eqb b sep) (on_separator sep p) (pick (eqb b lf_byte) (on_lf p end_made) (pick (eqb b cr_byte) (on_cr p) (on_field p b))))
 
 -- nothing of a line stands there yet
 unfoldable pub is_fresh : Standing → Bool
-is_fresh p = eqb p.column 2 && (eqb p.quotes 0 && (eqb p.content 0 && eqb p.ended 0))
+is_fresh p = eqb p.column 2 && (is_unquoted p.quotes && (is_empty p.content && not p.ended))
 
 abbrev pub nothing : Step
 nothing = record { spot = line_spot; mend = 0; byte = 0; feed = 0; change = 0 }
 
 -- "the last line's end added"
 unfoldable pub end_of : Standing → Step
-end_of p = pick (is_fresh p) nothing (pick (eqb p.ended 1) (fed end_added) (on_lf p end_added))
+end_of p = pick (is_fresh p) nothing (pick p.ended (fed end_added) (on_lf p end_added))
 
 -- ---- the sheet
 

@@ -1,8 +1,10 @@
 -- Fields that are one byte or none, with their quotes and their separator, taken at once: what is written for them is what is written for their bytes.
-use Rattle.std.specs.Prelude.{ℕ, ◌+◌, ◌≤◌, ◌<◌, Bool, ◌&&◌, ◌||◌, not, List, ◌++◌, ◌≡◌, eqb, leb, length, drop, get_or}
+use Rattle.std.specs.Prelude.{ℕ, ◌+◌, ◌≤◌, ◌<◌, Bool, false, ◌&&◌, ◌||◌, not, List, ◌++◌, ◌≡◌, eqb, leb, length, drop, get_or, Option, Some, None}
 use Rattle.laws.specs.Choice.{pick}
 use Rattle.lines.specs.Format.{comma_byte}
-use Rattle.cleaning.specs.Clean.{quote_byte, next_column, out_of, clean_from}
+use Rattle.cleaning.specs.Clean.{quote_byte, is_unquoted, is_empty, next_column, out_of, clean_from}
+use Rattle.cleaning.specs.declared.Quotes.TheVariants.{Unquoted}
+use Rattle.cleaning.specs.declared.Content.TheVariants.{Empty}
 use Rattle.cleaning.specs.declared.Standing.{Standing}
 use Rattle.cleaning.specs.declared.Step.{Step}
 use Rattle.cleaning.specs.declared.Field.{Field}
@@ -19,40 +21,37 @@ content_of column b = pick (eqb column 0 && (eqb b 120 || eqb b 88)) 49 b
 unfoldable pub empty_of : ℕ → ℕ
 empty_of column = pick (eqb column 0) 48 0
 
-abbrev pub no_field : Field
-no_field = record { count = 0; content = 0 }
-
 -- after two quotes: a separator
-unfoldable pub empty_field : ℕ → ℕ → ℕ → Field
-empty_field sep column c = pick (eqb c sep) (record { count = 3; content = empty_of column }) no_field
+unfoldable pub empty_field : ℕ → ℕ → ℕ → Option Field
+empty_field sep column c = pick (eqb c sep) (Some (record { count = 3; content = empty_of column })) None
 
 -- after an open quote: another, or content, a quote and a separator
-unfoldable pub quoted_field : ℕ → ℕ → ℕ → ℕ → ℕ → Field
+unfoldable pub quoted_field : ℕ → ℕ → ℕ → ℕ → ℕ → Option Field
 quoted_field sep column b c d =
     pick (eqb b quote_byte) (empty_field sep column c)
-    (pick (is_plain b && (eqb c quote_byte && eqb d sep)) (record { count = 4; content = content_of column b }) no_field)
+    (pick (is_plain b && (eqb c quote_byte && eqb d sep)) (Some (record { count = 4; content = content_of column b })) None)
 
-unfoldable pub bare_field : ℕ → ℕ → ℕ → ℕ → Field
-bare_field sep column a b = pick (is_plain a && eqb b sep) (record { count = 2; content = content_of column a }) no_field
+unfoldable pub bare_field : ℕ → ℕ → ℕ → ℕ → Option Field
+bare_field sep column a b = pick (is_plain a && eqb b sep) (Some (record { count = 2; content = content_of column a })) None
 
 -- the field that begins at index i, where four bytes stand there
-unfoldable pub field_at : ℕ → ℕ → List ℕ → ℕ → Field
+unfoldable pub field_at : ℕ → ℕ → List ℕ → ℕ → Option Field
 field_at sep column s i =
     pick (leb (i + 4) (length s))
     (pick (eqb (get_or s i 0) quote_byte) (quoted_field sep column (get_or s (i + 1) 0) (get_or s (i + 2) 0) (get_or s (i + 3) 0))
     (bare_field sep column (get_or s i 0) (get_or s (i + 1) 0)))
-    no_field
+    None
 
 -- the spot where a field begins
 abbrev pub field_spot : ℕ → Standing
-field_spot column = record { column = column; quotes = 0; content = 0; ended = 0 }
+field_spot column = record { column = column; quotes = Unquoted; content = Empty; ended = false }
 
 unfoldable pub begins_field : Standing → Bool
-begins_field p = eqb p.quotes 0 && (eqb p.content 0 && eqb p.ended 0)
+begins_field p = is_unquoted p.quotes && (is_empty p.content && not p.ended)
 
 -- the field that begins at index i, where the spot is one where a field begins
-unfoldable pub next_field : ℕ → Standing → List ℕ → ℕ → Field
-next_field sep p s i = pick (begins_field p) (field_at sep p.column s i) no_field
+unfoldable pub next_field : ℕ → Standing → List ℕ → ℕ → Option Field
+next_field sep p s i = pick (begins_field p) (field_at sep p.column s i) None
 
 -- the content and a comma
 unfoldable pub field_step : ℕ → ℕ → Step

@@ -7,7 +7,7 @@ ghost use Rattle.cleaning.specs.Clean.{is_separator, separator_in, next_column, 
 ghost use Rattle.cleaning.specs.Clean.{comma_change, on_separator, on_cr, first_spot, line_spot, fed, on_lf, after_cr, on_field, step_of, is_fresh};
 ghost use Rattle.cleaning.specs.Clean.{end_of, byte_out, out_of, begins, cleaned};
 ghost use Rattle.cleaning.specs.Kept.{Kept};
-ghost use Rattle.cleaning.specs.Fields.{is_plain, content_of, empty_of, no_field, empty_field, quoted_field, bare_field, field_at};
+ghost use Rattle.cleaning.specs.Fields.{is_plain, content_of, empty_of, empty_field, quoted_field, bare_field, field_at};
 ghost use Rattle.cleaning.specs.Fields.{field_step, begins_field, next_field, Stepped};
 ghost use Rattle.cleaning.specs.Clean.{makes, noted, line_after, unchanged, mark_change, changes_of};
 
@@ -38,17 +38,35 @@ pub const ONE_PUT: u8 = 7;
 
 pub const END_ADDED: u8 = 8;
 
-// Where a byte stands: the column (3 in the first line; then 2, 1, 0: number, load, mark), the quotes of its field (0 none, 1 open, 2 closed), its content
-// (0 none, 1 some, 2 some and then a blank), and 1 where a CR has ended the line.
+// The quotes of a field.
+#[derive(Clone, Copy, PartialEq)]
+pub enum Quotes {
+    Unquoted,
+    Open,
+    Closed,
+}
+
+// The content of a field: none, some, or some and then a blank.
+#[derive(Clone, Copy, PartialEq)]
+pub enum Content {
+    Empty,
+    Filled,
+    Spaced,
+}
+
+// Where a byte stands: the column (3 in the first line; then 2, 1, 0: number, load, mark), the quotes and the content of its field, and whether a CR has ended
+// the line.
 #[derive(Clone, Copy)]
 pub struct Standing {
     pub column: u8,
-    pub quotes: u8,
-    pub content: u8,
-    pub ended: u8,
+    pub quotes: Quotes,
+    pub content: Content,
+    pub ended: bool,
 }
 
-// The spot after a byte, the bytes that are written for it (0 is none), and what was changed.
+// The spot after a byte, the bytes that are written for it (0 is none), and what was changed (0 is nothing).
+// The bytes are no Options: a byte 0 of the sheet is written as none too (`specs/Clean`: `byte_out`), so that 0 says none in either form.
+// The change is no enum: its number is the row of its sentence (`say_sheets/Lines`: `tidy_lines`), and `say_sheets` counts through the numbers in their order.
 #[derive(Clone, Copy)]
 pub struct Step {
     pub spot: Standing,
@@ -66,6 +84,7 @@ pub struct Tidied {
 }
 
 // Whether fields can be parted by b.
+#[tactic(auto, unfolding(crate::specs::Clean::is_separator))]
 fn is_separator(b: u8) -> bool
     ensures { result ≡ is_separator b }
 {
@@ -91,6 +110,7 @@ fn separator(s: &[u8]) -> u8
 }
 
 // The column after a separator.
+#[tactic(auto, unfolding(crate::specs::Clean::next_column))]
 fn next_column(c: u8) -> u8
     ensures { result ≡ next_column c }
 {
@@ -117,13 +137,14 @@ fn spoil(p: Standing, b: u8) -> Step
 }
 
 // A blank.
+#[tactic(auto, unfolding(crate::specs::Clean::on_blank))]
 fn on_blank(p: Standing) -> Step
     ensures { result ≡ on_blank p }
 {
     let mut spot = p;
-    spot.ended = 0;
-    if spot.content == 1 {
-        spot.content = 2;
+    spot.ended = false;
+    if spot.content == Content::Filled {
+        spot.content = Content::Spaced;
     }
     Step {
         spot,
@@ -135,14 +156,14 @@ fn on_blank(p: Standing) -> Step
 }
 
 // A quote that is dropped.
-fn drop_quote(p: Standing, quotes: u8) -> Step
+fn drop_quote(p: Standing, quotes: Quotes) -> Step
     ensures { result ≡ quoted p quotes }
 {
     let spot = Standing {
         column: p.column,
         quotes,
         content: p.content,
-        ended: 0,
+        ended: false,
     };
     Step {
         spot,
@@ -154,29 +175,31 @@ fn drop_quote(p: Standing, quotes: u8) -> Step
 }
 
 // A quote.
+#[tactic(auto, unfolding(crate::specs::Clean::on_quote))]
 fn on_quote(p: Standing) -> Step
     ensures { result ≡ on_quote p }
 {
-    if p.quotes == 1 {
-        return drop_quote(p, 2);
+    if p.quotes == Quotes::Open {
+        return drop_quote(p, Quotes::Closed);
     }
-    if p.quotes != 0 {
+    if p.quotes != Quotes::Unquoted {
         return spoil(p, QUOTE);
     }
-    if p.content != 0 {
+    if p.content != Content::Empty {
         return spoil(p, QUOTE);
     }
-    drop_quote(p, 1)
+    drop_quote(p, Quotes::Open)
 }
 
 // Whether b is an x that stands for a mark.
+#[tactic(auto, unfolding(crate::specs::Clean::is_reach))]
 fn is_reach(p: Standing, b: u8) -> bool
     ensures { result ≡ is_reach p b }
 {
     if p.column != 0 {
         return false;
     }
-    if p.content != 0 {
+    if p.content != Content::Empty {
         return false;
     }
     if b == 120 {
@@ -186,19 +209,21 @@ fn is_reach(p: Standing, b: u8) -> bool
 }
 
 // Whether b cannot be content here.
+#[tactic(auto, unfolding(crate::specs::Clean::is_late))]
 fn is_late(p: Standing, b: u8) -> bool
     ensures { result ≡ is_late p b }
 {
     if b == 0 {
         return true;
     }
-    if p.quotes == 2 {
+    if p.quotes == Quotes::Closed {
         return true;
     }
-    p.content == 2
+    p.content == Content::Spaced
 }
 
 // A byte of a field's content.
+#[tactic(auto, unfolding(crate::specs::Clean::on_content))]
 fn on_content(p: Standing, b: u8) -> Step
     ensures { result ≡ on_content p b }
 {
@@ -208,8 +233,8 @@ fn on_content(p: Standing, b: u8) -> Step
     let spot = Standing {
         column: p.column,
         quotes: p.quotes,
-        content: 1,
-        ended: 0,
+        content: Content::Filled,
+        ended: false,
     };
     if is_reach(p, b) {
         return Step {
@@ -230,22 +255,24 @@ fn on_content(p: Standing, b: u8) -> Step
 }
 
 // What is written where a field ends.
+#[tactic(auto, unfolding(crate::specs::Clean::mend_of))]
 fn mend_of(p: Standing) -> u8
     ensures { result ≡ mend_of p }
 {
-    if p.quotes == 1 {
+    if p.quotes == Quotes::Open {
         return QUOTE;
     }
     if p.column != 0 {
         return 0;
     }
-    if p.content != 0 {
+    if p.content != Content::Empty {
         return 0;
     }
     48
 }
 
 // The change that a separator is.
+#[tactic(auto, unfolding(crate::specs::Clean::comma_change))]
 fn separator_change(sep: u8) -> u8
     ensures { result ≡ comma_change sep }
 {
@@ -256,6 +283,7 @@ fn separator_change(sep: u8) -> u8
 }
 
 // A separator.
+#[tactic(auto, unfolding(crate::specs::Clean::on_separator))]
 fn on_separator(sep: u8, p: Standing) -> Step
     ensures { result ≡ on_separator sep p }
 {
@@ -264,9 +292,9 @@ fn on_separator(sep: u8, p: Standing) -> Step
     let change = separator_change(sep);
     let spot = Standing {
         column,
-        quotes: 0,
-        content: 0,
-        ended: 0,
+        quotes: Quotes::Unquoted,
+        content: Content::Empty,
+        ended: false,
     };
     Step {
         spot,
@@ -278,15 +306,16 @@ fn on_separator(sep: u8, p: Standing) -> Step
 }
 
 // A CR that ends a line.
+#[tactic(auto, unfolding(crate::specs::Clean::on_cr))]
 fn on_cr(p: Standing) -> Step
     ensures { result ≡ on_cr p }
 {
     let mend = mend_of(p);
     let spot = Standing {
         column: p.column,
-        quotes: 0,
-        content: 0,
-        ended: 1,
+        quotes: Quotes::Unquoted,
+        content: Content::Empty,
+        ended: true,
     };
     Step {
         spot,
@@ -303,9 +332,9 @@ fn line_spot() -> Standing
 {
     Standing {
         column: 2,
-        quotes: 0,
-        content: 0,
-        ended: 0,
+        quotes: Quotes::Unquoted,
+        content: Content::Empty,
+        ended: false,
     }
 }
 
@@ -324,6 +353,7 @@ fn feed(change: u8) -> Step
 }
 
 // A line's end that has no CR.
+#[tactic(auto, unfolding(crate::specs::Clean::on_lf))]
 fn on_lf(p: Standing, change: u8) -> Step
     ensures { result ≡ on_lf p change }
 {
@@ -339,6 +369,7 @@ fn on_lf(p: Standing, change: u8) -> Step
 }
 
 // A byte after a CR.
+#[tactic(auto, unfolding(crate::specs::Clean::after_cr))]
 fn after_cr(p: Standing, b: u8) -> Step
     ensures { result ≡ after_cr p b }
 {
@@ -349,6 +380,7 @@ fn after_cr(p: Standing, b: u8) -> Step
 }
 
 // A byte that is neither a separator nor in a line's end.
+#[tactic(auto, unfolding(crate::specs::Clean::on_field))]
 fn on_field(p: Standing, b: u8) -> Step
     ensures { result ≡ on_field p b }
 {
@@ -365,10 +397,11 @@ fn on_field(p: Standing, b: u8) -> Step
 }
 
 // A byte at its spot.
+#[tactic(auto, unfolding(crate::specs::Clean::step_of))]
 fn step_of(sep: u8, p: Standing, b: u8) -> Step
     ensures { result ≡ step_of sep p b }
 {
-    if p.ended == 1 {
+    if p.ended {
         return after_cr(p, b);
     }
     if b == sep {
@@ -384,22 +417,24 @@ fn step_of(sep: u8, p: Standing, b: u8) -> Step
 }
 
 // Whether nothing of a line stands there yet.
+#[tactic(auto, unfolding(crate::specs::Clean::is_fresh))]
 fn is_fresh(p: Standing) -> bool
     ensures { result ≡ is_fresh p }
 {
     if p.column != 2 {
         return false;
     }
-    if p.quotes != 0 {
+    if p.quotes != Quotes::Unquoted {
         return false;
     }
-    if p.content != 0 {
+    if p.content != Content::Empty {
         return false;
     }
-    p.ended == 0
+    !p.ended
 }
 
 // What is written where the sheet ends.
+#[tactic(auto, unfolding(crate::specs::Clean::end_of))]
 fn end_of(p: Standing) -> Step
     ensures { result ≡ end_of p }
 {
@@ -413,7 +448,7 @@ fn end_of(p: Standing) -> Step
             change: 0,
         };
     }
-    if p.ended == 1 {
+    if p.ended {
         return feed(END_ADDED);
     }
     on_lf(p, END_ADDED)
@@ -463,7 +498,7 @@ struct Taken {
     pub count: usize,
 }
 
-// A field that is one byte or none, with its quotes and its separator: its bytes, none where it is another field, and what is written for its content.
+// A field that is one byte or none, with its quotes and its separator: how many bytes that are, and what is written for its content.
 #[derive(Clone, Copy)]
 struct Field {
     pub count: usize,
@@ -471,6 +506,7 @@ struct Field {
 }
 
 // Whether b is content in every column: neither a separator nor a blank, a quote or a byte of a line's end.
+#[tactic(auto, unfolding(crate::specs::Fields::is_plain))]
 fn is_plain(b: u8) -> bool
     ensures { result ≡ is_plain b }
 {
@@ -481,6 +517,7 @@ fn is_plain(b: u8) -> bool
 }
 
 // What is written for the content b of a field.
+#[tactic(auto, unfolding(crate::specs::Fields::content_of))]
 fn content_of(column: u8, b: u8) -> u8
     ensures { result ≡ content_of column b }
 {
@@ -497,6 +534,7 @@ fn content_of(column: u8, b: u8) -> u8
 }
 
 // What is written for a field without content.
+#[tactic(auto, unfolding(crate::specs::Fields::empty_of))]
 fn empty_of(column: u8) -> u8
     ensures { result ≡ empty_of column }
 {
@@ -506,70 +544,64 @@ fn empty_of(column: u8) -> u8
     0
 }
 
-// Another field.
-fn no_field() -> Field
-    ensures { result ≡ no_field }
-{
-    Field {
-        count: 0,
-        content: 0,
-    }
-}
-
 // A field without content, after its quotes: the byte c.
-fn empty_field(sep: u8, column: u8, c: u8) -> Field
+#[tactic(auto, unfolding(crate::specs::Fields::empty_field))]
+fn empty_field(sep: u8, column: u8, c: u8) -> Option<Field>
     ensures { result ≡ empty_field sep column c }
 {
     if c != sep {
-        return no_field();
+        return None;
     }
     let content = empty_of(column);
-    Field { count: 3, content }
+    Some(Field { count: 3, content })
 }
 
 // A field after its open quote: the bytes b, c and d.
-fn quoted_field(sep: u8, column: u8, b: u8, c: u8, d: u8) -> Field
+#[tactic(auto, unfolding(crate::specs::Fields::quoted_field))]
+fn quoted_field(sep: u8, column: u8, b: u8, c: u8, d: u8) -> Option<Field>
     ensures { result ≡ quoted_field sep column b c d }
 {
     if b == QUOTE {
         return empty_field(sep, column, c);
     }
     if !is_plain(b) {
-        return no_field();
+        return None;
     }
     if c != QUOTE {
-        return no_field();
+        return None;
     }
     if d != sep {
-        return no_field();
+        return None;
     }
     let content = content_of(column, b);
-    Field { count: 4, content }
+    Some(Field { count: 4, content })
 }
 
 // A field that begins with a and b, and has no quotes.
-fn bare_field(sep: u8, column: u8, a: u8, b: u8) -> Field
+#[tactic(auto, unfolding(crate::specs::Fields::bare_field))]
+fn bare_field(sep: u8, column: u8, a: u8, b: u8) -> Option<Field>
     ensures { result ≡ bare_field sep column a b }
 {
     if !is_plain(a) {
-        return no_field();
+        return None;
     }
     if b != sep {
-        return no_field();
+        return None;
     }
     let content = content_of(column, a);
-    Field { count: 2, content }
+    Some(Field { count: 2, content })
 }
 
 // The field that begins at i.
-fn field_at(s: &[u8], i: usize, sep: u8, column: u8) -> Field
+#[tactic(auto, unfolding(crate::specs::Fields::field_at))]
+fn field_at(s: &[u8], i: usize, sep: u8, column: u8) -> Option<Field>
     ensures { result ≡ field_at sep column s.now i }
 {
     if s.len() < 4 {
-        return no_field();
+        return None;
     }
     if s.len() - 4 < i {
-        return no_field();
+        return None;
     }
     let a = s[i];
     if a == QUOTE {
@@ -579,15 +611,16 @@ fn field_at(s: &[u8], i: usize, sep: u8, column: u8) -> Field
 }
 
 // The step that a field makes, with its separator.
+#[tactic(auto, unfolding(crate::specs::Fields::field_step))]
 fn field_step(column: u8, content: u8) -> Step
     ensures { result ≡ field_step column content }
 {
     let after = next_column(column);
     let spot = Standing {
         column: after,
-        quotes: 0,
-        content: 0,
-        ended: 0,
+        quotes: Quotes::Unquoted,
+        content: Content::Empty,
+        ended: false,
     };
     Step {
         spot,
@@ -608,24 +641,26 @@ fn take_one(s: &[u8], i: usize, sep: u8, p: Standing) -> Taken
 }
 
 // Whether a field begins at a spot.
+#[tactic(auto, unfolding(crate::specs::Fields::begins_field))]
 fn begins_field(p: Standing) -> bool
     ensures { result ≡ begins_field p }
 {
-    if p.quotes != 0 {
+    if p.quotes != Quotes::Unquoted {
         return false;
     }
-    if p.content != 0 {
+    if p.content != Content::Empty {
         return false;
     }
-    p.ended == 0
+    !p.ended
 }
 
 // The field that begins at i, where a field begins.
-fn next_field(s: &[u8], i: usize, sep: u8, p: Standing) -> Field
+#[tactic(auto, unfolding(crate::specs::Fields::next_field))]
+fn next_field(s: &[u8], i: usize, sep: u8, p: Standing) -> Option<Field>
     ensures { result ≡ next_field sep p s.now i }
 {
     if !begins_field(p) {
-        return no_field();
+        return None;
     }
     field_at(s, i, sep, p.column)
 }
@@ -635,13 +670,14 @@ fn take_next(s: &[u8], i: usize, sep: u8, p: Standing) -> Taken
     requires { (i < length s.now) × (is_separator sep ≡ true) }
     ensures { Stepped sep p s.now i result.step result.count }
 {
-    let field = next_field(s, i, sep, p);
-    let count = field.count;
-    if count == 0 {
+    let Some(field) = next_field(s, i, sep, p) else {
         return take_one(s, i, sep, p);
-    }
+    };
     let step = field_step(p.column, field.content);
-    Taken { step, count }
+    Taken {
+        step,
+        count: field.count,
+    }
 }
 
 // The sheet made into the form of the format, as much of it as the lent memory holds; the answer is how many bytes that is.
@@ -670,13 +706,14 @@ fn first_spot() -> Standing
 {
     Standing {
         column: 3,
-        quotes: 0,
-        content: 0,
-        ended: 0,
+        quotes: Quotes::Unquoted,
+        content: Content::Empty,
+        ended: false,
     }
 }
 
 // Whether a step makes this change.
+#[tactic(auto, unfolding(crate::specs::Clean::makes))]
 fn makes_change(kind: u8, s: Step) -> bool
     ensures { result ≡ makes kind s }
 {
@@ -693,6 +730,7 @@ fn makes_change(kind: u8, s: Step) -> bool
 }
 
 // A step noted.
+#[tactic(auto, unfolding(crate::specs::Clean::noted))]
 fn note(kind: u8, s: Step, line: usize, c: Tidied) -> Tidied
     requires { c.times < 18446744073709551615 }
     ensures value { result ≡ noted kind s line c }
@@ -711,6 +749,7 @@ fn note(kind: u8, s: Step, line: usize, c: Tidied) -> Tidied
 }
 
 // The line after a byte.
+#[tactic(auto, unfolding(crate::specs::Clean::line_after))]
 fn line_after(line: usize, b: u8) -> usize
     requires { line < 18446744073709551615 }
     ensures value { result ≡ line_after line b }

@@ -1,6 +1,6 @@
 -- For any arguments one answer and one content of what is lent meet the contract, and no other, in crate `lines`: by its equalities alone.
 -- Made by tools/surface from the source. Assumes nothing.
-use Rattle.std.specs.Prelude.{List, [], refl, ℕ, ◌∷◌, ◌≡◌}
+use Rattle.std.specs.Prelude.{List, Option, [], refl, ℕ, ◌∷◌, ◌≡◌}
 use Rattle.contracts.specs.LinesSays.{LinesEat, LinesEatText, LinesReadHead, LinesReadLine, LinesReadNumber}
 use Rattle.lines.specs.Content.{head_read, line_read, number_read}
 use Rattle.lines.specs.Match.{eaten}
@@ -40,8 +40,8 @@ lines_eat_text-one s at text = (
 
 -- lines::read_line
 pub lines_read_line-one : (s : List ℕ) (at : ℕ) (n : ℕ) (k : ℕ)
-    → (r : Line) × (LinesReadLine s at n k r)
-    × ((q : Line) → LinesReadLine s at n k q → (q ≡ r))
+    → (r : Option Line) × (LinesReadLine s at n k r)
+    × ((q : Option Line) → LinesReadLine s at n k q → (q ≡ r))
 lines_read_line-one s at n k = (
   line_read s at n k,
   record { answer = refl },

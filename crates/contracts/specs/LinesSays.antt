@@ -1,6 +1,6 @@
 -- The equalities that the contracts of crate `lines` state: r is the answer, and x' what a lent x holds afterwards.
 -- Made by tools/surface from the source.
-use Rattle.std.specs.Prelude.{List, [], ℕ, ◌∷◌, ◌≡◌}
+use Rattle.std.specs.Prelude.{List, Option, [], ℕ, ◌∷◌, ◌≡◌}
 use Rattle.lines.specs.Content.{head_read, line_read, number_read}
 use Rattle.lines.specs.Match.{eaten}
 use Rattle.lines.specs.declared.Head.{Head}
@@ -20,7 +20,7 @@ pub record LinesEatText (s : List ℕ) (at : ℕ) (text : List ℕ) (r : ℕ) : 
   pub answer : r ≡ eaten s at text
 
 -- lines::read_line
-pub record LinesReadLine (s : List ℕ) (at : ℕ) (n : ℕ) (k : ℕ) (r : Line) : Type 0 where
+pub record LinesReadLine (s : List ℕ) (at : ℕ) (n : ℕ) (k : ℕ) (r : Option Line) : Type 0 where
   pub answer : r ≡ line_read s at n k
 
 -- lines::read_head

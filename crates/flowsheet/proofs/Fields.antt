@@ -21,7 +21,8 @@ use Rattle.lines.proofs.Match.{eaten-append, lost}
 use Rattle.lines.proofs.Steps.{eaten-lost, eaten-there, eaten-not}
 use Rattle.flowlist.specs.declared.Flow.{Flow}
 use Rattle.flowsheet.specs.Format.{flow_line}
-use Rattle.flowsheet.specs.Read.{after, flow_in, flow_fits, flow_ok, field_read, no_flow, flow_read}
+use Rattle.std.specs.Prelude.{Some, None}
+use Rattle.flowsheet.specs.Read.{after, flow_in, flow_fits, flow_ok, field_read, flow_read}
 
 -- the reader part way through the line at `at`: whether the numbers so far fit, the text so far, what is left, and where the reader is
 record Way (s : List ℕ) (at : ℕ) (t : Bool) (w rest : List ℕ) (p : ℕ) : Type 0 where
@@ -242,11 +243,11 @@ module _ (s : List ℕ) (at : ℕ) (short : length s < nowhere) (p : Parts s at)
   end_is = last t₅ way₅.place ∙ ap₂ (λ (t : Bool) (w : List ℕ). pick t (eaten s at w) nowhere) fits-is line-is
 
   -- the line is not there
-  pub no_line-law : p.end ≡ nowhere → no_flow ≡ flow_read s at
+  pub no_line-law : p.end ≡ nowhere → None ≡ flow_read s at
   unfolding flow_read flow_ok
   no_line-law e = go (flow_fits f) refl (sym end_is ∙ e)
     where
-      go : (t : Bool) → flow_fits f ≡ t → pick t (eaten s at (flow_line f)) nowhere ≡ nowhere → no_flow ≡ flow_read s at
+      go : (t : Bool) → flow_fits f ≡ t → pick t (eaten s at (flow_line f)) nowhere ≡ nowhere → None ≡ flow_read s at
       go true fits q = rw (fits, eaten-not s at (flow_line f) short (line-some f) q)
       go false fits q = rw fits
 
@@ -277,11 +278,12 @@ module _ (s : List ℕ) (at : ℕ) (short : length s < nowhere) (p : Parts s at)
     unfolding flow_in
     said = rw (met₁.0, met₂.0, met₃.0, met₄.0, met₅.0)
 
-    pub line_read-law : record { flow = flow_of p; next = p.end } ≡ flow_read s at
+    pub line_read-law : Some (record { flow = flow_of p; next = p.end }) ≡ flow_read s at
     unfolding flow_read flow_ok
     line_read-law = go (flow_fits f) refl end_is
       where
-        go : (t : Bool) → flow_fits f ≡ t → p.end ≡ pick t (eaten s at (flow_line f)) nowhere → record { flow = flow_of p; next = p.end } ≡ flow_read s at
+        go : (t : Bool) → flow_fits f ≡ t → p.end ≡ pick t (eaten s at (flow_line f)) nowhere → Some (record { flow = flow_of p; next = p.end })
+            ≡ flow_read s at
         go true fits q =
             let h = eaten-there s at (flow_line f) (λ z. there (q ∙ z)) in
             rw (fits, h.0, said, q ∙ h.1)

@@ -8,15 +8,15 @@ use lib.ListN.{length, drop, length-drop}
 use lib.Seq.{drop-drop}
 use borrow.Author.Tests.{eq-eqb, ne_eqb}
 use Rattle.laws.specs.Choice.{pick}
-use Rattle.laws.proofs.Choice.{both, refute}
+use Rattle.laws.proofs.Choice.{refute}
 use Rattle.lines.specs.Format.{line_number}
-use Rattle.lines.specs.Match.{starts, nowhere, eaten}
-use Rattle.lines.proofs.Match.{starts-long}
+use Rattle.lines.specs.Match.{nowhere, eaten}
 use Rattle.lines.proofs.Steps.{eaten-there, eaten-not}
 use Rattle.flowlist.specs.List.{no_flows, with_flow}
 use Rattle.flowlist.specs.declared.FlowList.{FlowList}
+use Rattle.std.specs.Prelude.{Option, Some, None}
 use Rattle.flowsheet.specs.Format.{flow_head, flow_line}
-use Rattle.flowsheet.specs.Read.{flow_in, flow_fits, flow_ok, no_flow, flow_read, flows_done, bad_flows, too_many, at_end, flows_from, read_flows}
+use Rattle.flowsheet.specs.Read.{flow_in, flow_ok, flow_read, flows_done, bad_flows, too_many, at_end, flows_from, read_flows}
 use Rattle.flowsheet.specs.declared.FlowRead.{FlowRead}
 
 -- no flow is read yet
@@ -45,34 +45,37 @@ module _ (s : List ℕ) (p : ℕ) where
   unfolding flows_from
   full h m l e = rw (e, some_left h)
 
-  module _ (short : length s < nowhere) (some : p < length s) (n : FlowRead) (read : n ≡ flow_read s p) (m : ℕ) (l : FlowList) where
-    told : (t : Bool) → flow_ok (drop p s) ≡ t → n ≡ pick t (record { flow = flow_in (drop p s); next = p + length (flow_line (flow_in (drop p s))) }) no_flow
+  module _ (some : p < length s) (n : Option FlowRead) (read : n ≡ flow_read s p) (m : ℕ) (l : FlowList) where
+    told : (t : Bool) → flow_ok (drop p s) ≡ t
+        → n ≡ pick t (Some (record { flow = flow_in (drop p s); next = p + length (flow_line (flow_in (drop p s))) })) None
     unfolding flow_read
     told t e = rw (read, e)
 
-    -- a line that is not of the format
-    bad : n.next ≡ nowhere → flow_ok (drop p s) ≡ false
-    unfolding flow_ok
-    bad h =
-        refute _
-        (λ t.
-        let b : length (flow_line (flow_in (drop p s))) ≤ length (drop p s) = starts-long _ _
-        (both (flow_fits (flow_in (drop p s))) (starts (flow_line (flow_in (drop p s))) (drop p s)) t).1 in
-        let z : p + length (flow_line (flow_in (drop p s))) ≡ nowhere = sym (ap (λ (x : FlowRead). x.next) (told true t)) ∙ h in
-        omega (arith, b, z, length-drop p s))
+    none_some : {x : FlowRead} → None ≡ Some x → ⊥
+    none_some h = cc
 
-    pub stopped : n.next ≡ nowhere → bad_flows (line_number l.count) ≡ flows_from (suc m) l (drop p s)
+    some_is : {x y : FlowRead} → Some x ≡ Some y → x ≡ y
+    some_is h = cc
+
+    -- a line that is not of the format
+    bad : n ≡ None → flow_ok (drop p s) ≡ false
+    bad h = refute _ (λ t. none_some (sym h ∙ told true t))
+
+    pub stopped : n ≡ None → bad_flows (line_number l.count) ≡ flows_from (suc m) l (drop p s)
     unfolding flows_from
     stopped h = rw (some_left some, bad h)
 
     -- one that is
-    pub passed : (n.next ≡ nowhere → ⊥) → (l' : FlowList) → l' ≡ with_flow l n.flow → flows_from m l' (drop n.next s) ≡ flows_from (suc m) l (drop p s)
+    pub passed : (x : FlowRead) → n ≡ Some x → (l' : FlowList) → l' ≡ with_flow l x.flow
+        → flows_from m l' (drop x.next s) ≡ flows_from (suc m) l (drop p s)
     unfolding flows_from
-    passed h l' more = ap (λ (x : FlowList). flows_from m x (drop n.next s)) more ∙ go (flow_ok (drop p s)) refl
+    passed x h l' more = ap (λ (y : FlowList). flows_from m y (drop x.next s)) more ∙ go (flow_ok (drop p s)) refl
       where
-        go : (t : Bool) → flow_ok (drop p s) ≡ t → flows_from m (with_flow l n.flow) (drop n.next s) ≡ flows_from (suc m) l (drop p s)
-        go true e = rw (some_left some, e, told true e, drop-drop (length (flow_line (flow_in (drop p s)))) p s)
-        go false e = absurd (h (ap (λ (x : FlowRead). x.next) (told false e)))
+        go : (t : Bool) → flow_ok (drop p s) ≡ t → flows_from m (with_flow l x.flow) (drop x.next s) ≡ flows_from (suc m) l (drop p s)
+        go true e =
+            let q : x ≡ record { flow = flow_in (drop p s); next = p + length (flow_line (flow_in (drop p s))) } = some_is (sym h ∙ told true e) in
+            rw (some_left some, e, q, drop-drop (length (flow_line (flow_in (drop p s)))) p s)
+        go false e = absurd (none_some (sym (told false e) ∙ h))
 
 -- ---- the first line
 

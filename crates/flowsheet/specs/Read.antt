@@ -1,14 +1,14 @@
 -- What reading a sheet of flows answers. What a line says is taken from any bytes at all;
 -- it is a line of the format where the bytes start with the line that this content gives.
 -- r is the input from where the line begins.
-use Rattle.std.specs.Prelude.{ℕ, zero, suc, ◌+◌, Bool, ◌&&◌, List, [], ◌∷◌, leb, eqb, length, drop, Ok, Err}
+use Rattle.std.specs.Prelude.{ℕ, zero, suc, ◌+◌, Bool, ◌&&◌, List, [], ◌∷◌, leb, eqb, length, drop, Option, Some, None, Ok, Err}
 use Rattle.laws.specs.Choice.{pick}
 use Rattle.text.specs.Decimal.{decimal}
-use Rattle.lines.specs.Match.{starts, nowhere, eaten}
+use Rattle.lines.specs.Match.{starts, eaten}
 use Rattle.lines.specs.Content.{scanned, number_read}
 use Rattle.lines.specs.Format.{line_number}
 use Rattle.lines.specs.declared.Number.{Number}
-use Rattle.flowlist.specs.List.{zero_flow, no_flows, with_flow}
+use Rattle.flowlist.specs.List.{no_flows, with_flow}
 use Rattle.flowlist.specs.declared.Flow.{Flow}
 use Rattle.flowlist.specs.declared.FlowList.{FlowList}
 use Rattle.flowsheet.specs.Format.{flow_head, flow_line}
@@ -43,15 +43,12 @@ flow_ok r = flow_fits (flow_in r) && starts (flow_line (flow_in r)) r
 unfoldable pub field_read : List ℕ → ℕ → ℕ → Number
 field_read s at b = record { value = (number_read s at 65535).value; next = eaten s (number_read s at 65535).next (b ∷ []) }
 
-abbrev pub no_flow : FlowRead
-no_flow = record { flow = zero_flow; next = nowhere }
-
 -- a line read at `at`: its content and the place after it
-unfoldable pub flow_read : List ℕ → ℕ → FlowRead
+unfoldable pub flow_read : List ℕ → ℕ → Option FlowRead
 flow_read s at =
     pick (flow_ok (drop at s))
-    (record { flow = flow_in (drop at s); next = at + length (flow_line (flow_in (drop at s))) })
-    no_flow
+    (Some (record { flow = flow_in (drop at s); next = at + length (flow_line (flow_in (drop at s))) }))
+    None
 
 -- ---- the sheet. A refusal has no flows beside it
 

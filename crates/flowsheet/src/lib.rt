@@ -3,7 +3,7 @@
 
 ghost use Rattle.std.specs.Prelude.{◌≡◌, ◌≤◌, drop};
 ghost use Rattle.flowlist.specs.List.{no_flows};
-ghost use Rattle.flowsheet.specs.Read.{field_read, no_flow, flow_read, bad_flows, too_many, flows_from, read_flows};
+ghost use Rattle.flowsheet.specs.Read.{field_read, flow_read, bad_flows, too_many, flows_from, read_flows};
 
 use flowlist::{Flow, FlowList, empty, push};
 use lines::{NOWHERE, Number, eat, eat_text, read_number};
@@ -22,7 +22,7 @@ pub struct FlowsRead {
     pub answer: Result<(), FlowsError>,
 }
 
-// What a line of a flow says, and the place after it; NOWHERE where it is not of the format.
+// What a line of a flow says, and the place after it.
 #[derive(Clone, Copy)]
 struct FlowRead {
     pub flow: Flow,
@@ -41,25 +41,8 @@ fn read_field(s: &[u8], at: usize, after: u8) -> Number
     }
 }
 
-// No line.
-fn no_flow() -> FlowRead
-    ensures { result ≡ no_flow }
-{
-    let flow = Flow {
-        cell: 0,
-        burst: 0,
-        period: 0,
-        repeats: 0,
-        value: 0,
-    };
-    FlowRead {
-        flow,
-        next: NOWHERE,
-    }
-}
-
 // The line of a flow.
-fn read_flow(s: &[u8], at: usize) -> FlowRead
+fn read_flow(s: &[u8], at: usize) -> Option<FlowRead>
     ensures { result ≡ flow_read s.now at }
 {
     let cell = read_field(s, at, 44);
@@ -69,7 +52,7 @@ fn read_flow(s: &[u8], at: usize) -> FlowRead
     let value = read_field(s, repeats.next, 13);
     let end = eat(s, value.next, 10);
     if end == NOWHERE {
-        return no_flow();
+        return None;
     }
     let flow = Flow {
         cell: cell.value as u16,
@@ -78,7 +61,7 @@ fn read_flow(s: &[u8], at: usize) -> FlowRead
         repeats: repeats.value as u16,
         value: value.value as u16,
     };
-    FlowRead { flow, next: end }
+    Some(FlowRead { flow, next: end })
 }
 
 // A malformed sheet.
@@ -112,13 +95,11 @@ fn read_lines(s: &[u8], at: usize) -> FlowsRead
         if 16 <= l.count {
             return too_many();
         }
-        let line = read_flow(s, p);
-        let next = line.next;
-        if next == NOWHERE {
+        let Some(line) = read_flow(s, p) else {
             return bad_at(l.count + 2);
-        }
+        };
         l = push(l, line.flow);
-        p = next;
+        p = line.next;
     }
     FlowsRead {
         flows: l,

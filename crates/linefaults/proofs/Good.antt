@@ -16,7 +16,9 @@ use Rattle.text.specs.Decimal.{decimal}
 use Rattle.text.proofs.Digits.{decimal-one, decimal-more}
 use Rattle.lines.specs.Format.{cell_load, cell_number, column, columns, header, marks, label, cell_line}
 use Rattle.linefaults.specs.declared.Field.{Field}
-use Rattle.linefaults.specs.Fault.{untold, first_field, number_after, seen_after, field_after, is_word, is_mark, odd_byte}
+use Rattle.linefaults.specs.declared.Seen.{Seen}
+use Rattle.linefaults.specs.declared.Seen.TheVariants.{Nothing, One, More}
+use Rattle.linefaults.specs.Fault.{untold, first_field, number_after, seen_after, field_after, is_nothing, seen_one, is_word, is_mark, odd_byte}
 use Rattle.linefaults.specs.Fault.{empty_at, comma_at, cr_at, lf_at, mark_fault}
 use Rattle.linefaults.specs.Fault.{is_zero, number_at, content_at, fault_at, fault_from, after_lines}
 
@@ -53,24 +55,23 @@ still-passed (more b q n e t) k r = rw n (still-passed t k r)
 
 -- ---- numbers
 
-abbrev place : (c s v l : ℕ) → Field
+abbrev place : (c : ℕ) (s : Seen) (v l : ℕ) → Field
 place c s v l = record { column = c; seen = s; value = v; last = l }
 
 -- the field after the number v
 abbrev behind : ℕ → ℕ → Field
-behind c v = place c (pick (ltb v 10) 1 2) v (48 + v % 10)
+behind c v = place c (pick (ltb v 10) One More) v (48 + v % 10)
 
-seen-two : (t : Bool) → seen_after (pick t 1 2) ≡ 2
-unfolding seen_after
+seen-two : (t : Bool) → seen_after (pick t One More) ≡ More
 seen-two true = refl
 seen-two false = refl
 
-seen-some : (t : Bool) → eqb (pick t 1 2) 0 ≡ false
+seen-some : (t : Bool) → is_nothing (pick t One More) ≡ false
 seen-some true = refl
 seen-some false = refl
 
 module _ (fields c : ℕ) (no_word : (eqb fields 0 && leb c 2) ≡ false) (no-mark : (not (eqb fields 0) && leb 3 c) ≡ false) where
-  digit-told : (s v l d at : ℕ) → eqb l 13 ≡ false → (eqb s 1 && eqb v 0) ≡ false → d < 10 → v ≤ 6553 → 10 * v + d ≤ 65535
+  digit-told : (s : Seen) (v l d at : ℕ) → eqb l 13 ≡ false → (seen_one s && eqb v 0) ≡ false → d < 10 → v ≤ 6553 → 10 * v + d ≤ 65535
       → fault_at fields at (place c s v l) (48 + d) ≡ untold
   unfolding fault_at content_at odd_byte is_word is_mark number_at is_zero number_after
   digit-told s v l d at e z h few most =
@@ -92,27 +93,26 @@ module _ (fields c : ℕ) (no_word : (eqb fields 0 && leb c 2) ≡ false) (no-ma
         le-ltb 65535 (10 * v + (48 + d - 48)) (omega arith),
       )
 
-  digit-after : (s v l d : ℕ) → d < 10 → v ≤ 6553 → field_after (place c s v l) (48 + d) ≡ place c (seen_after s) (10 * v + d) (48 + d)
+  digit-after : (s : Seen) (v l d : ℕ) → d < 10 → v ≤ 6553 → field_after (place c s v l) (48 + d) ≡ place c (seen_after s) (10 * v + d) (48 + d)
   unfolding field_after number_after
   digit-after s v l d h few =
       let e : 48 + d - 48 ≡ d = omega arith in
       rw (ne_eqb (48 + d) 44 (λ q. omega arith), le-leb v 6553 few, e)
 
-  one : (w l : ℕ) → w < 10 → eqb l 13 ≡ false → Still fields (place c 0 0 l) (decimal w) (behind c w)
-  unfolding seen_after
+  one : (w l : ℕ) → w < 10 → eqb l 13 ≡ false → Still fields (place c Nothing 0 l) (decimal w) (behind c w)
   one w l h q =
       let i : 10 * 0 + w ≡ w = omega arith in
       let j : w % 10 ≡ w = omega arith in
       rw (decimal-one w h, lt-ltb w 10 h, j)
-      (more (48 + w) (λ at. digit-told 0 0 l w at q refl h (omega arith) (omega arith)) (ne_eqb (48 + w) 10 (λ z. omega arith))
-      (digit-after 0 0 l w h (omega arith) ∙ ap (λ (x : ℕ). place c 1 x (48 + w)) i) none)
+      (more (48 + w) (λ at. digit-told Nothing 0 l w at q refl h (omega arith) (omega arith)) (ne_eqb (48 + w) 10 (λ z. omega arith))
+      (digit-after Nothing 0 l w h (omega arith) ∙ ap (λ (x : ℕ). place c One x (48 + w)) i) none)
 
-  last-digit : (w l : ℕ) → 10 ≤ w → w ≤ 65535 → Still fields (place c 0 0 l) (decimal (w / 10)) (behind c (w / 10))
-      → Still fields (place c 0 0 l) (decimal w) (behind c w)
+  last-digit : (w l : ℕ) → 10 ≤ w → w ≤ 65535 → Still fields (place c Nothing 0 l) (decimal (w / 10)) (behind c (w / 10))
+      → Still fields (place c Nothing 0 l) (decimal w) (behind c w)
   last-digit w l h few t =
-      let s : ℕ = pick (ltb (w / 10) 10) 1 2 in
+      let s : Seen = pick (ltb (w / 10) 10) One More in
       let k : ℕ = 48 + w / 10 % 10 in
-      let z : (eqb s 1 && eqb (w / 10) 0) ≡ false = ap (λ (u : Bool). eqb s 1 && u) (ne_eqb (w / 10) 0 (λ q. omega arith)) ∙ and-false (eqb s 1) in
+      let z : (seen_one s && eqb (w / 10) 0) ≡ false = ap (λ (u : Bool). seen_one s && u) (ne_eqb (w / 10) 0 (λ q. omega arith)) ∙ and-false (seen_one s) in
       let i : 10 * (w / 10) + w % 10 ≡ w = omega arith in
       rw (decimal-more w h, le-ltb w 10 h)
       (still_both t
@@ -120,25 +120,26 @@ module _ (fields c : ℕ) (no_word : (eqb fields 0 && leb c 2) ≡ false) (no-ma
       (λ at. digit-told s (w / 10) k (w % 10) at (ne_eqb k 13 (λ q. omega arith)) z (omega arith) (omega arith) (omega arith))
       (ne_eqb (48 + w % 10) 10 (λ q. omega arith))
       (digit-after s (w / 10) k (w % 10) (omega arith) (omega arith)
-      ∙ ap (λ (x : ℕ). place c x (10 * (w / 10) + w % 10) (48 + w % 10)) (seen-two (ltb (w / 10) 10))
-      ∙ ap (λ (x : ℕ). place c 2 x (48 + w % 10)) i)
+      ∙ ap (λ (x : Seen). place c x (10 * (w / 10) + w % 10) (48 + w % 10)) (seen-two (ltb (w / 10) 10))
+      ∙ ap (λ (x : ℕ). place c More x (48 + w % 10)) i)
       none))
 
-  numbers : (n v l : ℕ) → v ≤ n → v ≤ 65535 → eqb l 13 ≡ false → Still fields (place c 0 0 l) (decimal v) (behind c v)
+  numbers : (n v l : ℕ) → v ≤ n → v ≤ 65535 → eqb l 13 ≡ false → Still fields (place c Nothing 0 l) (decimal v) (behind c v)
   numbers zero v l m few e = one v l (omega arith) e
   numbers (suc n) v l m few e = go (dec_lt v 10) (λ q. numbers n (v / 10) l (omega arith) (omega arith) e)
     where
-      go : Dec (v < 10) → (10 ≤ v → Still fields (place c 0 0 l) (decimal (v / 10)) (behind c (v / 10))) → Still fields (place c 0 0 l) (decimal v) (behind c v)
+      go : Dec (v < 10) → (10 ≤ v → Still fields (place c Nothing 0 l) (decimal (v / 10)) (behind c (v / 10))) → Still fields (place c Nothing 0 l) (decimal v)
+          (behind c v)
       go (yes h) t = one v l h e
       go (no h) t = last-digit v l (omega arith) few (t (omega arith))
 
-  number : (v l : ℕ) → v ≤ 65535 → eqb l 13 ≡ false → Still fields (place c 0 0 l) (decimal v) (behind c v)
+  number : (v l : ℕ) → v ≤ 65535 → eqb l 13 ≡ false → Still fields (place c Nothing 0 l) (decimal v) (behind c v)
   number v l few e = numbers v v l (omega arith) few e
 
 -- ---- commas, marks and the end
 
-module _ (fields c s v l : ℕ) (no-cr : eqb l 13 ≡ false) (some : eqb s 0 ≡ false) where
-  comma : eqb c fields ≡ false → Still fields (place c s v l) (44 ∷ []) (place (c + 1) 0 0 44)
+module _ (fields c : ℕ) (s : Seen) (v l : ℕ) (no-cr : eqb l 13 ≡ false) (some : is_nothing s ≡ false) where
+  comma : eqb c fields ≡ false → Still fields (place c s v l) (44 ∷ []) (place (c + 1) Nothing 0 44)
   unfolding fault_at comma_at empty_at field_after
   comma h = more {f = place c s v l} 44 (λ at. rw (no-cr, h, some)) refl refl none
 
@@ -146,23 +147,24 @@ module _ (fields c s v l : ℕ) (no-cr : eqb l 13 ≡ false) (some : eqb s 0 ≡
   unfolding fault_at cr_at empty_at field_after
   cr h = more {f = place c s v l} 13 (λ at. rw (no-cr, h, some)) refl refl none
 
-mark : (fields c x : ℕ) → eqb fields 0 ≡ false → 3 ≤ c → x < 2 → Still fields (place c 0 0 44) ((48 + x) ∷ []) (place c 1 x (48 + x))
-unfolding fault_at content_at odd_byte is_word is_mark mark_fault field_after seen_after number_after
-mark fields c zero h l m = more {f = place c 0 0 44} 48 (λ at. rw (h, le-leb 3 c l)) refl refl none
-mark fields c (suc zero) h l m = more {f = place c 0 0 44} 49 (λ at. rw (h, le-leb 3 c l)) refl refl none
+mark : (fields c x : ℕ) → eqb fields 0 ≡ false → 3 ≤ c → x < 2 → Still fields (place c Nothing 0 44) ((48 + x) ∷ []) (place c One x (48 + x))
+unfolding fault_at content_at odd_byte is_word is_mark mark_fault field_after number_after
+mark fields c zero h l m = more {f = place c Nothing 0 44} 48 (λ at. rw (h, le-leb 3 c l)) refl refl none
+mark fields c (suc zero) h l m = more {f = place c Nothing 0 44} 49 (λ at. rw (h, le-leb 3 c l)) refl refl none
 mark fields c (suc (suc x)) h l m = absurd (omega arith)
 
 -- a field that something stands in, and no CR is the last
 abbrev Closed : ℕ → ℕ → List ℕ → Field → Type 0
 Closed fields c l f =
-    (s : ℕ) × (v : ℕ) × (b : ℕ) × (eqb b 13 ≡ false) × (eqb s 0 ≡ false) × Still fields f l (place c s v b)
+    (s : Seen) × (v : ℕ) × (b : ℕ) × (eqb b 13 ≡ false) × (is_nothing s ≡ false) × Still fields f l (place c s v b)
 
 module _ (f : ℕ → ℕ) (two : (b : ℕ) → f b < 2) (fields : ℕ) (some : eqb fields 0 ≡ false) where
-  all-marks : (n b c s v l : ℕ) → eqb l 13 ≡ false → eqb s 0 ≡ false → 2 ≤ c → c + n ≤ fields → Closed fields (c + n) (marks f b n) (place c s v l)
+  all-marks : (n b c : ℕ) (s : Seen) (v l : ℕ) → eqb l 13 ≡ false → is_nothing s ≡ false → 2 ≤ c → c + n ≤ fields → Closed fields (c + n) (marks f b n)
+      (place c s v l)
   unfolding marks
   all-marks zero b c s v l e h two_at room = (s, v, l, e, h, rw (add-zero c) none)
   all-marks (suc n) b c s v l e h two_at room =
-      let w = all-marks n (suc b) (c + 1) 1 (f b) (48 + f b) (ne_eqb (48 + f b) 13 (λ q. omega arith)) refl (omega arith) (omega arith) in
+      let w = all-marks n (suc b) (c + 1) One (f b) (48 + f b) (ne_eqb (48 + f b) 13 (λ q. omega arith)) refl (omega arith) (omega arith) in
       let i : c + 1 + n ≡ c + suc n = omega arith in (
         w.0,
         w.1,
@@ -209,11 +211,12 @@ module _ (n k load : ℕ) (f : ℕ → ℕ) (two : (b : ℕ) → f b < 2) (few :
       let m : eqb (n + 2) 0 ≡ false = ne_eqb (n + 2) 0 (λ q. omega arith) in
       let a = number (n + 2) 1 (ap (λ (t : Bool). t && leb 1 2) m) (ap (λ (t : Bool). not t && leb 3 1) m) (cell_number k) 0 (omega arith) refl in
       let b =
-      comma (n + 2) 1 (pick (ltb (cell_number k) 10) 1 2) (cell_number k) (48 + cell_number k % 10) (ne_eqb (48 + cell_number k % 10) 13 (λ q. omega arith))
+      comma (n + 2) 1 (pick (ltb (cell_number k) 10) One More) (cell_number k) (48 + cell_number k % 10)
+      (ne_eqb (48 + cell_number k % 10) 13 (λ q. omega arith))
       (seen-some (ltb (cell_number k) 10)) (ne_eqb 1 (n + 2) (λ q. omega arith)) in
       let d = number (n + 2) 2 (ap (λ (t : Bool). t && leb 2 2) m) (ap (λ (t : Bool). not t && leb 3 2) m) load 44 most refl in
       let w =
-      all-marks f two (n + 2) m n 0 2 (pick (ltb load 10) 1 2) load (48 + load % 10) (ne_eqb (48 + load % 10) 13 (λ q. omega arith))
+      all-marks f two (n + 2) m n 0 2 (pick (ltb load 10) One More) load (48 + load % 10) (ne_eqb (48 + load % 10) 13 (λ q. omega arith))
       (seen-some (ltb load 10)) (omega arith) (omega arith) in
       (w.0, w.1, w.2, w.3, w.4, still_both (still_both a b) (still_both d w.5))
 
@@ -225,8 +228,8 @@ module _ (n k load : ℕ) (f : ℕ → ℕ) (two : (b : ℕ) → f b < 2) (few :
   cell-passed j r =
       ap (after_lines (suc j)) (cell-whole r) ∙ closed-passed (n + 2) (2 + n) cell_bytes r (le-ltb (2 + n) (n + 2) (omega arith)) cell-closed j
 
-words : Still 0 first_field cell_load (place 2 2 65536 100)
-unfolding fault_at content_at odd_byte is_word comma_at empty_at field_after seen_after number_after
+words : Still 0 first_field cell_load (place 2 More 65536 100)
+unfolding fault_at content_at odd_byte is_word comma_at empty_at field_after number_after
 words =
     more 99 (λ at. refl) refl refl
     (more 101 (λ at. refl) refl refl
@@ -236,7 +239,7 @@ words =
     (more 108 (λ at. refl) refl refl
     (more 111 (λ at. refl) refl refl (more 97 (λ at. refl) refl refl (more 100 (λ at. refl) refl refl none))))))))
 
-head-columns : (n k c s v l : ℕ) → eqb l 13 ≡ false → eqb s 0 ≡ false → 2 ≤ c → k + n ≤ 99 → Closed 0 (c + n) (columns k n) (place c s v l)
+head-columns : (n k c : ℕ) (s : Seen) (v l : ℕ) → eqb l 13 ≡ false → is_nothing s ≡ false → 2 ≤ c → k + n ≤ 99 → Closed 0 (c + n) (columns k n) (place c s v l)
 unfolding columns column
 head-columns zero k c s v l e h two_at few = (s, v, l, e, h, rw (add-zero c) none)
 head-columns (suc n) k c s v l e h two_at few =
@@ -244,7 +247,7 @@ head-columns (suc n) k c s v l e h two_at few =
     let a = comma 0 c s v l e h (ne_eqb c 0 (λ q. omega arith)) in
     let b = number 0 (c + 1) (lt-leb (c + 1) 2 (omega arith)) refl x 44 (omega arith) refl in
     let w =
-    head-columns n (suc k) (c + 1) (pick (ltb x 10) 1 2) x (48 + x % 10) (ne_eqb (48 + x % 10) 13 (λ q. omega arith)) (seen-some (ltb x 10)) (omega arith)
+    head-columns n (suc k) (c + 1) (pick (ltb x 10) One More) x (48 + x % 10) (ne_eqb (48 + x % 10) 13 (λ q. omega arith)) (seen-some (ltb x 10)) (omega arith)
     (omega arith) in
     let i : c + 1 + n ≡ c + suc n = omega arith in
     (w.0, w.1, w.2, w.3, w.4, still_both (still_both a b) (rw (← i) w.5))
@@ -256,7 +259,7 @@ head-whole n r = simp append_assoc
 module _ (n : ℕ) (few : n ≤ 32) where
   head-closed : Closed 0 (2 + n) (cell_load ++ columns 0 n) first_field
   head-closed =
-      let w = head-columns n 0 2 2 65536 100 refl refl (omega arith) (omega arith) in
+      let w = head-columns n 0 2 More 65536 100 refl refl (omega arith) (omega arith) in
       (w.0, w.1, w.2, w.3, w.4, still_both words w.5)
 
   pub good-head : (r : List ℕ) → fault_from 0 1 first_field (header n ++ r) ≡ untold

@@ -1,7 +1,7 @@
 -- A line is found and looked at a byte at a time. Assumes nothing.
 use Prim.Native.Nat.{ℕ, suc, ◌+◌, ◌-◌, ◌≤◌, ◌<◌}
 use mathlib.Core.Path.{◌≡◌, refl, sym, ap, ◌∙◌}
-use mathlib.Core.Bool.{Bool, true, false}
+use mathlib.Core.Bool.{Bool, true, false, true≢false}
 use mathlib.Core.List.{List, [], ◌∷◌}
 use native.Mathlib.Omega.{arith}
 use lib.Dec.{eqb}
@@ -16,6 +16,8 @@ use Rattle.lines.specs.declared.Head.{Head}
 use Rattle.lines.proofs.Heads.{cells-few}
 use Rattle.cleaning.specs.Clean.{order_mark}
 use Rattle.linefaults.specs.declared.Field.{Field}
+use Rattle.std.specs.Prelude.{Option, Some, None}
+use Rattle.std.specs.Option.{option_or, is_some}
 use Rattle.linefaults.specs.declared.LineFault.{LineFault}
 use Rattle.linefaults.specs.Fault.{untold, after_lines, field_after, fault_at, end_fault, fault_from}
 
@@ -55,28 +57,34 @@ module _ (s : List ℕ) (i : ℕ) (h : i < length s) where
 -- ---- looked at
 
 module _ (s : List ℕ) (fields at : ℕ) (f : Field) (i : ℕ) where
-  pub look-end : length s ≤ i → end_fault at ≡ fault_from fields at f (drop i s)
+  pub look-end : length s ≤ i → Some (end_fault at) ≡ fault_from fields at f (drop i s)
   unfolding fault_from
   look-end h = rw (none_left s i h)
 
-  module _ (h : i < length s) (x : LineFault) (e : x ≡ fault_at fields at f (get_or s i 0)) where
-    pub look-told : (x.reason ≡ 0 → ⊥) → x ≡ fault_from fields at f (drop i s)
+  module _ (h : i < length s) (o : Option LineFault) (e : o ≡ fault_at fields at f (get_or s i 0)) where
+    pub look-told : is_some o ≡ true → o ≡ fault_from fields at f (drop i s)
     unfolding fault_from
-    look-told n =
-        let q : eqb (fault_at fields at f (get_or s i 0)).reason 0 ≡ false = ap (λ (y : LineFault). eqb y.reason 0) (sym e) ∙ ne_eqb _ _ n in
-        rw (next-left s i h, q) e
+    look-told t = rw (next-left s i h, ← e) (told _ o t)
+      where
+        told : (p q : Option LineFault) → is_some q ≡ true → q ≡ option_or q p
+        told p None t = absurd (true≢false (sym t))
+        told p (Some x) t = refl
 
-    fine : x.reason ≡ 0 → eqb (fault_at fields at f (get_or s i 0)).reason 0 ≡ true
-    fine z = ap (λ (y : LineFault). eqb y.reason 0) (sym e) ∙ eq-eqb _ _ z
+    none : is_some o ≡ false → fault_at fields at f (get_or s i 0) ≡ None
+    none t = sym e ∙ by o t
+      where
+        by : (q : Option LineFault) → is_some q ≡ false → q ≡ None
+        by None t = refl
+        by (Some x) t = absurd (true≢false t)
 
-    pub look-done : x.reason ≡ 0 → get_or s i 0 ≡ 10 → untold ≡ fault_from fields at f (drop i s)
+    pub look-done : is_some o ≡ false → get_or s i 0 ≡ 10 → untold ≡ fault_from fields at f (drop i s)
     unfolding fault_from
-    look-done z l = rw (next-left s i h, fine z, eq-eqb _ _ l)
+    look-done z l = rw (next-left s i h, none z, eq-eqb _ _ l)
 
-    pub look-on : x.reason ≡ 0 → (get_or s i 0 ≡ 10 → ⊥) → (g : Field) → g ≡ field_after f (get_or s i 0)
+    pub look-on : is_some o ≡ false → (get_or s i 0 ≡ 10 → ⊥) → (g : Field) → g ≡ field_after f (get_or s i 0)
         → fault_from fields (at + 1) g (drop (i + 1) s) ≡ fault_from fields at f (drop i s)
     unfolding fault_from
-    look-on z n g w = rw (next-left s i h, fine z, ne_eqb _ _ n, w)
+    look-on z n g w = rw (next-left s i h, none z, ne_eqb _ _ n, w)
 
 -- ---- the mark of the byte order
 

@@ -2,11 +2,14 @@
 use Rattle.std.specs.Prelude.{ℕ, ◌+◌, ◌-◌, ◌≤◌, ◌<◌, ◌≡◌, Bool, true, not, ◌&&◌, List, [], ◌∷◌, ◌++◌, ◌⊎◌, eqb, length}
 use Rattle.laws.specs.Sum.{bit}
 use Rattle.linefaults.specs.declared.Field.{Field}
+use Rattle.linefaults.specs.declared.Seen.TheVariants.{Nothing, One}
 use Rattle.linefaults.specs.declared.LineFault.{LineFault}
+use Rattle.linefaults.specs.declared.LineFault.TheVariants.{Extra, OrderMark, Semicolon, Tab, Quote, Blank, FeedAlone}
+use Rattle.linefaults.specs.declared.LineFault.TheVariants.{LeadingZero, OverLarge, NoNumber, NoMark, FewFields, ManyFields, LoneCr}
 use Rattle.lines.specs.Match.{starts}
 use Rattle.lines.specs.Content.{head_read}
 use Rattle.cleaning.specs.Clean.{order_mark}
-use Rattle.linefaults.specs.Fault.{reason_at, first_field, number_after, field_after, is_mark, after_lines, end_fault}
+use Rattle.linefaults.specs.Fault.{first_field, number_after, field_after, is_mark, after_lines, end_fault}
 
 -- ---- the bytes before
 
@@ -32,28 +35,27 @@ walked f (b ∷ l) = walked (field_after f b) l
 -- ---- the reasons that a byte gives, at its field f; the byte is the character `at` of the line, and `fields` is how many the line has to have
 
 pub data Because (fields at : ℕ) (f : Field) (b : ℕ) : LineFault → Type 0 where
-  nothing_told : Because fields at f b (reason_at 0 0)
-  semicolon_there : b ≡ 59 → Because fields at f b (reason_at 4 at)
-  tab_there : b ≡ 9 → Because fields at f b (reason_at 5 at)
-  quote_there : b ≡ 34 → Because fields at f b (reason_at 6 at)
-  blank_there : b ≡ 32 → Because fields at f b (reason_at 7 at)
+  semicolon_there : b ≡ 59 → Because fields at f b (Semicolon at)
+  tab_there : b ≡ 9 → Because fields at f b (Tab at)
+  quote_there : b ≡ 34 → Because fields at f b (Quote at)
+  blank_there : b ≡ 32 → Because fields at f b (Blank at)
   -- "the line ends in LF alone": the byte before is no CR
-  feed_there : b ≡ 10 → (f.last ≡ 13 → ⊥) → Because fields at f b (reason_at 8 0)
+  feed_there : b ≡ 10 → (f.last ≡ 13 → ⊥) → Because fields at f b FeedAlone
   -- one more digit after a number that is 0
-  zero_there : 48 ≤ b → b ≤ 57 → f.seen ≡ 1 → f.value ≡ 0 → Because fields at f b (reason_at 10 f.column)
-  large_there : 48 ≤ b → b ≤ 57 → 65535 < number_after f.value b → Because fields at f b (reason_at 11 f.column)
+  zero_there : 48 ≤ b → b ≤ 57 → f.seen ≡ One → f.value ≡ 0 → Because fields at f b (LeadingZero f.column)
+  large_there : 48 ≤ b → b ≤ 57 → 65535 < number_after f.value b → Because fields at f b (OverLarge f.column)
   -- a number ends with nothing in it, or has a byte that is no digit
-  number_empty : (b ≡ 44) ⊎ (b ≡ 13) → f.seen ≡ 0 → Because fields at f b (reason_at 12 f.column)
-  digit_not : (b < 48) ⊎ (57 < b) → Because fields at f b (reason_at 12 f.column)
+  number_empty : (b ≡ 44) ⊎ (b ≡ 13) → f.seen ≡ Nothing → Because fields at f b (NoNumber f.column)
+  digit_not : (b < 48) ⊎ (57 < b) → Because fields at f b (NoNumber f.column)
   -- a mark ends with nothing in it, or has a byte that is neither 0 nor 1, or a second one
-  mark_empty : (b ≡ 44) ⊎ (b ≡ 13) → is_mark fields f ≡ true → f.seen ≡ 0 → Because fields at f b (reason_at 13 f.column)
-  mark_not : is_mark fields f ≡ true → (f.seen ≡ 0 → (b ≡ 48 → ⊥) × (b ≡ 49 → ⊥)) → Because fields at f b (reason_at 13 f.column)
+  mark_empty : (b ≡ 44) ⊎ (b ≡ 13) → is_mark fields f ≡ true → f.seen ≡ Nothing → Because fields at f b (NoMark f.column)
+  mark_not : is_mark fields f ≡ true → (f.seen ≡ Nothing → (b ≡ 48 → ⊥) × (b ≡ 49 → ⊥)) → Because fields at f b (NoMark f.column)
   -- "too few": the line ends in a column before the last
-  fields_few : b ≡ 13 → f.column < fields → Because fields at f b (reason_at 14 f.column)
+  fields_few : b ≡ 13 → f.column < fields → Because fields at f b (FewFields f.column)
   -- "too many": a comma after the last column
-  fields_many : b ≡ 44 → f.column ≡ fields → Because fields at f b (reason_at 15 (f.column + 1))
+  fields_many : b ≡ 44 → f.column ≡ fields → Because fields at f b (ManyFields (f.column + 1))
   -- the byte before is a CR, and this is no LF
-  lone_there : f.last ≡ 13 → (b ≡ 10 → ⊥) → Because fields at f b (reason_at 16 at)
+  lone_there : f.last ≡ 13 → (b ≡ 10 → ⊥) → Because fields at f b (LoneCr at)
 
 -- ---- a reason that is told stands at a byte of the line, or the sheet ends in the line
 
@@ -73,8 +75,8 @@ pub data Shown (fields at : ℕ) (f : Field) (line : List ℕ) (x : LineFault) :
 
 pub data LineShown (b : List ℕ) (line : ℕ) (x : LineFault) : Type 0 where
   -- the first three bytes of the sheet are the mark of the byte order
-  begins_marked : line ≤ 1 → starts order_mark b ≡ true → x ≡ reason_at 3 0 → LineShown b line x
+  begins_marked : line ≤ 1 → starts order_mark b ≡ true → x ≡ OrderMark → LineShown b line x
   in_first : line ≤ 1 → Shown 0 1 first_field b x → LineShown b line x
   -- the sheet has a first line, and this line is after those of its cells
-  after_cells : 1 < line → ((head_read b).cells ≡ 0 → ⊥) → (head_read b).cells + 1 < line → x ≡ reason_at 2 0 → LineShown b line x
+  after_cells : 1 < line → ((head_read b).cells ≡ 0 → ⊥) → (head_read b).cells + 1 < line → x ≡ Extra → LineShown b line x
   in_cell-law : 1 < line → Shown ((head_read b).cells + 2) 1 first_field (after_lines (line - 1) b) x → LineShown b line x

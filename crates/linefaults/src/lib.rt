@@ -2,7 +2,7 @@
 #![tactic(auto)]
 
 ghost use Rattle.std.specs.Prelude.{◌≡◌, ◌+◌, ◌≤◌, ◌<◌, length, drop};
-ghost use Rattle.linefaults.specs.Fault.{reason_at, untold, after_lines, first_field, number_after, seen_after, field_after, is_word};
+ghost use Rattle.linefaults.specs.Fault.{after_lines, first_field, number_after, seen_after, field_after, is_word};
 ghost use Rattle.linefaults.specs.Fault.{is_mark, odd_byte, empty_at, comma_at};
 ghost use Rattle.linefaults.specs.Fault.{cr_at, lf_at, mark_fault, is_zero, number_at, content_at, fault_at, end_fault};
 ghost use Rattle.linefaults.specs.Fault.{fault_from, head_fault, cell_fault, fault_of_line};
@@ -15,39 +15,54 @@ const CR: u8 = 13;
 
 const LF: u8 = 10;
 
-// The reason by its number, and the character or the column where it is; 0 where nothing can be told.
+// Why a line is bad, with the character of the line or the column where it is.
 #[derive(Clone, Copy)]
-pub struct LineFault {
-    pub reason: u8,
-    pub place: usize,
+pub enum LineFault {
+    // The sheet ends before this line.
+    Missing,
+    // A line too many.
+    Extra,
+    // A mark of the byte order.
+    OrderMark,
+    // A semicolon, a tab, a quote or a blank, at this character.
+    Semicolon(usize),
+    Tab(usize),
+    Quote(usize),
+    Blank(usize),
+    // The line ends in LF alone.
+    FeedAlone,
+    // The sheet ends in the midst of the line.
+    NoEnd,
+    // The number in this column begins with a 0, or is above 65,535, or is no number.
+    LeadingZero(usize),
+    OverLarge(usize),
+    NoNumber(usize),
+    // The mark in this column is neither 0 nor 1.
+    NoMark(usize),
+    // The line ends after this column.
+    FewFields(usize),
+    // This column is one too many.
+    ManyFields(usize),
+    // A CR that no LF follows, before this character.
+    LoneCr(usize),
 }
 
-// Where a byte stands: its column, how many bytes of the field came before it (2 for more than one), their number, and the byte before it.
+// How many bytes of a field there are.
+#[derive(Clone, Copy, PartialEq)]
+enum Seen {
+    Nothing,
+    One,
+    More,
+}
+
+// Where a byte stands: its column, how many bytes of the field came before it, their number, and the byte before it.
+// The byte before is no kind: it is the byte itself, as the theorem `linefaults/Sound`: `walked-last` says it, and 0 at the beginning of the line.
 #[derive(Clone, Copy)]
 struct Field {
     pub column: usize,
-    pub seen: u8,
+    pub seen: Seen,
     pub value: usize,
     pub last: u8,
-}
-
-// A reason.
-// It only looks like `records::refuse`: what is wrong with a line of a sheet is no refusal of a file.
-fn tell(reason: u8, place: usize) -> LineFault
-    ensures { result ≡ reason_at reason place }
-{
-    LineFault { reason, place }
-}
-
-// Nothing.
-// It only looks like `cleaning::no_field`: each is the nothing of its own type.
-fn tell_nothing() -> LineFault
-    ensures { result ≡ untold }
-{
-    LineFault {
-        reason: 0,
-        place: 0,
-    }
 }
 
 // Where the line after so many line ends begins.
@@ -68,6 +83,7 @@ fn line_start(s: &[u8], ends: usize) -> usize
 }
 
 // The number of a field, with one byte more.
+#[tactic(auto, unfolding(crate::specs::Fault::number_after))]
 fn number_after(v: usize, b: u8) -> usize
     ensures { result ≡ number_after v b }
 {
@@ -81,16 +97,17 @@ fn number_after(v: usize, b: u8) -> usize
 }
 
 // How many bytes of a field there are, with one more.
-fn seen_after(seen: u8) -> u8
+fn seen_after(seen: Seen) -> Seen
     ensures { result ≡ seen_after seen }
 {
-    if seen == 0 {
-        return 1;
+    if seen == Seen::Nothing {
+        return Seen::One;
     }
-    2
+    Seen::More
 }
 
 // Where the next byte stands.
+#[tactic(auto, unfolding(crate::specs::Fault::field_after))]
 fn step_after(f: Field, b: u8) -> Field
     requires { f.column < 18446744073709551615 }
     ensures value { result ≡ field_after f b }
@@ -99,7 +116,7 @@ fn step_after(f: Field, b: u8) -> Field
     if b == COMMA {
         return Field {
             column: f.column + 1,
-            seen: 0,
+            seen: Seen::Nothing,
             value: 0,
             last: b,
         };
@@ -115,6 +132,7 @@ fn step_after(f: Field, b: u8) -> Field
 }
 
 // Whether the byte is in a word of the first line.
+#[tactic(auto, unfolding(crate::specs::Fault::is_word))]
 fn is_word(fields: usize, f: Field) -> bool
     ensures { result ≡ is_word fields f }
 {
@@ -125,6 +143,7 @@ fn is_word(fields: usize, f: Field) -> bool
 }
 
 // Whether the byte is in a mark.
+#[tactic(auto, unfolding(crate::specs::Fault::is_mark))]
 fn is_mark(fields: usize, f: Field) -> bool
     ensures { result ≡ is_mark fields f }
 {
@@ -134,128 +153,137 @@ fn is_mark(fields: usize, f: Field) -> bool
     3 <= f.column
 }
 
-// The reason that a byte is by itself; 0 for none.
-fn odd_byte(b: u8) -> u8
-    ensures { result ≡ odd_byte b }
+// What a byte tells by itself.
+#[tactic(auto, unfolding(crate::specs::Fault::odd_byte))]
+fn odd_byte(at: usize, b: u8) -> Option<LineFault>
+    ensures { result ≡ odd_byte at b }
 {
     if b == 59 {
-        return 4;
+        return Some(LineFault::Semicolon(at));
     }
     if b == 9 {
-        return 5;
+        return Some(LineFault::Tab(at));
     }
     if b == 34 {
-        return 6;
+        return Some(LineFault::Quote(at));
     }
     if b == 32 {
-        return 7;
+        return Some(LineFault::Blank(at));
     }
-    0
+    None
 }
 
 // A field that ends with nothing in it.
-fn empty_at(fields: usize, f: Field) -> LineFault
+#[tactic(auto, unfolding(crate::specs::Fault::empty_at))]
+fn empty_at(fields: usize, f: Field) -> Option<LineFault>
     ensures { result ≡ empty_at fields f }
 {
-    if f.seen != 0 {
-        return tell_nothing();
+    if f.seen != Seen::Nothing {
+        return None;
     }
     if is_mark(fields, f) {
-        return tell(13, f.column);
+        return Some(LineFault::NoMark(f.column));
     }
     if is_word(fields, f) {
-        return tell_nothing();
+        return None;
     }
-    tell(12, f.column)
+    Some(LineFault::NoNumber(f.column))
 }
 
 // A comma.
-fn comma_at(fields: usize, f: Field) -> LineFault
+#[tactic(auto, unfolding(crate::specs::Fault::comma_at))]
+fn comma_at(fields: usize, f: Field) -> Option<LineFault>
     requires { f.column < 18446744073709551615 }
     ensures { result ≡ comma_at fields f }
 {
     if f.column == fields {
-        return tell(15, f.column + 1);
+        return Some(LineFault::ManyFields(f.column + 1));
     }
     empty_at(fields, f)
 }
 
 // A CR.
-fn cr_at(fields: usize, f: Field) -> LineFault
+#[tactic(auto, unfolding(crate::specs::Fault::cr_at))]
+fn cr_at(fields: usize, f: Field) -> Option<LineFault>
     ensures { result ≡ cr_at fields f }
 {
     if f.column < fields {
-        return tell(14, f.column);
+        return Some(LineFault::FewFields(f.column));
     }
     empty_at(fields, f)
 }
 
 // An LF.
-fn lf_at(f: Field) -> LineFault
+#[tactic(auto, unfolding(crate::specs::Fault::lf_at))]
+fn lf_at(f: Field) -> Option<LineFault>
     ensures { result ≡ lf_at f }
 {
     if f.last == CR {
-        return tell_nothing();
+        return None;
     }
-    tell(8, 0)
+    Some(LineFault::FeedAlone)
 }
 
 // A byte of a mark.
-fn mark_at(f: Field, b: u8) -> LineFault
+#[tactic(auto, unfolding(crate::specs::Fault::mark_fault))]
+fn mark_at(f: Field, b: u8) -> Option<LineFault>
     ensures { result ≡ mark_fault f b }
 {
-    if f.seen != 0 {
-        return tell(13, f.column);
+    if f.seen != Seen::Nothing {
+        return Some(LineFault::NoMark(f.column));
     }
     if b == 48 {
-        return tell_nothing();
+        return None;
     }
     if b == 49 {
-        return tell_nothing();
+        return None;
     }
-    tell(13, f.column)
+    Some(LineFault::NoMark(f.column))
 }
 
 // Whether a field is a lone 0.
+#[tactic(auto, unfolding(crate::specs::Fault::is_zero))]
 fn is_zero(f: Field) -> bool
     ensures { result ≡ is_zero f }
 {
-    if f.seen != 1 {
+    if f.seen != Seen::One {
         return false;
     }
     f.value == 0
 }
 
 // A byte of a number.
-fn number_at(f: Field, b: u8) -> LineFault
+#[tactic(auto, unfolding(crate::specs::Fault::number_at))]
+fn number_at(f: Field, b: u8) -> Option<LineFault>
     ensures { result ≡ number_at f b }
 {
     if b < 48 {
-        return tell(12, f.column);
+        return Some(LineFault::NoNumber(f.column));
     }
     if 57 < b {
-        return tell(12, f.column);
+        return Some(LineFault::NoNumber(f.column));
     }
     if is_zero(f) {
-        return tell(10, f.column);
+        return Some(LineFault::LeadingZero(f.column));
     }
     let value = number_after(f.value, b);
     if 65535 < value {
-        return tell(11, f.column);
+        return Some(LineFault::OverLarge(f.column));
     }
-    tell_nothing()
+    None
 }
 
 // A byte of a field.
-fn content_at(fields: usize, at: usize, f: Field, b: u8) -> LineFault
+#[tactic(auto, unfolding(crate::specs::Fault::content_at))]
+fn content_at(fields: usize, at: usize, f: Field, b: u8) -> Option<LineFault>
     ensures { result ≡ content_at fields at f b }
 {
-    let odd = odd_byte(b);
-    if odd != 0 {
-        return tell(odd, at);
+    let odd = odd_byte(at, b);
+    if odd.is_some() {
+        return odd;
     }
     if is_word(fields, f) {
-        return tell_nothing();
+        return None;
     }
     if is_mark(fields, f) {
         return mark_at(f, b);
@@ -264,7 +292,8 @@ fn content_at(fields: usize, at: usize, f: Field, b: u8) -> LineFault
 }
 
 // What a byte tells.
-fn fault_at(fields: usize, at: usize, f: Field, b: u8) -> LineFault
+#[tactic(auto, unfolding(crate::specs::Fault::fault_at))]
+fn fault_at(fields: usize, at: usize, f: Field, b: u8) -> Option<LineFault>
     requires { f.column < 18446744073709551615 }
     ensures { result ≡ fault_at fields at f b }
 {
@@ -272,7 +301,7 @@ fn fault_at(fields: usize, at: usize, f: Field, b: u8) -> LineFault
         return lf_at(f);
     }
     if f.last == CR {
-        return tell(16, at);
+        return Some(LineFault::LoneCr(at));
     }
     if b == COMMA {
         return comma_at(fields, f);
@@ -284,68 +313,71 @@ fn fault_at(fields: usize, at: usize, f: Field, b: u8) -> LineFault
 }
 
 // The end of the sheet.
+#[tactic(auto, unfolding(crate::specs::Fault::end_fault))]
 fn end_at(at: usize) -> LineFault
     ensures { result ≡ end_fault at }
 {
     if at == 1 {
-        return tell(1, 0);
+        return LineFault::Missing;
     }
-    tell(9, 0)
+    LineFault::NoEnd
 }
 
 // What the line that begins at `from` tells.
-fn fault_from(s: &[u8], from: usize, fields: usize) -> LineFault
+fn fault_from(s: &[u8], from: usize, fields: usize) -> Option<LineFault>
     requires { from ≤ length s.now }
     ensures { result ≡ fault_from fields 1 first_field (drop from s.now) }
 {
     let mut f = Field {
         column: 1,
-        seen: 0,
+        seen: Seen::Nothing,
         value: 0,
         last: 0,
     };
     let rest = &s[from..];
     for (i, &byte) in rest.iter().enumerate() {
         let x = fault_at(fields, i + 1, f, byte);
-        if x.reason != 0 {
+        if x.is_some() {
             return x;
         }
         if byte == LF {
-            return tell_nothing();
+            return None;
         }
         f = step_after(f, byte);
     }
-    end_at(rest.len() + 1)
+    Some(end_at(rest.len() + 1))
 }
 
 // What the first line tells.
-fn head_fault(s: &[u8]) -> LineFault
+fn head_fault(s: &[u8]) -> Option<LineFault>
     ensures { result ≡ head_fault s.now }
 {
     let at = eat_text(s, 0, b"\xEF\xBB\xBF");
     if at == 3 {
-        return tell(3, 0);
+        return Some(LineFault::OrderMark);
     }
     fault_from(s, 0, 0)
 }
 
 // What a cell's line tells, on a sheet of so many cells.
-fn cell_fault(s: &[u8], cells: usize, line: usize) -> LineFault
+#[tactic(auto, unfolding(crate::specs::Fault::cell_fault))]
+fn cell_fault(s: &[u8], cells: usize, line: usize) -> Option<LineFault>
     requires { (cells ≤ 32) × (0 < line) }
     ensures { result ≡ cell_fault cells s.now line }
 {
     if cells == 0 {
-        return tell_nothing();
+        return None;
     }
     if cells + 1 < line {
-        return tell(2, 0);
+        return Some(LineFault::Extra);
     }
     let from = line_start(s, line - 1);
     fault_from(s, from, cells + 2)
 }
 
 // Why a line, from 1, of a sheet is bad, where it can be told.
-pub fn fault_of_line(sheet: &[u8], line: usize) -> LineFault
+#[tactic(auto, unfolding(crate::specs::Fault::fault_of_line))]
+pub fn fault_of_line(sheet: &[u8], line: usize) -> Option<LineFault>
     ensures { result ≡ fault_of_line sheet.now line }
 {
     if line <= 1 {

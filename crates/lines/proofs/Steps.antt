@@ -10,6 +10,7 @@ use lib.Seq.{drop-drop, drop-cons, get_or-drop}
 use lib.Dec.{leb, eqb}
 use lib.Pow.{pow_mono}
 use borrow.Author.Tests.{le-leb, lt-leb, leb-true, leb-false}
+use Rattle.std.specs.Prelude.{Option, Some, None}
 use Rattle.laws.specs.Choice.{pick}
 use Rattle.laws.specs.Sum.{bit}
 use Rattle.laws.proofs.Choice.{both, refute}
@@ -21,7 +22,7 @@ use Rattle.lines.specs.declared.Marks.{Marks}
 use Rattle.lines.specs.declared.Number.{Number}
 use Rattle.lines.specs.declared.Line.{Line}
 use Rattle.lines.specs.Content.{scanned, number_read, load_of_line, marks_of_line, mark_of_line, weigh, mark_ok}
-use Rattle.lines.specs.Content.{row_of_marks, marks_read, row_of_line, line_in, line_ok, no_line, line_read}
+use Rattle.lines.specs.Content.{row_of_marks, marks_read, row_of_line, line_in, line_ok, line_read}
 use Rattle.lines.proofs.Match.{starts-long, eaten-append, lost}
 use Rattle.lines.proofs.Lines.{marks-long, mark-two, weigh-lt}
 
@@ -169,25 +170,25 @@ module _ (s : List ℕ) (at n k : ℕ) (short : length s < nowhere) where
   unfolding line_in cell_line label
   line-some = simp length-append (omega arith)
 
-  pub line-over : 65535 < load_of_line k (drop at s) → no_line ≡ line_read s at n k
+  pub line-over : 65535 < load_of_line k (drop at s) → None ≡ line_read s at n k
   unfolding line_read line_ok
   line-over h = rw (lt-leb _ _ h)
 
-  pub line-lost : eaten s at (line_in n k (drop at s)) ≡ nowhere → no_line ≡ line_read s at n k
+  pub line-lost : eaten s at (line_in n k (drop at s)) ≡ nowhere → None ≡ line_read s at n k
   unfolding line_read line_ok
   line-lost e = rw (eaten-not s at _ short line-some e) (go (leb (load_of_line k (drop at s)) 65535))
     where
-      go : (t : Bool) → no_line ≡ pick (t && false) (record {
+      go : (t : Bool) → ◌≡◌ {A = Option Line} None (pick (t && false) (Some (record {
         load = load_of_line k (drop at s);
         row = row_of_line n k (drop at s);
         next = at + length (line_in n k (drop at s));
-      }) no_line
+      })) None)
       go true = refl
       go false = refl
 
   pub line_read-law :
       load_of_line k (drop at s) ≤ 65535 → (eaten s at (line_in n k (drop at s)) ≡ nowhere → ⊥) →
-      record { load = load_of_line k (drop at s); row = row_of_line n k (drop at s); next = eaten s at (line_in n k (drop at s)) } ≡ line_read s at n k
+      Some (record { load = load_of_line k (drop at s); row = row_of_line n k (drop at s); next = eaten s at (line_in n k (drop at s)) }) ≡ line_read s at n k
   unfolding line_read line_ok
   line_read-law h e =
       let t = eaten-there s at (line_in n k (drop at s)) e in
@@ -200,7 +201,7 @@ module _ (s : List ℕ) (at n k : ℕ) (short : length s < nowhere) where
   label-eaten d a p q = q ∙ ap (λ (i : ℕ). eaten s i (comma_byte ∷ [])) p ∙ eaten-append s at (decimal (cell_number k)) (comma_byte ∷ []) (omega arith)
 
   module _ (a : ℕ) (label_at : a ≡ eaten s at (label k)) where
-    pub no_label : a ≡ nowhere → no_line ≡ line_read s at n k
+    pub no_label : a ≡ nowhere → None ≡ line_read s at n k
     unfolding line_in cell_line
     no_label e = line-lost s at n k short (eaten-lost s at (label k) _ (omega arith) (sym label_at ∙ e))
 
@@ -230,12 +231,12 @@ module _ (s : List ℕ) (at n k : ℕ) (short : length s < nowhere) where
         unfolding line_in cell_line
         line-is = simp append_assoc
 
-        pub no_load : v.next ≡ nowhere → no_line ≡ line_read s at n k
+        pub no_load : v.next ≡ nowhere → None ≡ line_read s at n k
         no_load e = go (leb (load_of_line k (drop at s)) 65535) refl (sym next-is ∙ e)
           where
             go : (t : Bool) → leb (load_of_line k (drop at s)) 65535 ≡ t → pick t (eaten s at (label k ++ decimal (load_of_line k (drop at s)))) nowhere
                 ≡ nowhere
-                → no_line ≡ line_read s at n k
+                → None ≡ line_read s at n k
             go true p q = line-lost s at n k short (ap (eaten s at) line-is ∙ eaten-lost s at _ _ (omega arith) q)
             go false p q = line-over s at n k short (leb-false _ _ p)
 
@@ -268,7 +269,7 @@ module _ (s : List ℕ) (at n k : ℕ) (short : length s < nowhere) where
                 ∙ ap (λ (i : ℕ). eaten s i (marks (mark_of_line (marks_of_line k (drop at s))) 0 n ++ crlf)) (load-way _ refl).1
                 ∙ eaten-append s at _ _ (omega arith) ∙ ap (eaten s at) (sym line-is)
 
-            pub no_end-law : end ≡ nowhere → no_line ≡ line_read s at n k
+            pub no_end-law : end ≡ nowhere → None ≡ line_read s at n k
             no_end-law e = line-lost s at n k short (sym end_is ∙ e)
 
             module _ (there : end ≡ nowhere → ⊥) where
@@ -286,36 +287,35 @@ module _ (s : List ℕ) (at n k : ℕ) (short : length s < nowhere) where
               unfolding row_of_line
               row_is = row-way _ refl ∙ ap (λ (r : List ℕ). weigh (mark_of_line r) 0 n) marks-from
 
-              pub whole-line : record { load = v.value; row = m.row; next = end } ≡ line_read s at n k
+              pub whole-line : Some (record { load = v.value; row = m.row; next = end }) ≡ line_read s at n k
               whole-line = rw (value-is, row_is, end_is) (line_read-law s at n k short load_fits (λ e. there (end_is ∙ e)))
 
 -- ---- what the answer says
 
-module _ (s : List ℕ) (at n k : ℕ) (short : length s < nowhere) where
+module _ (s : List ℕ) (at n k : ℕ) where
   said : (t : Bool) → line_ok n k (drop at s) ≡ t → line_read s at n k ≡ pick t
-      (record { load = load_of_line k (drop at s); row = row_of_line n k (drop at s); next = at + length (line_in n k (drop at s)) }) no_line
+      (Some (record { load = load_of_line k (drop at s); row = row_of_line n k (drop at s); next = at + length (line_in n k (drop at s)) })) None
   unfolding line_read
   said t e = rw e
 
-  pub answer-bad : (l : Line) → l ≡ line_read s at n k → l.next ≡ nowhere → line_ok n k (drop at s) ≡ false
-  unfolding line_ok
-  answer-bad l e h =
-      refute _
-      (λ t.
-      let b : length (line_in n k (drop at s)) ≤ length (drop at s) = starts-long _ _
-      (both (leb (load_of_line k (drop at s)) 65535) (starts (line_in n k (drop at s)) (drop at s)) t).1 in
-      let z : at + length (line_in n k (drop at s)) ≡ nowhere = sym (ap (λ (x : Line). x.next) (e ∙ said true t)) ∙ h in
-      omega (arith, b, z, line-some s at n k short, length-drop at s))
+  none_some : {l : Line} → None ≡ Some l → ⊥
+  none_some h = cc
 
-  pub answer-good : (l : Line) → l ≡ line_read s at n k → (l.next ≡ nowhere → ⊥) →
+  some_is : {l m : Line} → Some l ≡ Some m → l ≡ m
+  some_is h = cc
+
+  pub answer-bad : None ≡ line_read s at n k → line_ok n k (drop at s) ≡ false
+  answer-bad h = refute _ (λ t. none_some (h ∙ said true t))
+
+  pub answer-good : (l : Line) → Some l ≡ line_read s at n k →
       (line_ok n k (drop at s) ≡ true) × (l ≡ record {
         load = load_of_line k (drop at s);
         row = row_of_line n k (drop at s);
         next = at + length (line_in n k (drop at s));
       })
-  answer-good l e h = go (line_ok n k (drop at s)) refl
+  answer-good l e = go (line_ok n k (drop at s)) refl
     where
       go : (t : Bool) → line_ok n k (drop at s) ≡ t → (line_ok n k (drop at s) ≡ true)
           × (l ≡ record { load = load_of_line k (drop at s); row = row_of_line n k (drop at s); next = at + length (line_in n k (drop at s)) })
-      go true p = (p, e ∙ said true p)
-      go false p = absurd (h (ap (λ (x : Line). x.next) (e ∙ said false p)))
+      go true p = (p, some_is (e ∙ said true p))
+      go false p = absurd (none_some (sym (e ∙ said false p)))

@@ -1,6 +1,6 @@
 -- What a line says, of any bytes at all; and whether it is a line of the format: whether the bytes start with the line that its own content gives.
 -- r is the input from where the line begins.
-use Rattle.std.specs.Prelude.{ℕ, zero, suc, ◌+◌, ◌-◌, ◌*◌, ◌/◌, ◌%◌, ◌^◌, Bool, ◌&&◌, List, [], ◌∷◌, length, drop, get_or, ltb, leb, eqb}
+use Rattle.std.specs.Prelude.{ℕ, zero, suc, ◌+◌, ◌-◌, ◌*◌, ◌/◌, ◌%◌, ◌^◌, Bool, ◌&&◌, List, [], ◌∷◌, length, drop, get_or, ltb, leb, eqb, Option, Some, None}
 use Rattle.std.specs.Int.Bits.{bit_and}
 use Rattle.laws.specs.Choice.{pick}
 use Rattle.laws.specs.Sum.{bit}
@@ -87,15 +87,12 @@ line_in n k r = cell_line n k (load_of_line k r) (mark_of_line (marks_of_line k 
 unfoldable pub line_ok : ℕ → ℕ → List ℕ → Bool
 line_ok n k r = leb (load_of_line k r) 65535 && starts (line_in n k r) r
 
-abbrev pub no_line : Line
-no_line = record { load = 0; row = 0; next = nowhere }
-
 -- a line read at `at`: its content and the place after it
-unfoldable pub line_read : List ℕ → ℕ → ℕ → ℕ → Line
+unfoldable pub line_read : List ℕ → ℕ → ℕ → ℕ → Option Line
 line_read s at n k =
     pick (line_ok n k (drop at s))
-    (record { load = load_of_line k (drop at s); row = row_of_line n k (drop at s); next = at + length (line_in n k (drop at s)) })
-    no_line
+    (Some (record { load = load_of_line k (drop at s); row = row_of_line n k (drop at s); next = at + length (line_in n k (drop at s)) }))
+    None
 
 -- ---- the first line
 

@@ -5,7 +5,7 @@ ghost use Rattle.std.specs.Prelude.{◌≡◌, [], ◌∷◌, ◌+◌, ◌-◌, 
 ghost use Rattle.text.specs.Decimal.{decimal};
 ghost use Rattle.lines.specs.Match.{eaten};
 ghost use Rattle.lines.specs.Content.{more, scanned, number_read, mark_ok, row_of_marks, pair_at, four_in, no_marks, marks_read};
-ghost use Rattle.lines.specs.Content.{no_line, line_read, columns_read, no_head, head_read};
+ghost use Rattle.lines.specs.Content.{line_read, columns_read, no_head, head_read};
 ghost use Rattle.laws.specs.Sum.{bit};
 
 // No place of any input.
@@ -17,7 +17,7 @@ const CR: u8 = 13;
 
 const LF: u8 = 10;
 
-// What a line of a cell says, and the place after it; NOWHERE where it is not of the format.
+// What a line of a cell says, and the place after it.
 #[derive(Clone, Copy)]
 pub struct Line {
     pub load: u16,
@@ -304,43 +304,32 @@ fn read_marks(s: &[u8], at: usize, n: usize) -> Marks
     }
 }
 
-// No line.
-fn no_line() -> Line
-    ensures { result ≡ no_line }
-{
-    Line {
-        load: 0,
-        row: 0,
-        next: NOWHERE,
-    }
-}
-
 // The line of the cell at index k, on a site with n cells.
-pub fn read_line(s: &[u8], at: usize, n: usize, k: usize) -> Line
+pub fn read_line(s: &[u8], at: usize, n: usize, k: usize) -> Option<Line>
     requires { (0 < n) × (n ≤ 32) × (k < 32) }
     ensures { result ≡ line_read s.now at n k }
 {
     let digits = eat_number(s, at, k + 1);
     let a = eat(s, digits, COMMA);
     if a == NOWHERE {
-        return no_line();
+        return None;
     }
     let v = read_number(s, a, 65535);
     let b = v.next;
     if b == NOWHERE {
-        return no_line();
+        return None;
     }
     let m = read_marks(s, b, n);
     let cr = eat(s, m.next, CR);
     let end = eat(s, cr, LF);
     if end == NOWHERE {
-        return no_line();
+        return None;
     }
-    Line {
+    Some(Line {
         load: v.value as u16,
         row: m.row,
         next: end,
-    }
+    })
 }
 
 // How many columns the first line has, and the place after it; no cells, and NOWHERE, where it is not of the format.

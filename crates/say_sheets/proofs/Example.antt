@@ -11,13 +11,14 @@ use Rattle.site.specs.Reach.{reaches, reached_by_both, clash_in}
 use Rattle.site.specs.declared.Site.{Site}
 use Rattle.clashcount.specs.Count.{clash_count}
 use Rattle.tidying.specs.declared.TidyError.TheVariants.{BadLine}
+use Rattle.linefaults.specs.declared.LineFault.TheVariants.{Semicolon, FeedAlone, NoMark}
 use Rattle.say_sheets.specs.Lines.{line_fault_lines, tidy_lines, made_lines}
 use Rattle.say_sheets.specs.Said.{line_fault_said, named_said, tidy_said, made_said}
 
 faults-said :
-    line_fault_said 2 (record { reason = 4; place = 12 })
-    ∷ line_fault_said 1 (record { reason = 8; place = 0 })
-    ∷ line_fault_said 3 (record { reason = 13; place = 5 })
+    line_fault_said 2 (Semicolon 12)
+    ∷ line_fault_said 1 FeedAlone
+    ∷ line_fault_said 3 (NoMark 5)
     ∷ []
     ≡ bytes "refused 17, line 2: at character 12 stands a semicolon, and a comma belongs there\n"
     ∷ bytes "refused 17, line 1: the line ends in LF alone, and CR LF belongs there\n"

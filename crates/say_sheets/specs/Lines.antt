@@ -3,11 +3,10 @@
 use Rattle.std.specs.Prelude.{ℕ, List, [], ◌∷◌}
 use Prim.Native.String.{String}
 
--- why a line is bad: the row is the number of the reason; @1 is the line, @2 the character or the column. Row 0 is never said
+-- why a line is bad: @1 is the line, @2 the character or the column
 unfoldable pub line_fault_lines : List String
 line_fault_lines =
-    ""
-    ∷ "refused 17, line @1: the sheet ends before this line\n"
+    "refused 17, line @1: the sheet ends before this line\n"
     ∷ "refused 17, line @1: a line too many\n"
     ∷ "refused 17, line @1: it begins with a byte order mark\n"
     ∷ "refused 17, line @1: at character @2 stands a semicolon, and a comma belongs there\n"

@@ -1,5 +1,5 @@
 -- What is said of a bad line, of a tidied sheet, and of a site that was made of a sheet.
-use Rattle.std.specs.Prelude.{ℕ, zero, suc, ◌+◌, not, List, [], ◌++◌, eqb, Result, Ok, Err, None}
+use Rattle.std.specs.Prelude.{ℕ, zero, suc, ◌+◌, not, List, [], ◌++◌, eqb, Option, Some, None, Result, Ok, Err}
 use Rattle.laws.specs.Choice.{pick}
 use Rattle.laws.specs.Search.{first}
 use Rattle.site.specs.declared.Site.{Site}
@@ -8,6 +8,8 @@ use Rattle.cleaning.specs.Clean.{changes_of}
 use Rattle.cleaning.specs.declared.Tidied.{Tidied}
 use Rattle.linefaults.specs.Fault.{fault_of_line}
 use Rattle.linefaults.specs.declared.LineFault.{LineFault}
+use Rattle.linefaults.specs.declared.LineFault.TheVariants.{Missing, Extra, OrderMark, Semicolon, Tab, Quote, Blank, FeedAlone, NoEnd}
+use Rattle.linefaults.specs.declared.LineFault.TheVariants.{LeadingZero, OverLarge, NoNumber, NoMark, FewFields, ManyFields, LoneCr}
 use Rattle.sheet.specs.declared.SheetError.{SheetError}
 use Rattle.sheet.specs.declared.SheetError.TheVariants as sheet
 use Rattle.tidying.specs.declared.TidyError.{TidyError}
@@ -21,13 +23,36 @@ use Rattle.say_sheets.specs.Lines.{line_fault_lines, tidy_lines, made_lines, onc
 
 -- ---- a sheet that is refused
 
+-- the row of a reason, and its character or column; 0 where it has none
+abbrev pub fault_row : LineFault → ℕ × ℕ
+fault_row Missing = (0, 0)
+fault_row Extra = (1, 0)
+fault_row OrderMark = (2, 0)
+fault_row (Semicolon at) = (3, at)
+fault_row (Tab at) = (4, at)
+fault_row (Quote at) = (5, at)
+fault_row (Blank at) = (6, at)
+fault_row FeedAlone = (7, 0)
+fault_row NoEnd = (8, 0)
+fault_row (LeadingZero column) = (9, column)
+fault_row (OverLarge column) = (10, column)
+fault_row (NoNumber column) = (11, column)
+fault_row (NoMark column) = (12, column)
+fault_row (FewFields column) = (13, column)
+fault_row (ManyFields column) = (14, column)
+fault_row (LoneCr at) = (15, at)
+
 -- the reason, with the line and the place
 abbrev pub line_fault_said : ℕ → LineFault → List ℕ
-line_fault_said line f = phrase line_fault_lines (Row f.reason line f.place 0 0)
+line_fault_said line f = let w = fault_row f in phrase line_fault_lines (Row w.0 line w.1 0 0)
 
 -- "A range sheet's 17 says why, where it can be told"; else it says what the number means
+abbrev pub fault_or_refusal : ℕ → Option LineFault → List ℕ
+fault_or_refusal line None = sheet_said (Err (sheet.BadLine line))
+fault_or_refusal line (Some f) = line_fault_said line f
+
 abbrev pub bad_line_said : List ℕ → ℕ → List ℕ
-bad_line_said b line = pick (eqb (fault_of_line b line).reason 0) (sheet_said (Err (sheet.BadLine line))) (line_fault_said line (fault_of_line b line))
+bad_line_said b line = fault_or_refusal line (fault_of_line b line)
 
 -- nothing to say; 17 and the line; or what is wrong with the site
 abbrev pub sheet_refused_said : List ℕ → Result Unit SheetError → List ℕ

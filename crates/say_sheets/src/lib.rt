@@ -7,8 +7,8 @@ ghost use Rattle.cleaning.specs.Clean.{changes_of};
 ghost use Rattle.phrases.specs.Put.{Put};
 ghost use Rattle.phrases.specs.Phrases.{phrase};
 ghost use Rattle.say_sheets.specs.Lines.{tidy_lines};
-ghost use Rattle.say_sheets.specs.Said.{line_fault_said, bad_line_said, sheet_refused_said, first_change, place_phrase, named_said, tidy_changes_said};
-ghost use Rattle.say_sheets.specs.Said.{tidied_said, tidy_said, made_phrase, made_said};
+ghost use Rattle.say_sheets.specs.Said.{fault_row, line_fault_said, bad_line_said, sheet_refused_said, first_change, place_phrase, named_said};
+ghost use Rattle.say_sheets.specs.Said.{tidy_changes_said, tidied_said, tidy_said, made_phrase, made_said};
 
 use clashcount::clash_count;
 use cleaning::Tidied;
@@ -33,15 +33,40 @@ const LEFT: usize = 12;
 
 const NOT_TIDIED: usize = 13;
 
-// Why a line is bad, by the number of the reason.
+// The row of a reason, and its character or column; 0 where it has none.
+fn fault_row(fault: LineFault) -> (usize, usize)
+    ensures { result ≡ fault_row fault }
+{
+    match fault {
+        LineFault::Missing => (0, 0),
+        LineFault::Extra => (1, 0),
+        LineFault::OrderMark => (2, 0),
+        LineFault::Semicolon(at) => (3, at),
+        LineFault::Tab(at) => (4, at),
+        LineFault::Quote(at) => (5, at),
+        LineFault::Blank(at) => (6, at),
+        LineFault::FeedAlone => (7, 0),
+        LineFault::NoEnd => (8, 0),
+        LineFault::LeadingZero(column) => (9, column),
+        LineFault::OverLarge(column) => (10, column),
+        LineFault::NoNumber(column) => (11, column),
+        LineFault::NoMark(column) => (12, column),
+        LineFault::FewFields(column) => (13, column),
+        LineFault::ManyFields(column) => (14, column),
+        LineFault::LoneCr(at) => (15, at),
+    }
+}
+
+// Why a line is bad.
 fn put_line_fault(out: &mut [u8], at: usize, line: usize, fault: LineFault) -> usize
     requires { at + 1000 ≤ length out.old }
     ensures { Put out.old at (line_fault_said line fault) 1000 out.new result }
 {
+    let (row, place) = fault_row(fault);
     put_phrase(
         out,
         at,
-        b"|refused 17, line @1: the sheet ends before this line\n|\
+        b"refused 17, line @1: the sheet ends before this line\n|\
           refused 17, line @1: a line too many\n|\
           refused 17, line @1: it begins with a byte order mark\n|\
           refused 17, line @1: at character @2 stands a semicolon, and a comma belongs there\n|\
@@ -57,7 +82,7 @@ fn put_line_fault(out: &mut [u8], at: usize, line: usize, fault: LineFault) -> u
           refused 17, line @1: too few fields: it ends after column @2\n|\
           refused 17, line @1: too many fields: column @2 is one too many\n|\
           refused 17, line @1: before character @2 stands a CR without its LF\n|",
-        Phrase::Row(fault.reason as usize, line, fault.place, 0, 0),
+        Phrase::Row(row, line, place, 0, 0),
     )
 }
 
@@ -66,11 +91,10 @@ fn put_bad_line(out: &mut [u8], at: usize, sheet: &[u8], line: usize) -> usize
     requires { at + 2000 ≤ length out.old }
     ensures { Put out.old at (bad_line_said sheet.now line) 2000 out.new result }
 {
-    let fault = fault_of_line(sheet, line);
-    if fault.reason == 0 {
-        return put_sheet_read(out, at, Err(SheetError::BadLine(line)));
+    match fault_of_line(sheet, line) {
+        None => put_sheet_read(out, at, Err(SheetError::BadLine(line))),
+        Some(fault) => put_line_fault(out, at, line, fault),
     }
-    put_line_fault(out, at, line, fault)
 }
 
 // A sheet that was read, or its refusal.

@@ -8,6 +8,7 @@ use native.Mathlib.Numerals.{add-one}
 use lib.ListN.{length, drop, set, replicate, length-drop}
 use lib.Seq.{drop-drop}
 use borrow.Author.Tests.{lt-ltb, le-ltb}
+use Rattle.std.specs.Prelude.{Some, None}
 use Rattle.laws.specs.Search.{first}
 use Rattle.laws.proofs.Search.{found, missed, ended}
 use Rattle.lines.specs.Format.{line_number}
@@ -36,21 +37,21 @@ unfolding from bad_cell loads_of_sheet rows_of_sheet
 begun s at n = record { most = omega arith; place = refl; sought = refl; loads_are = refl; rows_are = refl }
 
 module _ (s r : List ℕ) (n : ℕ) (loads reach : List ℕ) (p k slots channels : ℕ) (blocked : List ℕ) (rule : ℕ)
-    (w : Reading s r n loads reach p k) (short : length s < nowhere) where
+    (w : Reading s r n loads reach p k) where
   -- a line that is not of the format
-  pub stopped : (l : Line) → l ≡ line_read s p n k → l.next ≡ nowhere → k < n → bad_sheet (line_number k) ≡ cells_read n r slots channels blocked rule
+  pub stopped : None ≡ line_read s p n k → k < n → bad_sheet (line_number k) ≡ cells_read n r slots channels blocked rule
   unfolding cells_read
-  stopped l e h m =
-      let b : line_ok n k (from n r k) ≡ false = ap (line_ok n k) (sym w.place) ∙ answer-bad s p n k short l e h in
+  stopped e m =
+      let b : line_ok n k (from n r k) ≡ false = ap (line_ok n k) (sym w.place) ∙ answer-bad s p n k e in
       let f : k ≡ bad_cell n r = found (test n r) k n w.sought m (ap not b) in
       rw (← f, lt-ltb k n m)
 
   -- one that is
-  pub passed : (l : Line) → l ≡ line_read s p n k → (l.next ≡ nowhere → ⊥) → k < n
+  pub passed : (l : Line) → Some l ≡ line_read s p n k → k < n
       → Reading s r n (set loads k l.load) (set reach k l.row) l.next (k + 1)
   unfolding from loads_of_sheet rows_of_sheet
-  passed l e h m =
-      let g = answer-good s p n k short l e h in
+  passed l e m =
+      let g = answer-good s p n k l e in
       record {
         most = omega arith;
         place =

@@ -74,14 +74,12 @@ fn read_cells(
     let mut reach = [0u32; 32];
     let mut p = at;
     for k in 0..n {
-        let line = read_line(s, p, n, k);
-        let next = line.next;
-        if next == NOWHERE {
+        let Some(line) = read_line(s, p, n, k) else {
             return bad_at(k + 2);
-        }
+        };
         loads[k] = line.load;
         reach[k] = line.row;
-        p = next;
+        p = line.next;
     }
     if p < s.len() {
         return bad_at(n + 2);

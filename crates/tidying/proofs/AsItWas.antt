@@ -12,10 +12,13 @@ use lib.Seq.{take_all}
 use borrow.Author.Tests.{eq-eqb, ne_eqb, eqb-true}
 use Rattle.laws.specs.Choice.{pick}
 use Rattle.lines.specs.Match.{starts}
-use Rattle.cleaning.specs.Clean.{order_mark, first_spot, unchanged, next_column, spoiled, quoted, on_blank, on_quote, is_reach, is_late, on_content, mend_of}
+use Rattle.cleaning.specs.Clean.{is_unquoted, quote_open, is_closed, is_empty, is_spaced, order_mark, first_spot, unchanged, next_column, spoiled, quoted}
+use Rattle.cleaning.specs.Clean.{on_blank, on_quote, is_reach, is_late, on_content, mend_of}
 use Rattle.cleaning.specs.Clean.{comma_change, on_separator, on_cr, fed, on_lf, after_cr, on_field, step_of, is_fresh, nothing, end_of, byte_out, out_of}
 use Rattle.cleaning.specs.Clean.{clean_from}
 use Rattle.cleaning.specs.Clean.{begins, cleaned, separator_in, makes, noted, line_after, changes_from, mark_change, changes_of}
+use Rattle.cleaning.specs.declared.Quotes.TheVariants.{Unquoted, Open, Closed}
+use Rattle.cleaning.specs.declared.Content.TheVariants.{Empty, Filled}
 use Rattle.cleaning.specs.declared.Standing.{Standing}
 use Rattle.cleaning.specs.declared.Step.{Step}
 use Rattle.cleaning.specs.declared.Tidied.{Tidied}
@@ -72,7 +75,7 @@ leaves q m b c n (inr (inr e)) quiet = inl (rw (e, n) refl)
 
 mend-is : (p : Standing) → (mend_of p ≡ 34) ⊎ ((mend_of p ≡ 48) ⊎ (mend_of p ≡ 0))
 unfolding mend_of
-mend-is p = go (eqb p.quotes 1) (eqb p.column 0 && eqb p.content 0)
+mend-is p = go (quote_open p.quotes) (eqb p.column 0 && is_empty p.content)
   where
     go : (t u : Bool) → let m : ℕ = pick t 34 (pick u 48 0) in (m ≡ 34) ⊎ ((m ≡ 48) ⊎ (m ≡ 0))
     go true u = inl refl
@@ -84,8 +87,8 @@ unfolding on_separator comma_change
 on-separator sep p quiet = go (eqb sep 44) refl quiet
   where
     go : (t : Bool) → eqb sep 44 ≡ t
-        → Quiet (written (record { column = next_column p.column; quotes = 0; content = 0; ended = 0 }) (mend_of p) 44 (pick t 0 2))
-        → Leaves sep (written (record { column = next_column p.column; quotes = 0; content = 0; ended = 0 }) (mend_of p) 44 (pick t 0 2))
+        → Quiet (written (record { column = next_column p.column; quotes = Unquoted; content = Empty; ended = false }) (mend_of p) 44 (pick t 0 2))
+        → Leaves sep (written (record { column = next_column p.column; quotes = Unquoted; content = Empty; ended = false }) (mend_of p) 44 (pick t 0 2))
     go true e q = rw (eqb-true sep 44 e) (leaves _ (mend_of p) 44 0 refl (mend-is p) q)
     go false e q = absurd (not-changed _ q 2 (omega arith) (omega arith) refl)
 
@@ -99,9 +102,10 @@ after-cr p b = go (eqb b 10) refl
 
 on-quote : (p : Standing) (b : ℕ) → Quiet (on_quote p) → Leaves b (on_quote p)
 unfolding on_quote
-on-quote p b = go (eqb p.quotes 1) (eqb p.quotes 0 && eqb p.content 0)
+on-quote p b = go (quote_open p.quotes) (is_unquoted p.quotes && is_empty p.content)
   where
-    go : (t u : Bool) → Quiet (pick t (quoted p 2) (pick u (quoted p 1) (spoiled p 34))) → Leaves b (pick t (quoted p 2) (pick u (quoted p 1) (spoiled p 34)))
+    go : (t u : Bool) → Quiet (pick t (quoted p Closed) (pick u (quoted p Open) (spoiled p 34))) → Leaves b
+        (pick t (quoted p Closed) (pick u (quoted p Open) (spoiled p 34)))
     go true u q = absurd (not-changed _ q 4 (omega arith) (omega arith) refl)
     go false true q = absurd (not-changed _ q 4 (omega arith) (omega arith) refl)
     go false false q = inr refl
@@ -112,15 +116,16 @@ or_left false u e = refl
 
 nonzero : (p : Standing) (b : ℕ) → is_late p b ≡ false → eqb b 0 ≡ false
 unfolding is_late
-nonzero p b e = or_left (eqb b 0) (eqb p.quotes 2 || eqb p.content 2) e
+nonzero p b e = or_left (eqb b 0) (is_closed p.quotes || is_spaced p.content) e
 
 on-content : (p : Standing) (b : ℕ) → Quiet (on_content p b) → Leaves b (on_content p b)
 unfolding on_content
 on-content p b = go (is_late p b) refl (is_reach p b)
   where
     go : (t : Bool) → is_late p b ≡ t → (u : Bool)
-        → Quiet (pick t (spoiled p b) (written (record { column = p.column; quotes = p.quotes; content = 1; ended = 0 }) 0 (pick u 49 b) (pick u 7 0)))
-        → Leaves b (pick t (spoiled p b) (written (record { column = p.column; quotes = p.quotes; content = 1; ended = 0 }) 0 (pick u 49 b) (pick u 7 0)))
+        → Quiet (pick t (spoiled p b) (written (record { column = p.column; quotes = p.quotes; content = Filled; ended = false }) 0 (pick u 49 b) (pick u 7 0)))
+        → Leaves b (pick t (spoiled p b) (written (record { column = p.column; quotes = p.quotes; content = Filled; ended = false }) 0 (pick u 49 b)
+        (pick u 7 0)))
     go true e u q = inr refl
     go false e true q = absurd (not-changed _ q 7 (omega arith) (omega arith) refl)
     go false e false q = leaves _ 0 b 0 (nonzero p b e) (inr (inr refl)) q
@@ -150,7 +155,7 @@ on-lf p c l h q = not-changed _ q c l h refl
 
 step-leaves : (sep : ℕ) (p : Standing) (b : ℕ) → Quiet (step_of sep p b) → Leaves b (step_of sep p b)
 unfolding step_of
-step-leaves sep p b = go (eqb p.ended 1) (eqb b sep) refl (eqb b 10) (eqb b 13) refl
+step-leaves sep p b = go p.ended (eqb b sep) refl (eqb b 10) (eqb b 13) refl
   where
     go : (t u : Bool) → eqb b sep ≡ u → (v w : Bool) → eqb b 13 ≡ w
         → Quiet (pick t (after_cr p b) (pick u (on_separator sep p) (pick v (on_lf p 3) (pick w (on_cr p) (on_field p b)))))
@@ -167,7 +172,7 @@ empty = refl
 
 end_leaves : (p : Standing) → Quiet (end_of p) → out_of (end_of p) ≡ []
 unfolding end_of
-end_leaves p = go (is_fresh p) (eqb p.ended 1)
+end_leaves p = go (is_fresh p) p.ended
   where
     go : (t u : Bool) → Quiet (pick t nothing (pick u (fed 8) (on_lf p 8))) → out_of (pick t nothing (pick u (fed 8) (on_lf p 8))) ≡ []
     go true u q = empty
@@ -240,10 +245,10 @@ module _ (sep : ℕ) where
 quote-odd : (p q : Standing) → step_of 44 p 34 ≡ plain_step q 34 → ⊥
 unfolding step_of after_cr on_field on_quote
 quote-odd p q e =
-    go (eqb p.ended 1) (eqb p.quotes 1) (eqb p.quotes 0 && eqb p.content 0) (ap (λ (s : Step). s.mend) e) (ap (λ (s : Step). s.byte) e)
+    go p.ended (quote_open p.quotes) (is_unquoted p.quotes && is_empty p.content) (ap (λ (s : Step). s.mend) e) (ap (λ (s : Step). s.byte) e)
   where
-    go : (t u v : Bool) → (pick t (spoiled p 34) (pick u (quoted p 2) (pick v (quoted p 1) (spoiled p 34)))).mend ≡ 0
-        → (pick t (spoiled p 34) (pick u (quoted p 2) (pick v (quoted p 1) (spoiled p 34)))).byte ≡ 34 → ⊥
+    go : (t u v : Bool) → (pick t (spoiled p 34) (pick u (quoted p Closed) (pick v (quoted p Open) (spoiled p 34)))).mend ≡ 0
+        → (pick t (spoiled p 34) (pick u (quoted p Closed) (pick v (quoted p Open) (spoiled p 34)))).byte ≡ 34 → ⊥
     go true u v m b = omega arith
     go false true v m b = omega arith
     go false false true m b = omega arith

@@ -16,10 +16,14 @@ use Rattle.site.specs.declared.Site.{Site}
 use Rattle.site.specs.Record.{load_at, row_of}
 use Rattle.sheet.specs.Sheet.{line_of, lines_from, sheet_bytes}
 use Rattle.sheet.proofs.Trip.{bits-two}
-use Rattle.cleaning.specs.Clean.{first_spot, line_spot, unchanged, is_separator, separator_in, next_column, is_reach, is_late, on_content, mend_of}
+use Rattle.cleaning.specs.Clean.{is_empty, is_spaced, first_spot, line_spot, unchanged, is_separator, separator_in, next_column, is_reach, is_late, on_content}
+use Rattle.cleaning.specs.Clean.{mend_of}
 use Rattle.cleaning.specs.Clean.{comma_change}
 use Rattle.cleaning.specs.Clean.{on_separator, on_cr, after_cr, on_field, step_of, byte_out, out_of, clean_from, begins}
 use Rattle.cleaning.specs.Clean.{makes, noted, line_after, changes_from}
+use Rattle.cleaning.specs.declared.Content.{Content}
+use Rattle.cleaning.specs.declared.Quotes.TheVariants.{Unquoted}
+use Rattle.cleaning.specs.declared.Content.TheVariants.{Empty, Filled}
 use Rattle.cleaning.specs.declared.Standing.{Standing}
 use Rattle.cleaning.specs.declared.Step.{Step}
 use Rattle.cleaning.specs.declared.Tidied.{Tidied}
@@ -73,15 +77,15 @@ unnamed (more {p = p} {q = q} {l = l} b n e t) kind line r =
 
 -- ---- digits
 
-abbrev field : ℕ → ℕ → Standing
-field c x = record { column = c; quotes = 0; content = x; ended = 0 }
+abbrev field : ℕ → Content → Standing
+field c x = record { column = c; quotes = Unquoted; content = x; ended = false }
 
 never : (t u : Bool) → (t && (u && false)) ≡ false
 never true true = refl
 never true false = refl
 never false u = refl
 
-digit : (c x d : ℕ) → eqb x 2 ≡ false → d < 10 → step_of 44 (field c x) (48 + d) ≡ plain_step (field c 1) (48 + d)
+digit : (c : ℕ) (x : Content) (d : ℕ) → is_spaced x ≡ false → d < 10 → step_of 44 (field c x) (48 + d) ≡ plain_step (field c Filled) (48 + d)
 unfolding step_of on_field on_content is_late is_reach
 digit c x d h l =
     rw (
@@ -94,54 +98,54 @@ digit c x d h l =
       h,
       ne_eqb (48 + d) 120 (λ e. omega arith),
       ne_eqb (48 + d) 88 (λ e. omega arith),
-      never (eqb c 0) (eqb x 0),
+      never (eqb c 0) (is_empty x),
     )
 
-one-digit : (c x d : ℕ) → eqb x 2 ≡ false → d < 10 → Through (field c x) ((48 + d) ∷ []) (field c 1)
+one-digit : (c : ℕ) (x : Content) (d : ℕ) → is_spaced x ≡ false → d < 10 → Through (field c x) ((48 + d) ∷ []) (field c Filled)
 one-digit c x d h l = more (48 + d) (ne_eqb (48 + d) 0 (λ e. omega arith)) (digit c x d h l) none
 
-digits : (n v c : ℕ) → v ≤ n → Through (field c 0) (decimal v) (field c 1)
+digits : (n v c : ℕ) → v ≤ n → Through (field c Empty) (decimal v) (field c Filled)
 digits zero v c l =
     let e : v ≡ 0 = omega arith in
-    rw (e, decimal-one 0 (omega arith)) (one-digit c 0 0 refl (omega arith))
+    rw (e, decimal-one 0 (omega arith)) (one-digit c Empty 0 refl (omega arith))
 digits (suc n) v c l = go (dec_lt v 10) (λ m. digits n (v / 10) c (omega arith))
   where
-    go : Dec (v < 10) → (10 ≤ v → Through (field c 0) (decimal (v / 10)) (field c 1)) → Through (field c 0) (decimal v) (field c 1)
-    go (yes m) f = rw (decimal-one v m) (one-digit c 0 v refl m)
-    go (no m) f = rw (decimal-more v (omega arith)) (through-both (f (omega arith)) (one-digit c 1 (v % 10) refl (omega arith)))
+    go : Dec (v < 10) → (10 ≤ v → Through (field c Empty) (decimal (v / 10)) (field c Filled)) → Through (field c Empty) (decimal v) (field c Filled)
+    go (yes m) f = rw (decimal-one v m) (one-digit c Empty v refl m)
+    go (no m) f = rw (decimal-more v (omega arith)) (through-both (f (omega arith)) (one-digit c Filled (v % 10) refl (omega arith)))
 
-number : (v c : ℕ) → Through (field c 0) (decimal v) (field c 1)
+number : (v c : ℕ) → Through (field c Empty) (decimal v) (field c Filled)
 number v c = digits v v c (omega arith)
 
 -- ---- lines
 
 -- a comma in the first line, after a cell's number, after its load, after a mark
-comma-head : Through (field 3 1) (44 ∷ []) (field 3 0)
+comma-head : Through (field 3 Filled) (44 ∷ []) (field 3 Empty)
 unfolding step_of on_separator next_column mend_of comma_change
 comma-head = more 44 refl refl none
 
-comma-number : Through (field 2 1) (44 ∷ []) (field 1 0)
+comma-number : Through (field 2 Filled) (44 ∷ []) (field 1 Empty)
 unfolding step_of on_separator next_column mend_of comma_change
 comma-number = more 44 refl refl none
 
-comma-load : Through (field 1 1) (44 ∷ []) (field 0 0)
+comma-load : Through (field 1 Filled) (44 ∷ []) (field 0 Empty)
 unfolding step_of on_separator next_column mend_of comma_change
 comma-load = more 44 refl refl none
 
-comma-mark : Through (field 0 1) (44 ∷ []) (field 0 0)
+comma-mark : Through (field 0 Filled) (44 ∷ []) (field 0 Empty)
 unfolding step_of on_separator next_column mend_of comma_change
 comma-mark = more 44 refl refl none
 
 -- a line's end
-head-end : Through (field 3 1) crlf line_spot
+head-end : Through (field 3 Filled) crlf line_spot
 unfolding step_of on_cr mend_of after_cr
 head-end = more 13 refl refl (more 10 refl refl none)
 
-line-end : Through (field 0 1) crlf line_spot
+line-end : Through (field 0 Filled) crlf line_spot
 unfolding step_of on_cr mend_of after_cr
 line-end = more 13 refl refl (more 10 refl refl none)
 
-words : Through first_spot cell_load (field 3 1)
+words : Through first_spot cell_load (field 3 Filled)
 unfolding step_of on_separator next_column mend_of comma_change on_field on_content is_late is_reach
 words =
     more 99 refl refl
@@ -149,7 +153,7 @@ words =
     (more 108 refl refl
     (more 108 refl refl (more 44 refl refl (more 108 refl refl (more 111 refl refl (more 97 refl refl (more 100 refl refl none))))))))
 
-head-columns : (n k : ℕ) → Through (field 3 1) (columns k n) (field 3 1)
+head-columns : (n k : ℕ) → Through (field 3 Filled) (columns k n) (field 3 Filled)
 unfolding columns column
 head-columns zero k = none
 head-columns (suc n) k = through-both (through-both comma-head (number (cell_number k) 3)) (head-columns n (suc k))
@@ -159,15 +163,15 @@ unfolding header
 head n = through-both words (through-both (head-columns n 0) head-end)
 
 module _ (f : ℕ → ℕ) (two : (b : ℕ) → f b < 2) where
-  mark : (b : ℕ) → Through (field 0 0) ((48 + f b) ∷ []) (field 0 1)
-  mark b = one-digit 0 0 (f b) refl (omega (arith, two b))
+  mark : (b : ℕ) → Through (field 0 Empty) ((48 + f b) ∷ []) (field 0 Filled)
+  mark b = one-digit 0 Empty (f b) refl (omega (arith, two b))
 
-  more-marks : (n b : ℕ) → Through (field 0 1) (marks f b n) (field 0 1)
+  more-marks : (n b : ℕ) → Through (field 0 Filled) (marks f b n) (field 0 Filled)
   unfolding marks
   more-marks zero b = none
   more-marks (suc n) b = through-both comma-mark (through-both (mark b) (more-marks n (suc b)))
 
-  all-marks : (n : ℕ) → 0 < n → Through (field 1 1) (marks f 0 n) (field 0 1)
+  all-marks : (n : ℕ) → 0 < n → Through (field 1 Filled) (marks f 0 n) (field 0 Filled)
   unfolding marks
   all-marks zero h = absurd (omega arith)
   all-marks (suc n) h = through-both comma-load (through-both (mark 0) (more-marks n 1))

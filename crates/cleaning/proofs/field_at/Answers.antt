@@ -10,13 +10,13 @@ pub returns-then-s-lt4 : goal.returns-then-s-lt4
 unfolding field_at
 returns-then-s-lt4 c = let a = c.args in
     let h : length a.s.now < a.i + 4 = omega arith in
-    rw (lt-leb _ _ h) c.no_field.ensures
+    rw (lt-leb _ _ h)
 
 pub returns-then-s-i : goal.returns-then-s-i
 unfolding field_at
 returns-then-s-i c = let a = c.args in
     let h : length a.s.now < a.i + 4 = omega arith in
-    rw (lt-leb _ _ h) c.no_field-then-s-i.ensures
+    rw (lt-leb _ _ h)
 
 pub returns-then-a-eq-QUOTE : goal.returns-then-a-eq-QUOTE
 unfolding field_at

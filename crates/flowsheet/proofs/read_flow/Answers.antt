@@ -1,7 +1,6 @@
 -- `flowsheet::read_flow` meets its contract: five fields and a line feed, each after the other; where one is not there the whole line is not. Assumes nothing.
 use native.Mathlib.Omega.{arith}
 use Prim.Native.Nat.{◌≤◌, ◌<◌}
-use mathlib.Core.Path.{◌∙◌}
 use lib.ListN.{length}
 use Rattle.lines.specs.Match.{nowhere}
 use Rattle.flowsheet.proofs.Fields.{Parts, no_line-law, fit, line_read-law}
@@ -24,7 +23,7 @@ returns-then-end c =
       is-value = c.read_field-value.ensures;
       is-end = c.eat-end.ensures;
     } in
-    c.no_flow.ensures ∙ no_line-law _ _ short parts c.if-end.true
+    no_line-law _ _ short parts c.if-end.true
 
 -- each number fits
 pub overflow_cast-flow : goal.overflow_cast-flow

@@ -1,13 +1,9 @@
 -- `linefaults::fault_of_line` meets its contract: the first line, or a cell's. Assumes nothing.
 use native.Mathlib.Omega.{arith}
-use borrow.Author.Tests.{le-leb, lt-leb}
+use borrow.Author.Tests.{lt-leb}
 use Rattle.linefaults.specs.Fault.{fault_of_line}
 use Rattle.linefaults.proofs.Lines.{head_few}
 use Rattle.linefaults.proofs.fault_of_line.Goals as goal
-
-pub returns-then-line-le1 : goal.returns-then-line-le1
-unfolding fault_of_line
-returns-then-line-le1 c = rw (le-leb _ _ c.if-line-le1.true) c.head_fault.ensures
 
 pub cell_fault-requires : goal.cell_fault-requires
 cell_fault-requires c = (head_few _ _ c.read_head-h.ensures, omega arith)

@@ -5,7 +5,7 @@ use Rattle.linefaults.proofs.head_fault.Goals as goal
 
 pub returns-then-at-eq3 : goal.returns-then-at-eq3
 unfolding head_fault
-returns-then-at-eq3 c = rw (mark-there _ _ c.eat_text-at.ensures c.if-at-eq3.true) c.tell.ensures
+returns-then-at-eq3 c = rw (mark-there _ _ c.eat_text-at.ensures c.if-at-eq3.true)
 
 pub returns : goal.returns
 unfolding head_fault

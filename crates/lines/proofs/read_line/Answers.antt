@@ -14,14 +14,14 @@ returns-then-a c =
     let short : length c.args.s.now < nowhere = omega arith in
     let labelled : let a = c.args in c.eat-a.result ≡ eaten a.s.now a.at (label a.k) = let a = c.args in
     label-eaten a.s.now a.at a.n a.k short _ _ c.eat_number-digits.ensures c.eat-a.ensures in
-    c.no_line.ensures ∙ no_label _ _ _ _ short _ labelled c.if-a.true
+    no_label _ _ _ _ short _ labelled c.if-a.true
 
 pub returns-then-b : goal.returns-then-b
 returns-then-b c =
     let short : length c.args.s.now < nowhere = omega arith in
     let labelled : let a = c.args in c.eat-a.result ≡ eaten a.s.now a.at (label a.k) = let a = c.args in
     label-eaten a.s.now a.at a.n a.k short _ _ c.eat_number-digits.ensures c.eat-a.ensures in
-    c.no_line-then-b.ensures ∙ no_load _ _ _ _ short _ labelled c.if-a.false c.read_number-v.result
+    no_load _ _ _ _ short _ labelled c.if-a.false c.read_number-v.result
     c.read_number-v.ensures c.if-b.true
 
 pub returns-then-end : goal.returns-then-end
@@ -29,8 +29,7 @@ returns-then-end c =
     let short : length c.args.s.now < nowhere = omega arith in
     let labelled : let a = c.args in c.eat-a.result ≡ eaten a.s.now a.at (label a.k) = let a = c.args in
     label-eaten a.s.now a.at a.n a.k short _ _ c.eat_number-digits.ensures c.eat-a.ensures in
-    c.no_line-then-end.ensures
-    ∙ no_end-law _ _ _ _ short _ labelled c.if-a.false c.read_number-v.result c.read_number-v.ensures
+    no_end-law _ _ _ _ short _ labelled c.if-a.false c.read_number-v.result c.read_number-v.ensures
     c.if-b.false
     c.read_marks-m.result c.read_marks-m.ensures c.eat-cr.result c.eat-end.result c.eat-cr.ensures c.eat-end.ensures
     c.if-end.true

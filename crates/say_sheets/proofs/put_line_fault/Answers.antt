@@ -8,10 +8,10 @@ use Rattle.say_sheets.proofs.put_line_fault.Goals as goal
 
 pub put_phrase-requires : goal.put_phrase-requires
 unfolding line_fault_lines
-put_phrase-requires c = let a = c.args in
-    omega (arith, phrase-room 100 line_fault_lines refl (Row a.fault.reason a.line a.fault.place 0 0))
+put_phrase-requires c = let w = c.fault_row-row.result in
+    omega (arith, phrase-room 100 line_fault_lines refl (Row w.0 c.args.line w.1 0 0))
 
 pub returns : goal.returns
 unfolding line_fault_lines
-returns c = let a = c.args in
-    phrase-put 100 line_fault_lines refl (Row a.fault.reason a.line a.fault.place 0 0) c.put_phrase.ensures
+returns c = let w = c.fault_row-row.result in
+    rw c.fault_row-row.ensures at (phrase-put 100 line_fault_lines refl (Row w.0 c.args.line w.1 0 0) c.put_phrase.ensures)
