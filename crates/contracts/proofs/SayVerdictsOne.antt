@@ -14,16 +14,16 @@ use Rattle.sheet.specs.declared.SheetError.{SheetError}
 use Rattle.site.specs.declared.Fault.{Fault}
 use Rattle.site.specs.declared.Site.{Site}
 use Rattle.std.proofs.lemmas.List.Edits.{sets}
-use Rattle.verdicts.specs.Said.{bad_list_line, check_said, fault_said, mend_said, other_plan_line, plan_said, read_said, repeats_line, share_said, sheet_said}
+use Rattle.verdicts.specs.Said.{bad_list_line, check_said, mend_said, other_plan_line, plan_said, read_said, record_said, repeats_line, share_said, sheet_said}
 use Rattle.verdicts.specs.declared.File.{File}
 
 -- say_verdicts::put_fault
-pub say_verdicts_put_fault-one : (out : List ℕ) (at : ℕ) (fault : Fault)
-    → (r : ℕ) × (out' : List ℕ) × (SayVerdictsPutFault out at fault r out')
-    × ((q : ℕ) (out'' : List ℕ) → SayVerdictsPutFault out at fault q out'' → (q ≡ r) × (out'' ≡ out'))
-say_verdicts_put_fault-one out at fault = (
-  at + length (fault_said fault),
-  sets out at (fault_said fault),
+pub say_verdicts_put_fault-one : (out : List ℕ) (at : ℕ) (reply : Result Unit Fault)
+    → (r : ℕ) × (out' : List ℕ) × (SayVerdictsPutFault out at reply r out')
+    × ((q : ℕ) (out'' : List ℕ) → SayVerdictsPutFault out at reply q out'' → (q ≡ r) × (out'' ≡ out'))
+say_verdicts_put_fault-one out at reply = (
+  at + length (record_said reply),
+  sets out at (record_said reply),
   record { answer = refl; out_after = refl },
   λ q out'' says. (says.answer, says.out_after),
 )

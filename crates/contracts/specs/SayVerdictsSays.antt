@@ -12,13 +12,13 @@ use Rattle.sheet.specs.declared.SheetError.{SheetError}
 use Rattle.site.specs.declared.Fault.{Fault}
 use Rattle.site.specs.declared.Site.{Site}
 use Rattle.std.proofs.lemmas.List.Edits.{sets}
-use Rattle.verdicts.specs.Said.{bad_list_line, check_said, fault_said, mend_said, other_plan_line, plan_said, read_said, repeats_line, share_said, sheet_said}
+use Rattle.verdicts.specs.Said.{bad_list_line, check_said, mend_said, other_plan_line, plan_said, read_said, record_said, repeats_line, share_said, sheet_said}
 use Rattle.verdicts.specs.declared.File.{File}
 
 -- say_verdicts::put_fault
-pub record SayVerdictsPutFault (out : List ℕ) (at : ℕ) (fault : Fault) (r : ℕ) (out' : List ℕ) : Type 0 where
-  pub answer : r ≡ at + length (fault_said fault)
-  pub out_after : out' ≡ sets out at (fault_said fault)
+pub record SayVerdictsPutFault (out : List ℕ) (at : ℕ) (reply : Result Unit Fault) (r : ℕ) (out' : List ℕ) : Type 0 where
+  pub answer : r ≡ at + length (record_said reply)
+  pub out_after : out' ≡ sets out at (record_said reply)
 
 -- say_verdicts::put_read
 pub record SayVerdictsPutRead (out : List ℕ) (at : ℕ) (file : File) (reply : Result Unit Refusal) (r : ℕ) (out' : List ℕ) : Type 0 where

@@ -22,7 +22,7 @@ use Rattle.finder.specs.declared.Way.TheVariants.{Searched}
 use Rattle.finder.specs.declared.FindError.{FindError}
 
 -- by the search's answer
-abbrev sought_answer : Result ℕ SearchError → Result Way FindError
+abbrev pub sought_answer : Result ℕ SearchError → Result Way FindError
 sought_answer (Ok n) = Ok (Searched n)
 sought_answer (Err e) = Err (search_refused e)
 
@@ -39,7 +39,7 @@ module _ (s : Site) (limit : ℕ) (t : List ℕ) (ready : GaveUp s t) where
   laid true x = ready.2
   laid false x = refl
 
-  sought-said : sought_answer (search_answer s limit t) ≡ finding_answer limit (found_sought (net_of s) limit)
+  pub sought-said : sought_answer (search_answer s limit t) ≡ finding_answer limit (found_sought (net_of s) limit)
   unfolding search_answer
   sought-said = rw (ready.0, le-ltb (length t) (size s) ready.1) (said limit (too_large (net_of s)) (searched (net_of s) limit))
 

@@ -114,7 +114,7 @@ module _ (s : Site) (limit : ℕ) (r : Renumbered) (is : r ≡ renumber_of s) wh
       subst (λ (y : Renumbered). NamesCells s.cells y.new) (sym is) (names-new s found.fine (renumber_of s).new (renumber_of s).old found.numbers),
     )
 
-    numbered_is : found_numbered (net_of s) limit (numbering 32 (net_of s).clash s.cells) ≡ found_anew r.new (greedy (net_of r.site))
+    pub numbered_is : found_numbered (net_of s) limit (numbering 32 (net_of s).clash s.cells) ≡ found_anew r.new (greedy (net_of r.site))
     unfolding numbering_of
     numbered_is =
         let new = (renumber_of s).new in

@@ -61,7 +61,7 @@ module _ (s : Site) (limit : ℕ) (t : List ℕ) where
   answer-by (Ok u) false (no_room c m) = refl
   answer-by (Err f) short o = refl
 
-  answer-via : find_answer s limit t ≡ via_plan (finding_answer limit net-else) (plan_answer s t)
+  pub answer-via : find_answer s limit t ≡ via_plan (finding_answer limit net-else) (plan_answer s t)
   unfolding find_answer found_of plan_answer
   answer-via = answer-by (fault_of s) (ltb (length t) (size s)) (greedy (net_of s))
 
@@ -77,7 +77,7 @@ module _ (s : Site) (limit : ℕ) (t : List ℕ) where
       ap (λ (x : List ℕ). finding_table s.cells (positions s) net-else ++ x) (sym (past-idle (size s) (drop (size s) t)))
   table-by (Err f) short o = refl
 
-  table-via : find_table s limit t ≡ via_table (finding_leaves s net-else) (plan_table s t) (plan_answer s t)
+  pub table-via : find_table s limit t ≡ via_table (finding_leaves s net-else) (plan_table s t) (plan_answer s t)
   unfolding find_table found_of plan_answer plan_table
   table-via = table-by (fault_of s) (ltb (length t) (size s)) (greedy (net_of s))
 

@@ -1,5 +1,5 @@
 -- A plan file that goes with a site: it is in order, and of the site's size.
-use Rattle.std.specs.Prelude.{ℕ, Bool, ◌&&◌, List, eqb, Option, Some, None}
+use Rattle.std.specs.Prelude.{ℕ, Bool, ◌&&◌, List, eqb, Option, Some, None, Result, Ok, Err}
 use Rattle.laws.specs.Choice.{pick}
 use Rattle.site.specs.declared.Site.{Site}
 use Rattle.records.specs.Reasons.{is_done}
@@ -27,6 +27,6 @@ pair_table file plan table = pick (is_done (read_site file).answer) (plan_table_
 abbrev pub pair_good : (file plan table : List ℕ) → Bool
 pair_good file plan table = is_done (read_site file).answer && goes_with (read_site file).site plan table
 
--- the site that the plan goes with; none where the two are no pair
-abbrev pub pair_site : (file plan table : List ℕ) → Option Site
-pair_site file plan table = pick (pair_good file plan table) (Some (read_site file).site) None
+-- the site of the site file, beside whether the plan goes with it: `Ok` where the two are a pair
+abbrev pub pair_site : (file plan table : List ℕ) → Result Site Site
+pair_site file plan table = pick (pair_good file plan table) (Ok (read_site file).site) (Err (read_site file).site)

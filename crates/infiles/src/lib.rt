@@ -62,11 +62,11 @@ pub fn read_input(rt: &HostRuntime, name: &str, standard: bool, buffer: &mut [u8
 }
 
 // A site file that was refused.
-pub fn refuse(rt: &HostRuntime, text: &mut [u8], input: &[u8], refusal: Refusal)
+pub fn refuse(rt: &HostRuntime, text: &mut [u8], input: &[u8], answer: Result<(), Refusal>)
     requires { 65536 ≤ length text.old }
 {
     reply::named(rt, FIRST_NAME, input, Input::SiteFile);
-    let end = say_verdicts::put_read(text, 0, Kind::SiteFile, Err(refusal));
+    let end = say_verdicts::put_read(text, 0, Kind::SiteFile, answer);
     no(rt, text, end);
 }
 
@@ -76,10 +76,10 @@ pub fn site_of(rt: &HostRuntime, input: &[u8], text: &mut [u8]) -> Option<Site>
     ensures { result ≡ site_given input.now }
 {
     let read = sitefile::read_site(input);
-    if let Err(refusal) = read.answer {
-        refuse(rt, text, input, refusal);
+    let Ok(()) = read.answer else {
+        refuse(rt, text, input, read.answer);
         return None;
-    }
+    };
     Some(read.site)
 }
 
@@ -134,22 +134,27 @@ pub fn read_plan_of(
     false
 }
 
-// The site of a site file, where the plan file is one that goes with it; the plan goes into the table. Where it does not, or one of the two is refused, the
-// text is said.
+// The site of a site file: `Ok` where the plan file is one that goes with it, and the plan goes into the table. Where it does not, or one of the two is
+// refused, the text is said.
 pub fn read_pair(
     rt: &HostRuntime,
     input: &[u8],
     second: &[u8],
     table: &mut [u8],
     text: &mut [u8],
-) -> Option<Site>
+) -> Result<Site, Site>
     requires { 65536 ≤ length text.old }
     ensures site { result ≡ pair_site input.now second.now table.old }
     ensures table { table.new ≡ pair_table input.now second.now table.old }
 {
-    let site = site_of(rt, input, text)?;
+    let read = sitefile::read_site(input);
+    let site = read.site;
+    let Ok(()) = read.answer else {
+        refuse(rt, text, input, read.answer);
+        return Err(site);
+    };
     if read_plan_of(rt, site, SECOND_NAME, second, table, text) {
-        return Some(site);
+        return Ok(site);
     }
-    None
+    Err(site)
 }

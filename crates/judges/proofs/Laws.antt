@@ -50,6 +50,8 @@ accepted_positions s fine = few-positions (fine-sized s fine)
 pub accepted_open : (s : Site) → fault_of s ≡ Ok tt → open_in s.blocked (s.slots * s.channels) ≤ 2048
 accepted_open s fine = omega (arith, count_most (λ k. not (blocked_at s.blocked k)) (s.slots * s.channels), accepted_positions s fine)
 
+pub ruleset accepted = (accepted_cells, accepted_positions, accepted_open)
+
 -- ---- what the code asks: where the cells that the searches over the rows name lie
 
 pub over_room : (loads rows : List ℕ) (who room cells i d : ℕ) → i ≡ first (λ k. over_in loads (get_or rows k 0) who room k) 0 cells → i < cells

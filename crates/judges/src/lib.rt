@@ -41,7 +41,7 @@ pub enum LeastVerdict {
 }
 
 // The load test: the lowest cell with load above 0 whose demand is above the number of open positions, and by how much.
-#[tactic(auto, using(crate::proofs::Laws::accepted_cells, crate::proofs::Laws::accepted_positions, crate::proofs::Laws::accepted_open), unfolding(crate::specs::Judges::load_answer))]
+#[tactic(auto, using(crate::proofs::Laws::accepted), unfolding(crate::specs::Judges::load_answer))]
 pub fn load_test(site: Site) -> Result<LoadVerdict, Fault>
     ensures { result ≡ load_answer site }
 {

@@ -53,7 +53,7 @@ pub fn run_carry(
 )
     requires { 65536 ≤ length text.old }
 {
-    let Some(site) = read_pair(rt, input, second, from, text) else {
+    let Ok(site) = read_pair(rt, input, second, from, text) else {
         return;
     };
     let carried = numbering::carry(site, from, table);

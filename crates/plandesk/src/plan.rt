@@ -37,7 +37,7 @@ pub fn run_plan(rt: &HostRuntime, input: &[u8], table: &mut [u8], out: &mut [u8]
 pub fn run_check(rt: &HostRuntime, input: &[u8], second: &[u8], table: &mut [u8], text: &mut [u8])
     requires { 65536 ≤ length text.old }
 {
-    let Some(site) = read_pair(rt, input, second, table, text) else {
+    let Ok(site) = read_pair(rt, input, second, table, text) else {
         return;
     };
     let verdict = checker::check(site, table);
@@ -88,7 +88,7 @@ pub fn run_mend(
 )
     requires { 65536 ≤ length text.old }
 {
-    let Some(site) = read_pair(rt, input, second, old, text) else {
+    let Ok(site) = read_pair(rt, input, second, old, text) else {
         return;
     };
     planfile::read_plan(second, table);
@@ -170,7 +170,7 @@ pub fn run_load(
 )
     requires { 65536 ≤ length text.old }
 {
-    let Some(site) = read_pair(rt, input, second, read, text) else {
+    let Ok(site) = read_pair(rt, input, second, read, text) else {
         return;
     };
     let cell = number(rt, NUMBERS);

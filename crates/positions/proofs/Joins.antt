@@ -43,7 +43,7 @@ neither-not true b = not-not b
 neither-not false b = refl
 
 -- two words joined are 0 where the first is, and the second has no bit
-join-none : (x y : ℕ) → y < 2 ^ 64 → eqb (bit_or x y) 0 ≡ (eqb x 0 && not (any (bit_at y) 64))
+pub join-none : (x y : ℕ) → y < 2 ^ 64 → eqb (bit_or x y) 0 ≡ (eqb x 0 && not (any (bit_at y) 64))
 join-none x y h =
     let none : eqb y 0 ≡ not (any (bit_at y) 64) = ap (λ (n : ℕ). eqb n 0) (word-bits y 64 h) ∙ word-empty (bit_at y) 64 in
     sym (not-not (eqb (bit_or x y) 0)) ∙ ap not (either-some x y) ∙ neither-not (eqb x 0) (eqb y 0) ∙ ap (λ t. eqb x 0 && t) none

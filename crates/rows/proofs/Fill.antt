@@ -39,10 +39,10 @@ module _ (p l : ℕ) (r : List ℕ) (h : p < length r) (g : 0 < l) where
       rw (add-zero, set-get_or, all) (unmet-skip unblocked p l r h e)
 
   module _ {k : ℕ} (is : k ≡ bit (eqb (get_or r p 0) 0)) where
-    fill-turn : filling unblocked p l r ≡ filling unblocked (p + 1) (l - k) (set r p (get_or r p 0 + k))
+    pub fill-turn : filling unblocked p l r ≡ filling unblocked (p + 1) (l - k) (set r p (get_or r p 0 + k))
     fill-turn = rw is (fill-case (eqb (get_or r p 0) 0) refl)
 
-    unmet-turn : unmet unblocked p l (drop p r) ≡ unmet unblocked (p + 1) (l - k) (drop (p + 1) (set r p (get_or r p 0 + k)))
+    pub unmet-turn : unmet unblocked p l (drop p r) ≡ unmet unblocked (p + 1) (l - k) (drop (p + 1) (set r p (get_or r p 0 + k)))
     unmet-turn = rw is (unmet-case (eqb (get_or r p 0) 0) refl)
 
 -- ---- the row that is filled

@@ -320,7 +320,7 @@ fn put_refusal(out: &mut [u8], at: usize, reply: Result<Way, FindError>) -> usiz
 {
     match reply {
         Err(FindError::TableShort) => say_refusals::put_refused(out, at, 4, None),
-        Err(FindError::Record(fault)) => say_verdicts::put_fault(out, at, fault),
+        Err(FindError::Record(fault)) => say_verdicts::put_fault(out, at, Err(fault)),
         _ => at,
     }
 }
@@ -343,7 +343,7 @@ pub fn put_find(out: &mut [u8], at: usize, site: Site, reply: Result<Way, FindEr
     ensures { Put out.old at (find_said site reply) 6000 out.new result }
 {
     if let Err(fault) = site.accepted() {
-        return say_verdicts::put_fault(out, at, fault);
+        return say_verdicts::put_fault(out, at, Err(fault));
     }
     put_found(out, at, site, reply)
 }

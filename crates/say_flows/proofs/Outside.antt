@@ -69,7 +69,7 @@ module _ (s : Site) (fine : fault_of s ≡ Ok tt) (rows : List ℕ) (relation : 
       a-is : a ≡ split_of (net_of s) everyone i
       a-is = p ∙ split-is (net_of s) rows relation (clash-sym s.rule s.reach) 4294967295 everyone (all_in s fine) i h
 
-      a-below : a < i
+      pub a-below : a < i
       a-below = omega (arith, a-is, named.ab, named.bi)
 
       -- all cells are below 32

@@ -170,7 +170,7 @@ fn put_refusal(out: &mut [u8], at: usize, site: Site, refused: AdmitError) -> us
         AdmitError::BadCell(flow) => put_refused(out, at, 2, Some(Place::Flow(flow))),
         AdmitError::BadFlow(flow) => put_refused(out, at, 15, Some(Place::Flow(flow))),
         AdmitError::BigShare(flow) => put_refused(out, at, 16, Some(Place::Flow(flow))),
-        AdmitError::Record(f) => say_verdicts::put_fault(out, at, f),
+        AdmitError::Record(f) => say_verdicts::put_fault(out, at, Err(f)),
     }
 }
 

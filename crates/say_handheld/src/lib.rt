@@ -46,6 +46,6 @@ pub fn put_change(
         Err(ChangeError::NoRoom(lacking, short)) => {
             put(out, at, Phrase::Row(NO_ROOM, lacking, short, 0, 0))
         }
-        Err(ChangeError::Record(f)) => say_verdicts::put_fault(out, at, f),
+        Err(ChangeError::Record(f)) => say_verdicts::put_fault(out, at, Err(f)),
     }
 }

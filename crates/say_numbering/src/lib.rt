@@ -62,7 +62,7 @@ pub fn put_renumber(
     match reply {
         Ok(()) => put_numbers(out, at, new),
         Err(RenumberError::NoNumbering) => say_refusals::put_refused(out, at, 23, None),
-        Err(RenumberError::Record(f)) => say_verdicts::put_fault(out, at, f),
+        Err(RenumberError::Record(f)) => say_verdicts::put_fault(out, at, Err(f)),
     }
 }
 
@@ -75,7 +75,7 @@ pub fn put_carry(out: &mut [u8], at: usize, reply: Result<(), CarryError>) -> us
         Ok(()) => at,
         Err(CarryError::NoNumbering) => say_refusals::put_refused(out, at, 23, None),
         Err(CarryError::TableShort) => say_refusals::put_refused(out, at, 4, None),
-        Err(CarryError::Record(f)) => say_verdicts::put_fault(out, at, f),
+        Err(CarryError::Record(f)) => say_verdicts::put_fault(out, at, Err(f)),
     }
 }
 

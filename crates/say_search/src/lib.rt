@@ -67,7 +67,7 @@ pub fn put_search(out: &mut [u8], at: usize, reply: Result<u64, SearchError>) ->
         Err(SearchError::Limit(tries)) => put_tries(out, at, STOPPED, tries),
         Err(SearchError::TooMany) => say_refusals::put_refused(out, at, 25, None),
         Err(SearchError::TableShort) => say_refusals::put_refused(out, at, 4, None),
-        Err(SearchError::Record(f)) => say_verdicts::put_fault(out, at, f),
+        Err(SearchError::Record(f)) => say_verdicts::put_fault(out, at, Err(f)),
     }
 }
 

@@ -6,9 +6,9 @@ ghost use Rattle.std.specs.Prelude.{◌≡◌, ◌+◌, ◌≤◌, length};
 ghost use Rattle.phrases.specs.Put.{Put};
 ghost use Rattle.say_refusals.specs.Sentences.{sentence};
 ghost use Rattle.verdicts.specs.Lines.{verdict_lines};
-ghost use Rattle.verdicts.specs.Said.{fault_sentence, byte_of, read_sentence, sheet_sentence, load_named, blocked_sentence};
+ghost use Rattle.verdicts.specs.Said.{fault_sentence, record_sentence, byte_of, read_sentence, sheet_sentence, load_named, blocked_sentence};
 ghost use Rattle.verdicts.specs.Said.{check_sentence, plan_sentence, bad_flow_row, share_sentence, mend_sentence};
-ghost use Rattle.verdicts.specs.Said.{fault_said, read_said, sheet_said, check_said, plan_said, share_said, mend_said, other_plan_line};
+ghost use Rattle.verdicts.specs.Said.{record_said, read_said, sheet_said, check_said, plan_said, share_said, mend_said, other_plan_line};
 ghost use Rattle.verdicts.specs.Said.{bad_list_line, repeats_line};
 
 use checker::CheckError;
@@ -94,6 +94,16 @@ fn fault_sentence(fault: Fault) -> Sentence
         Fault::Reach(cell) => Sentence::Refusal(3, Some(Place::Cell(cell))),
         Fault::Blocked(position) => Sentence::Refusal(20, Some(Place::Position(position))),
     }
+}
+
+// What is wrong with a record that was asked; nothing to say where nothing is.
+fn record_sentence(reply: Result<(), Fault>) -> Sentence
+    ensures { result ≡ record_sentence reply }
+{
+    let Err(fault) = reply else {
+        return Sentence::Plain(Phrase::Silent);
+    };
+    fault_sentence(fault)
 }
 
 // A byte of a file.
@@ -261,12 +271,12 @@ fn mend_sentence(reply: Result<usize, MendError>) -> Sentence
     }
 }
 
-// What is wrong with a record. No twin of `put_part` in `say_edits` and `put_plan_fields` in `say_csv`: each puts its own type from its own table.
-pub fn put_fault(out: &mut [u8], at: usize, fault: Fault) -> usize
+// What is wrong with a record, or nothing. No twin of `put_sheet_read`: each chooses its sentence from another type of answer.
+pub fn put_fault(out: &mut [u8], at: usize, reply: Result<(), Fault>) -> usize
     requires { at + 2000 ≤ length out.old }
-    ensures { Put out.old at (fault_said fault) 2000 out.new result }
+    ensures { Put out.old at (record_said reply) 2000 out.new result }
 {
-    put(out, at, fault_sentence(fault))
+    put(out, at, record_sentence(reply))
 }
 
 // A file that was read, or its refusal. No twin of `put_check` and `put_plan`: each chooses its sentence from another type of answer.

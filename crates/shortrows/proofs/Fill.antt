@@ -34,12 +34,12 @@ module _ (free p : ℕ) (r : List ℕ) (h : p < length r) (vacant : Vacant free 
   idle-here : bit_at free p ≡ true → get_or r p 0 ≡ 0
   idle-here e = vacant p (le_refl p) h e
 
-  vacant-more : Vacant free (p + 1) (set r p (get_or r p 0 + k))
+  pub vacant-more : Vacant free (p + 1) (set r p (get_or r p 0 + k))
   vacant-more q l m e =
       get_or-set_other r p q (get_or r p 0 + k) 0 (λ o. omega arith)
       ∙ vacant q (omega arith) (omega (arith, m, length-set r p (get_or r p 0 + k))) e
 
-  took_more : (l : List ℕ) → r ≡ sets l 0 (list_of (took_at free l) p) → set r p (get_or r p 0 + k) ≡ sets l 0 (list_of (took_at free l) (p + 1))
+  pub took_more : (l : List ℕ) → r ≡ sets l 0 (list_of (took_at free l) p) → set r p (get_or r p 0 + k) ≡ sets l 0 (list_of (took_at free l) (p + 1))
   took_more l e =
       let same : get_or r p 0 ≡ get_or l p 0 = ap (λ (x : List ℕ). get_or x p 0) e ∙ sets-beyond (took_at free l) p l p (le_refl p) in
       sets_more (took_at free l) p (get_or r p 0 + k) r l
@@ -67,10 +67,10 @@ module _ (free p : ℕ) (r : List ℕ) (h : p < length r) (vacant : Vacant free 
         let all : l - 0 ≡ l = omega arith in
         rw (add-zero, set-get_or, all) (unmet-skip (bit_at free) p l r h (idle-false (bit_at free p) (get_or r p 0) e))
 
-    fill-turn : filling (bit_at free) p l r ≡ filling (bit_at free) (p + 1) (l - k) (set r p (get_or r p 0 + k))
+    pub fill-turn : filling (bit_at free) p l r ≡ filling (bit_at free) (p + 1) (l - k) (set r p (get_or r p 0 + k))
     fill-turn = rw is (fill-case (bit_at free p) refl)
 
-    unmet-turn : unmet (bit_at free) p l (drop p r) ≡ unmet (bit_at free) (p + 1) (l - k) (drop (p + 1) (set r p (get_or r p 0 + k)))
+    pub unmet-turn : unmet (bit_at free) p l (drop p r) ≡ unmet (bit_at free) (p + 1) (l - k) (drop (p + 1) (set r p (get_or r p 0 + k)))
     unmet-turn = rw is (unmet-case (bit_at free p) refl)
 
 -- ---- the row that is filled

@@ -140,7 +140,7 @@ pub fn run_check_all(
 )
     requires { 65536 ≤ length text.old }
 {
-    let Some(site) = read_pair(rt, input, second, table, text) else {
+    let Ok(site) = read_pair(rt, input, second, table, text) else {
         return;
     };
     let verdict = checker::check(site, table);
@@ -179,7 +179,7 @@ pub fn run_diff(
 )
     requires { 65536 ≤ length text.old }
 {
-    let Some(site) = read_pair(rt, input, second, old, text) else {
+    let Ok(site) = read_pair(rt, input, second, old, text) else {
         return;
     };
     if !read_plan_of(rt, site, THIRD_NAME, third, new, text) {

@@ -153,7 +153,7 @@ fn show_given(
 )
     requires { 65536 ≤ length text.old }
 {
-    let Some(site) = read_pair(rt, input, second, table, text) else {
+    let Ok(site) = read_pair(rt, input, second, table, text) else {
         return;
     };
     if !put_shown(rt, form, site, table, text) {

@@ -1,6 +1,6 @@
 // The command of the desk that edits a site. Each edit is two arguments, its name and its word. They are made one after the other; the first that is refused
 // ends it, and nothing is written.
-ghost use Rattle.std.specs.Prelude.{◌≤◌, length};
+ghost use Rattle.std.specs.Prelude.{◌≡◌, ◌≤◌, ◌<◌, ◌+◌, length};
 
 use arguments::NUMBERS;
 use blocklist::BadList;
@@ -116,7 +116,7 @@ fn made(rt: &HostRuntime, edited: Edited, name: usize, word: usize, text: &mut [
 {
     if let Err(fault) = edited.answer {
         say_edit(rt, name, word, text);
-        let end = say_verdicts::put_fault(text, 0, fault);
+        let end = say_verdicts::put_fault(text, 0, Err(fault));
         no(rt, text, end);
         return None;
     }
@@ -124,7 +124,10 @@ fn made(rt: &HostRuntime, edited: Edited, name: usize, word: usize, text: &mut [
 }
 
 // A place counted from 1. No list has one past its 65,536 bytes.
-pub fn from_one(at: usize) -> usize {
+pub fn from_one(at: usize) -> usize
+    ensures counted { at ≤ 65536 → result ≡ at + 1 }
+    ensures past { 65536 < at → result ≡ at }
+{
     if 65536 < at {
         return at;
     }

@@ -93,6 +93,8 @@ module _ (s : List ℕ) where
     pub ruled_oversized : size_ok (le16 s 4) (le16 s 6) (le16 s 8) ≡ false → first_reason (ruled_reasons s) ≡ Err (refusal 1 0)
     ruled_oversized t = ruled-answer s opens false _ t refl
 
+pub ruleset ruled = (ruled_refused, ruled_long, ruled_sized, ruled_other, ruled_oversized)
+
 -- ---- a good head
 
 pub record SiteHeadGood (s : List ℕ) : Type 0 where

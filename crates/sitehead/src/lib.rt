@@ -20,7 +20,7 @@ const RULED_LENGTH: u16 = 10;
 const AFTER_RULED: usize = 2 + RULED_LENGTH as usize;
 
 // A head of kind 5: its record at the start of the file, I, T and F in range, and rule 2.
-#[tactic(auto, using(crate::proofs::Head::ruled_refused, crate::proofs::Head::ruled_long, crate::proofs::Head::ruled_sized, crate::proofs::Head::ruled_other, crate::proofs::Head::ruled_oversized))]
+#[tactic(auto, using(crate::proofs::Head::ruled))]
 fn ruled_head(s: &[u8]) -> Result<(), Refusal>
     ensures { result ≡ first_reason (ruled_reasons s.now) }
 {

@@ -49,6 +49,11 @@ fault_sentence (Load cell) = Refusal 2 (Some (Cell cell))
 fault_sentence (Reach cell) = Refusal 3 (Some (Cell cell))
 fault_sentence (Blocked position) = Refusal 20 (Some (Position position))
 
+-- a record that was asked: nothing to say; or what is wrong with it
+abbrev pub record_sentence : Result Unit Fault → Sentence
+record_sentence (Ok u) = Plain Silent
+record_sentence (Err f) = fault_sentence f
+
 -- a byte of the site file, or of the plan file
 abbrev pub byte_of : File → ℕ → Place
 byte_of SiteFile offset = Byte offset
@@ -141,6 +146,9 @@ mend_sentence (Err (mend.Record f)) = fault_sentence f
 
 abbrev pub fault_said : Fault → List ℕ
 fault_said f = sentence verdict_lines (fault_sentence f)
+
+abbrev pub record_said : Result Unit Fault → List ℕ
+record_said reply = sentence verdict_lines (record_sentence reply)
 
 abbrev pub read_said : File → Result Unit records.Refusal → List ℕ
 read_said file reply = sentence verdict_lines (read_sentence file reply)

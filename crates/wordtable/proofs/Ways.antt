@@ -62,10 +62,10 @@ module _ (s : Site) (t w : List ℕ) where
 -- ---- by the answer
 
 -- done: the record has no fault, and both lent parts are long enough
-record Goes (s : Site) (t w : List ℕ) : Type 0 where
-  fine : fault_of s ≡ Ok tt
-  table : size s ≤ length t
-  words : positions s ≤ length w
+pub record Goes (s : Site) (t w : List ℕ) : Type 0 where
+  pub fine : fault_of s ≡ Ok tt
+  pub table : size s ≤ length t
+  pub words : positions s ≤ length w
 
 neither : (a b : Bool) → (a || b) ≡ false → (a ≡ false) × (b ≡ false)
 neither true b e = absurd (true≢false e)
@@ -94,7 +94,7 @@ written cells n t w h =
 
 module _ (s : Site) (t w : List ℕ) where
   module _ (done : Ok tt ≡ form_answer s t w) where
-    goes : Goes s t w
+    pub goes : Goes s t w
     unfolding form_answer
     goes =
         let h = goes_by (fault_of s) (lent_short s t w) (sym done) in
